@@ -1,0 +1,3 @@
+-- Laws of the geometry.
+pub mod Made
+pub mod Example

@@ -1,0 +1,3 @@
+-- The geometry of a store.
+pub mod Limits
+pub mod Making

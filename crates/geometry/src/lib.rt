@@ -1,0 +1,89 @@
+// The six numbers that a store is made from, and their limits.
+ghost use mathlib.Core.Path.{_≡_};
+ghost use Rattle.geometry.specs.Limits.{within, makingOf};
+ghost use Rattle.geometry.specs.Making.{replyOf, making};
+
+pub struct Geometry {
+    pub arenas: usize,
+    // Blocks in each arena.
+    pub per: usize,
+    pub pages: usize,
+    // Records (snapshots) in the store at one time.
+    pub records: usize,
+    // Accepted writes after which the arena counter goes up.
+    pub turn: usize,
+    pub words: usize,
+}
+
+// A geometry, or the number of the refusal.
+pub enum Making {
+    Made(Geometry),
+    Refused(u8),
+}
+
+// Whether x lies from lo to hi.
+fn inside(lo: usize, x: usize, hi: usize) -> bool
+    ensures { λ r. ⌜ r ≡ within lo x hi ⌝ }
+{
+    if lo <= x { x <= hi } else { false }
+}
+
+impl Geometry {
+    pub const MAX_ARENAS: usize = 16;
+
+    pub const MAX_PER: usize = 1024;
+
+    pub const MAX_BLOCKS: usize = 2048;
+
+    pub const MAX_PAGES: usize = 256;
+
+    pub const MAX_RECORDS: usize = 64;
+
+    pub const MAX_TURN: usize = 4096;
+
+    pub const MAX_WORDS: usize = 8192;
+
+    // The geometry of six numbers, or refusal 2 where one lies outside its limits.
+    pub fn new(
+        arenas: usize,
+        per: usize,
+        pages: usize,
+        records: usize,
+        turn: usize,
+        words: usize,
+    ) -> Making
+        ensures is { λ r. ⌜ r ≡ makingOf arenas per pages records turn words ⌝ }
+        ensures reply { λ r. ⌜ replyOf r ≡ making arenas per pages records turn words ⌝ }
+    {
+        if !inside(1, arenas, Geometry::MAX_ARENAS) {
+            return Making::Refused(2);
+        }
+        if !inside(1, per, Geometry::MAX_PER) {
+            return Making::Refused(2);
+        }
+        let blocks = arenas * per;
+        if Geometry::MAX_BLOCKS < blocks {
+            return Making::Refused(2);
+        }
+        if !inside(1, pages, Geometry::MAX_PAGES) {
+            return Making::Refused(2);
+        }
+        if !inside(1, records, Geometry::MAX_RECORDS) {
+            return Making::Refused(2);
+        }
+        if !inside(1, turn, Geometry::MAX_TURN) {
+            return Making::Refused(2);
+        }
+        if !inside(2 * blocks + 2, words, Geometry::MAX_WORDS) {
+            return Making::Refused(2);
+        }
+        Making::Made(Geometry {
+            arenas,
+            per,
+            pages,
+            records,
+            turn,
+            words,
+        })
+    }
+}
