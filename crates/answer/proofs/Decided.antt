@@ -22,7 +22,8 @@ above : (m n : ℕ) → place n ≤ m → (cs : List Condition) → Ordered m cs
 above m n h [] r = tt
 above m n h (c ∷ cs) r = (λ k. absurd (let z : ⊥ = omega (arith, r .0) in z), above (place (c .0)) n (omega (arith, r .0)) cs (r .1))
 
-none-in : (m n : ℕ) → place n ≤ m → (cs : List Condition) → Ordered m cs → Holds n cs → ⊥
+-- behind the place of n no condition of number n is true
+pub none-in : (m n : ℕ) → place n ≤ m → (cs : List Condition) → Ordered m cs → Holds n cs → ⊥
 none-in m n h [] r t = t
 none-in m n h (c ∷ cs) r t = cases t (λ w. omega (arith, w .0, r .0)) (λ w. none-in (place (c .0)) n (omega (arith, r .0)) cs (r .1) w)
 

@@ -1,0 +1,8 @@
+-- Laws of the choice of a block.
+pub mod Ranges
+pub mod Turns
+pub mod Round
+pub mod Left
+pub mod Stretch
+pub mod Finds
+pub mod Named

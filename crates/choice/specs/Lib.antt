@@ -1,0 +1,5 @@
+-- The choice of a block.
+pub mod Search
+pub mod Turn
+pub mod Rows
+pub mod First

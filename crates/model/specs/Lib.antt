@@ -1,0 +1,23 @@
+-- The store's meaning, in document 01's order.
+pub mod Table
+pub mod Lists
+pub mod View
+pub mod Deadlists
+pub mod Sound
+pub mod SoundMeans
+pub mod Effects
+pub mod Actions
+pub mod Held
+pub mod DeleteOrder
+pub mod Check
+pub mod State
+pub mod Calls
+pub mod Layout
+pub mod Memory
+pub mod SoundStore
+pub mod Book
+pub mod History
+pub mod HistoryFacts
+pub mod Simulation
+pub mod Model
+pub mod Demand
