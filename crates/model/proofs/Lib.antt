@@ -53,3 +53,5 @@ pub mod Demands
 pub mod Replies
 pub mod PaperExample
 pub mod CompressCounts
+pub mod RefusalMeaning
+pub mod FreeListFacts

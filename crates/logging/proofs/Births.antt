@@ -1,0 +1,37 @@
+-- What the number of a block's birth in the tables says: the block is held, or it may be given.
+use mathlib.Core.Path.{_≡_, sym, ap, _∙_}
+use mathlib.Core.Bool.{true, false, not}
+use mathlib.Core.List.{List}
+use Prim.Native.Nat.{ℕ, _+_, _*_, _<_}
+use native.Mathlib.Nat.{add-zero}
+use lib.ListN.{getD}
+use borrow.Author.Tests.{eq-eqb, ne-eqb, lt-ltb}
+use Rattle.geometry.specs.declared.Geometry.{Geometry}
+use Rattle.geometry.specs.Limits.{blocks}
+use Rattle.model.specs.Held.{held, available}
+use Rattle.model.specs.Layout.{field, viewOf, stateOf}
+
+module _ (g : Geometry) (t : List ℕ) (b : ℕ) (h : b < blocks g) where
+  -- the number of b's birth, at its address as the code spells it
+  abbrev birth : ℕ
+  birth = getD t (32 + 272 * g .records + 8 * b) 0
+
+  birth-is : stateOf g t .view .birth b ≡ birth
+  unfolding stateOf viewOf field
+  birth-is = rw (lt-ltb b (blocks g) h, add-zero (32 + 272 * g .records + 8 * b))
+
+  pub not-held : birth ≡ 0 → held (stateOf g t .view) b ≡ false
+  unfolding held
+  not-held e = ap not (eq-eqb (stateOf g t .view .birth b) 0 (birth-is ∙ e))
+
+  pub is-held : (birth ≡ 0 → ⊥) → held (stateOf g t .view) b ≡ true
+  unfolding held
+  is-held n = ap not (ne-eqb (stateOf g t .view .birth b) 0 (λ e. n (sym birth-is ∙ e)))
+
+  pub is-free : birth ≡ 0 → available (stateOf g t .view) b ≡ true
+  unfolding available
+  is-free e = eq-eqb (stateOf g t .view .birth b) 0 (birth-is ∙ e)
+
+  pub not-free : (birth ≡ 0 → ⊥) → available (stateOf g t .view) b ≡ false
+  unfolding available
+  not-free n = ne-eqb (stateOf g t .view .birth b) 0 (λ e. n (sym birth-is ∙ e))

@@ -1,0 +1,5 @@
+-- Laws that the proofs of the calls on the log and the free list use.
+pub mod Births
+pub mod Marking
+pub mod Listing
+pub mod Answers

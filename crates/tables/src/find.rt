@@ -1,0 +1,91 @@
+// Finding slots of the record table. A link is slot + 1, 0 for none.
+ghost use mathlib.Core.Path.{_≡_};
+ghost use Prim.Native.Nat.{_+_, _*_, _<_, _≤_};
+ghost use mathlib.Core.Bool.{_&&_};
+ghost use lib.Dec.{eqb, ltb};
+ghost use lib.ListN.{getD};
+ghost use Rattle.model.specs.Layout.{recordCell, viewOf};
+ghost use Rattle.model.specs.Actions.{slotOf, vacant, follower, forked};
+ghost use Rattle.tables.specs.Ready.{Roomy};
+use geometry::Geometry;
+
+// A number of the tables as an index.
+pub fn wide(x: u32) -> usize
+    ensures { λ r. ⌜ r ≡ x ⌝ }
+{
+    x as usize
+}
+
+// Whether a record is in slot s and number f of its row is v.
+fn row_has(t: &[u32], g: Geometry, s: usize, f: usize, v: usize) -> bool
+    requires { ⌜ Roomy g (now t) × (s < g .records) × (f < 272) ⌝ }
+    ensures { λ r. ⌜ r ≡ (ltb 0 (getD (now (t .entry)) (32 + 272 * s) 0) && eqb (getD (now (t .entry)) (recordCell s f) 0) v) ⌝ }
+{
+    if t[32 + 272 * s] == 0 {
+        return false;
+    }
+    wide(t[32 + 272 * s + f]) == v
+}
+
+// The slot of the record of number n.
+pub fn slot_of(t: &[u32], g: Geometry, n: u32) -> usize
+    requires { ⌜ Roomy g (now t) ⌝ }
+    ensures is { λ r. ⌜ r ≡ slotOf (viewOf g (now (t .entry))) n ⌝ }
+    ensures range { λ r. ⌜ r ≤ g .records ⌝ }
+{
+    let mut s: usize = 0;
+    while s < g.records {
+        if row_has(t, g, s, 0, wide(n)) {
+            return s + 1;
+        }
+        s += 1;
+    }
+    0
+}
+
+// The first empty slot.
+pub fn vacant_slot(t: &[u32], g: Geometry) -> usize
+    requires { ⌜ Roomy g (now t) ⌝ }
+    ensures is { λ r. ⌜ r ≡ vacant (viewOf g (now (t .entry))) ⌝ }
+    ensures range { λ r. ⌜ r ≤ g .records ⌝ }
+{
+    let mut s: usize = 0;
+    while s < g.records {
+        if t[32 + 272 * s] == 0 {
+            return s + 1;
+        }
+        s += 1;
+    }
+    0
+}
+
+// The record that follows the one in slot p in its line.
+pub fn follower_of(t: &[u32], g: Geometry, p: usize) -> usize
+    requires { ⌜ Roomy g (now t) × (p < 64) ⌝ }
+    ensures is { λ r. ⌜ r ≡ follower (viewOf g (now (t .entry))) p ⌝ }
+    ensures range { λ r. ⌜ r ≤ g .records ⌝ }
+{
+    let mut s: usize = 0;
+    while s < g.records {
+        if row_has(t, g, s, 2, p + 1) {
+            return s + 1;
+        }
+        s += 1;
+    }
+    0
+}
+
+// A record of a fork on the one in slot q.
+pub fn forked_at(t: &[u32], g: Geometry, q: usize) -> usize
+    requires { ⌜ Roomy g (now t) × (q < 64) ⌝ }
+    ensures { λ r. ⌜ r ≡ forked (viewOf g (now (t .entry))) q ⌝ }
+{
+    let mut s: usize = 0;
+    while s < g.records {
+        if row_has(t, g, s, 3, q + 1) {
+            return s + 1;
+        }
+        s += 1;
+    }
+    0
+}
