@@ -1,0 +1,132 @@
+-- The verdict on a deletion: what the code's tests say of it, and what it says of the reply.
+use mathlib.Core.Path.{_≡_, refl, sym, ap, ap₂, _∙_, subst}
+use mathlib.Core.Bool.{Bool, true, false, cond}
+use mathlib.Core.List.{List}
+use Prim.Native.Nat.{ℕ, zero, suc, pred, _-_, _≤_, _<_}
+use native.Mathlib.Omega.{arith}
+use lib.Dec.{eqb, ltb}
+use lib.ListN.{length, getD}
+use borrow.Author.Tests.{eq-eqb, ne-eqb, lt-ltb, le-ltb}
+use Rattle.answer.specs.Reply.{accepted, refused}
+use Rattle.geometry.specs.declared.Geometry.{Geometry}
+use Rattle.model.specs.Actions.{slotOf, follower, forked}
+use Rattle.model.specs.Held.{deleted}
+use Rattle.model.specs.State.{State}
+use Rattle.model.specs.Calls.{slot, short, result, written}
+use Rattle.model.specs.Layout.{viewOf, stateOf}
+use Rattle.model.specs.declared.Call.the-variants.{Delete}
+use Rattle.model.proofs.Fine.{Fine, named-slot}
+use Rattle.tables.specs.Ready.{Ready}
+use Rattle.tables.specs.Outcome.{replied}
+use Rattle.tables.proofs.Fields
+use Rattle.deleting.specs.Verdict.{verdictOf}
+use Rattle.deleting.specs.declared.delete.Verdict.{Verdict}
+use Rattle.deleting.specs.declared.delete.Verdict.the-variants.{Refused, Accept}
+use Rattle.deleting.proofs.Logging.{map-length}
+
+pub ready-fine : {g : Geometry} {t : List ℕ} → Ready g t → Fine g (stateOf g t)
+unfolding stateOf viewOf
+ready-fine R = record { good = R .good; slots = refl; pages = refl; blocks = refl; range = R .range }
+
+-- ── the code's tests ──
+
+pred-is : (l : ℕ) → (l ≡ 0 → ⊥) → pred l ≡ l - 1
+pred-is zero n = absurd (n refl)
+pred-is (suc l) n = omega arith
+
+module _ (g : Geometry) (t : List ℕ) (r l : ℕ) (e : l ≡ slotOf (viewOf g t) r) where
+  abbrev T : State
+  T = stateOf g t
+
+  pub no-slot : l ≡ 0 → Refused 8 ≡ verdictOf g (stateOf g t) r
+  unfolding verdictOf stateOf
+  no-slot z = rw (eq-eqb (slotOf (viewOf g t) r) 0 (sym e ∙ z))
+
+  module _ (n : l ≡ 0 → ⊥) where
+    slot-is : slot T r ≡ l - 1
+    unfolding stateOf
+    slot-is = ap pred (sym e) ∙ pred-is l n
+
+    has-slot : eqb (slotOf (T .view) r) 0 ≡ false
+    unfolding stateOf
+    has-slot = ne-eqb (slotOf (viewOf g t) r) 0 (λ z. n (e ∙ z))
+
+    pub slot-live : Ready g t → 0 < viewOf g t .num (l - 1)
+    unfolding stateOf
+    slot-live R = subst (λ s. 0 < viewOf g t .num s) slot-is (named-slot g (R .roomy .inside) T (ready-fine R) r has-slot .0)
+
+    pub has-fork : (f : ℕ) → f ≡ forked (viewOf g t) (l - 1) → (f ≡ 0 → ⊥) → Refused 10 ≡ verdictOf g (stateOf g t) r
+    unfolding verdictOf stateOf
+    has-fork f d m =
+        let h : 0 < forked (viewOf g t) (slot T r) = subst (λ s. 0 < forked (viewOf g t) s) (sym slot-is) (omega arith) in
+        rw (has-slot, lt-ltb 0 (forked (viewOf g t) (slot T r)) h)
+
+    module _ (f : ℕ) (d : f ≡ forked (viewOf g t) (l - 1)) (z : f ≡ 0) (o : ℕ) (eo : o ≡ follower (viewOf g t) (l - 1))
+        (u : ℕ) (eu : u ≡ getD t 9 0) (c : ℕ) (ec : c ≡ length (deleted (viewOf g t) (l - 1) o)) where
+      no-fork : ltb 0 (forked (T .view) (slot T r)) ≡ false
+      unfolding stateOf
+      no-fork = le-ltb 0 (forked (viewOf g t) (slot T r)) (omega (arith, ap (forked (viewOf g t)) slot-is))
+
+      frees-are : length (written g T (Delete r)) ≡ c
+      unfolding stateOf
+      frees-are =
+          map-length (deleted (viewOf g t) (slot T r) (follower (viewOf g t) (slot T r))) ∙
+          ap (λ s. length (deleted (viewOf g t) s (follower (viewOf g t) s))) slot-is ∙
+          ap (λ m. length (deleted (viewOf g t) (l - 1) m)) (sym eo) ∙ sym ec
+
+      used-are : T .used ≡ u
+      used-are = Fields.used-is g t ∙ sym eu
+
+      pub too-few : g .words - u < c → Refused 14 ≡ verdictOf g (stateOf g t) r
+      unfolding verdictOf
+      too-few h =
+          let y : short g T (Delete r) ≡ true = lt-ltb (g .words - T .used) (length (written g T (Delete r))) (omega (arith, frees-are, used-are)) in
+          rw (has-slot, no-fork, y)
+
+      pub enough : c ≤ g .words - u → Accept (l - 1) o ≡ verdictOf g (stateOf g t) r
+      unfolding verdictOf stateOf
+      enough h =
+          let y : short g T (Delete r) ≡ false = le-ltb (g .words - T .used) (length (written g T (Delete r))) (omega (arith, frees-are, used-are)) in
+          rw (has-slot, no-fork, y) (ap₂ Accept (sym slot-is) (eo ∙ ap (follower (viewOf g t)) (sym slot-is)))
+
+-- ── what the verdict says ──
+
+abbrev chain : Bool → Bool → Bool → Verdict → Verdict
+chain a b c v = cond a (Refused 8) (cond b (Refused 10) (cond c (Refused 14) v))
+
+same-refusal : {j k : ℕ} → Refused j ≡ Refused k → j ≡ k
+same-refusal e = cc
+
+refused-chain : (a b c : Bool) (s f k : ℕ) (l : List ℕ) → chain a b c (Accept s f) ≡ Refused k →
+    cond a (refused 8) (cond b (refused 10) (cond c (refused 14) (accepted l))) ≡ refused k
+refused-chain true b c s f k l e = ap refused (same-refusal e)
+refused-chain false true c s f k l e = ap refused (same-refusal e)
+refused-chain false false true s f k l e = ap refused (same-refusal e)
+refused-chain false false false s f k l e = absurd (let z : _≡_ {A = ℕ} 0 1 = cc in omega arith)
+
+same-slot : {s f s′ f′ : ℕ} → Accept s f ≡ Accept s′ f′ → (s ≡ s′) × (f ≡ f′)
+same-slot e = ((cc), (cc))
+
+accept-chain : (a b c : Bool) (s f s′ f′ : ℕ) → chain a b c (Accept s f) ≡ Accept s′ f′ →
+    (a ≡ false) × (b ≡ false) × (c ≡ false) × (s ≡ s′) × (f ≡ f′)
+accept-chain true b c s f s′ f′ e = absurd (let z : _≡_ {A = ℕ} 0 1 = cc in omega arith)
+accept-chain false true c s f s′ f′ e = absurd (let z : _≡_ {A = ℕ} 0 1 = cc in omega arith)
+accept-chain false false true s f s′ f′ e = absurd (let z : _≡_ {A = ℕ} 0 1 = cc in omega arith)
+accept-chain false false false s f s′ f′ e = let w = same-slot e in (refl, refl, refl, w .0, w .1)
+
+module _ (g : Geometry) (t : List ℕ) (r : ℕ) (v : Verdict) (e : v ≡ verdictOf g (stateOf g t) r) where
+  pub refusal : (k : ℕ) → v ≡ Refused k → replied g t (Delete r) ≡ refused k
+  unfolding replied verdictOf
+  refusal k d =
+      let U : State = stateOf g t in
+      refused-chain (eqb (slotOf (U .view) r) 0) (ltb 0 (forked (U .view) (slot U r))) (short g U (Delete r))
+      (slot U r) (follower (U .view) (slot U r)) k (result g U (Delete r)) (sym e ∙ d)
+
+  pub acceptance : (s f : ℕ) → v ≡ Accept s f →
+      (eqb (slotOf (stateOf g t .view) r) 0 ≡ false) × (ltb 0 (forked (stateOf g t .view) (slot (stateOf g t) r)) ≡ false) ×
+      (short g (stateOf g t) (Delete r) ≡ false) × (slot (stateOf g t) r ≡ s) × (follower (stateOf g t .view) (slot (stateOf g t) r) ≡ f)
+  unfolding verdictOf
+  acceptance s f d =
+      let U : State = stateOf g t in
+      accept-chain (eqb (slotOf (U .view) r) 0) (ltb 0 (forked (U .view) (slot U r))) (short g U (Delete r))
+      (slot U r) (follower (U .view) (slot U r)) s f (sym e ∙ d)

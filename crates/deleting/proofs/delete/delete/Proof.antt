@@ -1,0 +1,78 @@
+-- The call D: a refusal leaves everything, and an accepted call does what the model says.
+use native.Mathlib.Omega.{arith}
+use borrow.Author.Needs.{needs}
+use mathlib.Core.Path.{_∙_}
+use Rattle.deleting.proofs.Verdicts
+use Rattle.deleting.proofs.Calling
+use Rattle.deleting.proofs.delete.delete.Statement.{statement}
+use Rattle.deleting.proofs.delete.delete.Tie as tie
+
+delete-verdict-requires : tie.Need-delete-verdict-requires
+delete-verdict-requires c κs = c .before .before .before .before .pre .0
+
+enum-known-verdict : tie.Need-enum-known-verdict
+enum-known-verdict c = search needs
+
+enum-known-verdict-2 : tie.Need-enum-known-verdict-2
+enum-known-verdict-2 c = search needs
+
+delete-record-requires : tie.Need-delete-record-requires
+delete-record-requires c κs =
+    let start = c .before .before .before .before .before .before .before .before .before .before in
+    (start .pre .0, Calling.accept-out _ _ (start .pre .0) _ _ (c .before .before .before .before .before .delete-verdict .ensures) _ _ (c .before .before .before .verdict2 .given .1) (start .args .out .now) (start .pre .2), Calling.accept-slot _ _ (start .pre .0) _ _ (c .before .before .before .before .before .delete-verdict .ensures) _ _ (c .before .before .before .verdict2 .given .1), Calling.accept-live _ _ (start .pre .0) _ _ (c .before .before .before .before .before .delete-verdict .ensures) _ _ (c .before .before .before .verdict2 .given .1), Calling.accept-follower _ _ (start .pre .0) _ _ (c .before .before .before .before .before .delete-verdict .ensures) _ _ (c .before .before .before .verdict2 .given .1))
+
+log-frees-requires : tie.Need-log-frees-requires
+log-frees-requires c κs = let u = Calling.accept-used _ _ (c .before .before .before .before .before .before .before .before .before .before .before .before .before .before .before .before .before .before .pre .0) _ _ (c .before .before .before .before .before .before .before .before .before .before .before .before .before .delete-verdict .ensures) _ _ (c .before .before .before .before .before .before .before .before .before .before .before .verdict2 .given .1) _ (c .before .before .before .before .before .before .before .delete-record .ensures .1 .0) in
+    let w = Calling.accept-words _ _ (c .before .before .before .before .before .before .before .before .before .before .before .before .before .before .before .before .before .before .pre .0) _ _ (c .before .before .before .before .before .before .before .before .before .before .before .before .before .delete-verdict .ensures) _ _ (c .before .before .before .before .before .before .before .before .before .before .before .verdict2 .given .1) in
+    let l = Calling.accept-length _ _ (c .before .before .before .before .before .before .before .before .before .before .before .before .before .before .before .before .before .before .pre .0) _ _ (c .before .before .before .before .before .before .before .before .before .before .before .before .before .delete-verdict .ensures) _ _ (c .before .before .before .before .before .before .before .before .before .before .before .verdict2 .given .1) _ (c .before .before .before .before .before .before .before .delete-record .ensures .1 .0) in
+    let o = Calling.accept-room _ _ (c .before .before .before .before .before .before .before .before .before .before .before .before .before .before .before .before .before .before .pre .0) _ _ (c .before .before .before .before .before .before .before .before .before .before .before .before .before .delete-verdict .ensures) _ _ (c .before .before .before .before .before .before .before .before .before .before .before .verdict2 .given .1) _ (c .before .before .before .before .before .before .before .delete-record .ensures .1 .0) _ (c .before .before .before .before .before .before .before .delete-record .ensures .0) _ (c .before .before .before .before .before .before .before .before .before .before .before .before .before .before .before .before .before .before .pre .2) _ (c .before .before .before .before .before .before .before .delete-record .ensures .1 .1) in
+    let r = c .before .before .before .before .before .before .before .before .before .before .before .before .before .before .before .before .before .before .pre .0 .roomy .room in
+    let k = c .before .before .before .before .before .before .before .before .before .before .before .before .before .before .before .before .before .before .pre .0 .roomy .inside .words-most in
+    let g = c .before .before .before .before .before .before .before .before .before .before .before .before .before .before .before .before .before .before .pre .1 in
+    let n = c .before .before .before .before .before .before .before .delete-record .ensures .0 in
+    (omega arith, o, omega arith, omega arith)
+
+same-length : tie.Need-same-length
+same-length c = search needs
+
+returns : tie.Need-returns
+returns c = let e = Verdicts.refusal _ _ _ _ (c .before .before .before .delete-verdict .ensures) _ (c .before .verdict .given .1) in
+    (Calling.refuse-reply _ _ _ _ e _, (Calling.refuse-tables _ _ _ _ e, (Calling.refuse-log _ _ _ _ e _, Calling.refuse-out _ _ _ _ e _)))
+
+same-length-2 : tie.Need-same-length-2
+same-length-2 c = search needs
+
+same-length-3 : tie.Need-same-length-3
+same-length-3 c = search needs
+
+same-length-4 : tie.Need-same-length-4
+same-length-4 c = search needs
+
+returns-2 : tie.Need-returns-2
+returns-2 c =
+    let start = c .before .before .before .before .before .before .before .before .before .before .before .before .before .before .before .before .before .before .before .before .before .before .before in (
+      Calling.accept-done _ _ (start .pre .0) _ _ (c .before .before .before .before .before .before .before .before .before .before .before .before .before .before .before .before .before .before .delete-verdict .ensures) _ _ (c .before .before .before .before .before .before .before .before .before .before .before .before .before .before .before .before .verdict2 .given .1) _ (c .before .before .before .before .before .before .before .before .before .before .before .before .delete-record .ensures .1 .0) _ (c .before .before .before .before .before .before .before .before .before .before .before .before .delete-record .ensures .0) _ (start .pre .2) _ (c .before .before .before .before .before .before .before .before .before .before .before .before .delete-record .ensures .1 .1),
+      (
+        c .before .before .before .before .log-frees .ensures .0 ∙ Calling.accept-tables _ _ (start .pre .0) _ _ (c .before .before .before .before .before .before .before .before .before .before .before .before .before .before .before .before .before .before .delete-verdict .ensures) _ _ (c .before .before .before .before .before .before .before .before .before .before .before .before .before .before .before .before .verdict2 .given .1) _ (c .before .before .before .before .before .before .before .before .before .before .before .before .delete-record .ensures .1 .0) _ (c .before .before .before .before .before .before .before .before .before .before .before .before .delete-record .ensures .0),
+        (
+          Calling.accept-log _ _ (start .pre .0) _ _ (c .before .before .before .before .before .before .before .before .before .before .before .before .before .before .before .before .before .before .delete-verdict .ensures) _ _ (c .before .before .before .before .before .before .before .before .before .before .before .before .before .before .before .before .verdict2 .given .1) _ (c .before .before .before .before .before .before .before .before .before .before .before .before .delete-record .ensures .1 .0) _ (c .before .before .before .before .before .before .before .before .before .before .before .before .delete-record .ensures .0) _ (start .pre .2) _ (c .before .before .before .before .before .before .before .before .before .before .before .before .delete-record .ensures .1 .1) _ _ (c .before .before .before .before .log-frees .ensures .1),
+          Calling.accept-left _ _ (start .pre .0) _ _ (c .before .before .before .before .before .before .before .before .before .before .before .before .before .before .before .before .before .before .delete-verdict .ensures) _ _ (c .before .before .before .before .before .before .before .before .before .before .before .before .before .before .before .before .verdict2 .given .1) _ (c .before .before .before .before .before .before .before .before .before .before .before .before .delete-record .ensures .1 .0) _ (c .before .before .before .before .before .before .before .before .before .before .before .before .delete-record .ensures .0) _ (start .pre .2) _ (c .before .before .before .before .before .before .before .before .before .before .before .before .delete-record .ensures .1 .1),
+        ),
+      ),
+    )
+
+pub delete-spec : {M : Type 1} → statement M
+delete-spec =
+    tie.close
+    (tie.spec
+    delete-verdict-requires
+    enum-known-verdict
+    enum-known-verdict-2
+    delete-record-requires
+    log-frees-requires
+    same-length
+    returns
+    same-length-2
+    same-length-3
+    same-length-4
+    returns-2)

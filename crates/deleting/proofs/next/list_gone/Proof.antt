@@ -1,0 +1,133 @@
+-- The blocks that a deletion frees, listed along the sequence.
+use native.Mathlib.Omega.{arith}
+use borrow.Author.Needs.{needs}
+use mathlib.Core.Path.{_≡_, refl, sym, ap, _∙_}
+use Prim.Native.Nat.{_+_, _-_, _≤_}
+use lib.ListN.{length, length-set}
+use lib.Seq.{sets}
+use Rattle.model.specs.Effects.{unlinked}
+use Rattle.model.specs.Layout.{viewOf}
+use Rattle.deleting.proofs.Tests
+use Rattle.deleting.proofs.Counting
+use Rattle.deleting.proofs.Counting.{gone}
+use Rattle.deleting.proofs.next.list_gone.Statement.{statement}
+use Rattle.deleting.proofs.next.list_gone.Tie as tie
+
+abbrev Inv-loop : tie.InvT-loop
+Inv-loop t g out₀ s n p len count₀ i₀ out count i =
+    (i ≤ len) × (count ≤ i) × (count + length (gone (viewOf g t) s n i) ≡ length (unlinked (viewOf g t) s n)) × (length out ≡ length out₀) × (sets out count (gone (viewOf g t) s n i) ≡ sets out₀ 0 (unlinked (viewOf g t) s n))
+
+abbrev μ-loop : tie.MeasureT-loop
+μ-loop t g out₀ s n p len count₀ i₀ out count i = len - i
+
+shared-slice-read-wide : tie.Need-shared-slice-read-wide Inv-loop μ-loop
+shared-slice-read-wide c = omega arith
+
+wide-requires : tie.Need-wide-requires Inv-loop μ-loop
+wide-requires c κs = search needs
+
+loop-holds : tie.Need-loop-holds Inv-loop μ-loop
+loop-holds c = (omega arith, omega arith, omega (arith, ap length (Counting.gone-start (viewOf (c .before .before .before .before .args .g) (c .before .before .before .before .args .t .now)) (c .before .before .before .before .args .s) (c .before .before .before .before .args .n))), refl, ap (sets (c .before .before .before .before .args .out .now) 0) (Counting.gone-start (viewOf (c .before .before .before .before .args .g) (c .before .before .before .before .args .t .now)) (c .before .before .before .before .args .s) (c .before .before .before .before .args .n)))
+
+mul-wide : tie.Need-mul-wide Inv-loop μ-loop
+mul-wide c = omega arith
+
+add-wide : tie.Need-add-wide Inv-loop μ-loop
+add-wide c = omega arith
+
+mul-wide-2 : tie.Need-mul-wide-2 Inv-loop μ-loop
+mul-wide-2 c = omega arith
+
+add-wide-2 : tie.Need-add-wide-2 Inv-loop μ-loop
+add-wide-2 c = omega arith
+
+add-wide-3 : tie.Need-add-wide-3 Inv-loop μ-loop
+add-wide-3 c = omega arith
+
+mul-wide-3 : tie.Need-mul-wide-3 Inv-loop μ-loop
+mul-wide-3 c = omega arith
+
+shared-slice-read-wide-2 : tie.Need-shared-slice-read-wide-2 Inv-loop μ-loop
+shared-slice-read-wide-2 c = omega arith
+
+wide-requires-2 : tie.Need-wide-requires-2 Inv-loop μ-loop
+wide-requires-2 c κs = search needs
+
+goes-requires : tie.Need-goes-requires Inv-loop μ-loop
+goes-requires c κs =
+    let start = c .before .before .before .before .before .before .before .before .before in
+    let m = Tests.below _ _ _ (c .before .before .before .loop-test .taken) (c .before .before .before .before .before .wide .ensures) in
+    (start .pre .0 .frame .roomy, Counting.gone-in _ _ (start .pre .0) _ (start .args .n) _ (start .pre .3) _ m _ (c .wide2 .ensures), start .pre .2)
+
+cast-out : tie.Need-cast-out Inv-loop μ-loop
+cast-out c = omega arith
+
+mul-out : tie.Need-mul-out Inv-loop μ-loop
+mul-out c = omega arith
+
+slice-write-out : tie.Need-slice-write-out Inv-loop μ-loop
+slice-write-out c = let m = Tests.below _ _ _ (c .before .before .before .before .before .loop-test .taken) (c .before .before .before .before .before .before .before .wide .ensures) in
+    let l = Counting.count-below _ _ _ _ (Counting.gone-yes _ _ (c .before .before .before .before .before .before .before .before .before .before .before .pre .0) _ (c .before .before .before .before .before .before .before .before .before .before .before .args .n) _ (c .before .before .before .before .before .before .before .before .before .before .before .pre .3) _ m _ (c .before .before .wide2 .ensures) _ (c .before .goes .ensures .1) (c .if1 .taken)) _ (c .before .before .before .before .before .before .loop .inv .2) in omega arith
+
+add-count : tie.Need-add-count Inv-loop μ-loop
+add-count c = omega arith
+
+add-i : tie.Need-add-i Inv-loop μ-loop
+add-i c = omega arith
+
+loop-less : tie.Need-loop-less Inv-loop μ-loop
+loop-less c = omega arith
+
+loop-again : tie.Need-loop-again Inv-loop μ-loop
+loop-again c = let m = Tests.below _ _ _ (c .before .before .before .before .before .loop-test .taken) (c .before .before .before .before .before .before .before .wide .ensures) in
+    let d = Counting.gone-yes _ _ (c .before .before .before .before .before .before .before .before .before .before .before .pre .0) _ (c .before .before .before .before .before .before .before .before .before .before .before .args .n) _ (c .before .before .before .before .before .before .before .before .before .before .before .pre .3) _ m _ (c .before .before .wide2 .ensures) _ (c .before .goes .ensures .1) (c .if1 .taken) in
+    (omega arith, omega arith, Counting.count-next _ _ _ _ d _ (c .before .before .before .before .before .before .loop .inv .2), simp length-set (c .before .before .before .before .before .before .loop .inv .3), Counting.sets-next _ _ _ _ d _ _ (c .before .before .before .before .before .before .loop .inv .4))
+
+add-i-2 : tie.Need-add-i-2 Inv-loop μ-loop
+add-i-2 c = omega arith
+
+loop-less-2 : tie.Need-loop-less-2 Inv-loop μ-loop
+loop-less-2 c = omega arith
+
+loop-again-2 : tie.Need-loop-again-2 Inv-loop μ-loop
+loop-again-2 c = let m = Tests.below _ _ _ (c .before .before .before .before .before .loop-test .taken) (c .before .before .before .before .before .before .before .wide .ensures) in
+    let d = Counting.gone-no _ _ (c .before .before .before .before .before .before .before .before .before .before .before .pre .0) _ (c .before .before .before .before .before .before .before .before .before .before .before .args .n) _ (c .before .before .before .before .before .before .before .before .before .before .before .pre .3) _ m _ (c .before .before .wide2 .ensures) _ (c .before .goes .ensures .1) (c .if1 .left) in
+    (omega arith, omega arith, ap (λ l. c .before .before .before .before .before .before .loop .count + length l) (sym d) ∙ c .before .before .before .before .before .before .loop .inv .2, c .before .before .before .before .before .before .loop .inv .3, ap (sets (c .before .before .before .before .before .before .loop .out) (c .before .before .before .before .before .before .loop .count)) (sym d) ∙ c .before .before .before .before .before .before .loop .inv .4)
+
+same-length : tie.Need-same-length Inv-loop μ-loop
+same-length c = c .before .loop .inv .3
+
+returns : tie.Need-returns Inv-loop μ-loop
+returns c = let e = Counting.gone-end _ _ (c .before .before .before .before .before .before .pre .0) _ (c .before .before .before .before .before .before .args .n) _ (c .before .before .before .before .before .before .pre .3) (c .before .loop .i) (omega arith) (omega arith) in
+    (Counting.count-end _ _ e _ (c .before .loop .inv .2), Counting.sets-end _ _ e _ _ (c .before .loop .inv .4))
+
+pub list-gone-spec : {M : Type 1} → statement M
+list-gone-spec =
+    tie.close
+    (tie.spec
+    Inv-loop
+    μ-loop
+    shared-slice-read-wide
+    wide-requires
+    loop-holds
+    mul-wide
+    add-wide
+    mul-wide-2
+    add-wide-2
+    add-wide-3
+    mul-wide-3
+    shared-slice-read-wide-2
+    wide-requires-2
+    goes-requires
+    cast-out
+    mul-out
+    slice-write-out
+    add-count
+    add-i
+    loop-less
+    loop-again
+    add-i-2
+    loop-less-2
+    loop-again-2
+    same-length
+    returns)

@@ -1,0 +1,111 @@
+// D: its refusals, its frees in the log, and the two ways of a deletion.
+ghost use mathlib.Core.Path.{_≡_};
+ghost use mathlib.Core.List.{map};
+ghost use Prim.Native.Nat.{_+_, _*_, _<_, _≤_};
+ghost use lib.ListN.{length, getD, set, take};
+ghost use lib.Seq.{sets};
+ghost use Rattle.answer.specs.Reply.{replyOf};
+ghost use Rattle.log.specs.Word.{writeAt, bytesOf, released};
+ghost use Rattle.model.specs.declared.Call.the-variants.{Delete};
+ghost use Rattle.model.specs.Actions.{deleteAt};
+ghost use Rattle.model.specs.Held.{deleted};
+ghost use Rattle.model.specs.Layout.{viewOf, stateOf, stored};
+ghost use Rattle.tables.specs.Ready.{Ready, OutLong, LogLong};
+ghost use Rattle.tables.specs.Puts.{withView};
+ghost use Rattle.tables.specs.Outcome.{replied, tablesLeft, logLeft, outLeft};
+ghost use Rattle.deleting.specs.Verdict.{verdictOf};
+use crate::last::count_young;
+use crate::last::delete_last;
+use crate::next::count_gone;
+use crate::next::delete_next;
+use answer::Answer;
+use geometry::Geometry;
+use log::word::append;
+use tables::find::follower_of;
+use tables::find::forked_at;
+use tables::find::slot_of;
+use tables::find::wide;
+use tables::links::pred_number;
+
+// What a deletion meets: a refusal, or the slot of its record and the link of the one that follows.
+pub enum Verdict {
+    Refused(u8),
+    Accept(usize, usize),
+}
+
+// How many blocks the deletion of slot s frees.
+fn count_frees(t: &[u32], g: Geometry, s: usize, follower: usize) -> usize
+    requires { ⌜ Ready g (now t) × (s < g .records) × (0 < viewOf g (now t) .num s) × (follower ≤ g .records) ⌝ }
+    ensures { λ r. ⌜ r ≡ length (deleted (viewOf g (now (t .entry))) s follower) ⌝ }
+{
+    let p = pred_number(t, g, s);
+    if follower == 0 {
+        return count_young(t, g, s, p);
+    }
+    count_gone(t, g, s, follower - 1, p)
+}
+
+fn delete_verdict(t: &[u32], g: Geometry, number: u32) -> Verdict
+    requires { ⌜ Ready g (now t) ⌝ }
+    ensures { λ r. ⌜ r ≡ verdictOf g (stateOf g (now (t .entry))) number ⌝ }
+{
+    let link = slot_of(t, g, number);
+    if link == 0 {
+        return Verdict::Refused(8);
+    }
+    let s = link - 1;
+    if forked_at(t, g, s) != 0 {
+        return Verdict::Refused(10);
+    }
+    let follower = follower_of(t, g, s);
+    if g.words - wide(t[9]) < count_frees(t, g, s, follower) {
+        return Verdict::Refused(14);
+    }
+    Verdict::Accept(s, follower)
+}
+
+// The words of the first n blocks of `out`, freed in order, behind the used words.
+fn log_frees(t: &mut [u32], log: &mut [u8], out: &[u32], n: usize)
+    requires { ⌜ (10 ≤ length (now t)) × (n ≤ length (now out)) × (8 * (getD (now t) 9 0 + n) ≤ length (now log)) × (getD (now t) 9 0 + n ≤ 8192) ⌝ }
+    ensures tables { λ _. ⌜ now (t .exit) ≡ set (now (t .entry)) 9 (getD (now (t .entry)) 9 0 + n) ⌝ }
+    ensures log { λ _. ⌜ now (log .exit) ≡ writeAt (now (log .entry)) (8 * getD (now (t .entry)) 9 0) (bytesOf (map released (take n (now (out .entry))))) ⌝ }
+{
+    let used = wide(t[9]);
+    let mut i: usize = 0;
+    while i < n {
+        append(log, 8 * (used + i), (wide(out[i]) * 16384 + 2) as u64);
+        i += 1;
+    }
+    t[9] = (used + n) as u32;
+}
+
+fn delete_record(g: Geometry, t: &mut [u32], out: &mut [u32], s: usize, follower: usize) -> usize
+    requires { ⌜ Ready g (now t) × (length (deleted (viewOf g (now t)) s follower) ≤ length (now out)) × (s < g .records) × (0 < viewOf g (now t) .num s) × (follower ≤ g .records) ⌝ }
+    ensures count { λ r. ⌜ r ≡ length (deleted (viewOf g (now (t .entry))) s follower) ⌝ }
+    ensures tables { λ r. ⌜ now (t .exit) ≡ stored g (withView (stateOf g (now (t .entry))) (deleteAt (viewOf g (now (t .entry))) s follower)) (now (t .entry)) ⌝ }
+    ensures out { λ r. ⌜ now (out .exit) ≡ sets (now (out .entry)) 0 (deleted (viewOf g (now (t .entry))) s follower) ⌝ }
+{
+    let p = pred_number(t, g, s);
+    if follower == 0 {
+        return delete_last(t, g, out, s, p);
+    }
+    delete_next(t, g, out, s, follower - 1, p)
+}
+
+pub fn delete(g: Geometry, t: &mut [u32], log: &mut [u8], out: &mut [u32], number: u32) -> Answer
+    requires { ⌜ Ready g (now t) × LogLong g (now log) × OutLong g (now out) ⌝ }
+    ensures reply { λ r. ⌜ replyOf r (now (out .exit)) ≡ replied g (now (t .entry)) (Delete number) ⌝ }
+    ensures tables { λ r. ⌜ now (t .exit) ≡ tablesLeft g (now (t .entry)) (Delete number) ⌝ }
+    ensures log { λ r. ⌜ now (log .exit) ≡ logLeft g (now (t .entry)) (now (log .entry)) (Delete number) ⌝ }
+    ensures out { λ r. ⌜ now (out .exit) ≡ outLeft g (now (t .entry)) (now (out .entry)) (Delete number) ⌝ }
+{
+    let verdict = delete_verdict(t, g, number);
+    match verdict {
+        Verdict::Refused(k) => Answer::Refused(k),
+        Verdict::Accept(s, follower) => {
+            let n = delete_record(g, t, out, s, follower);
+            log_frees(t, log, out, n);
+            Answer::Done(n)
+        }
+    }
+}

@@ -1,0 +1,4 @@
+// D: a record leaves the store.
+pub mod delete;
+pub mod last;
+pub mod next;

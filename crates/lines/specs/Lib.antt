@@ -1,0 +1,3 @@
+-- What the parts of B, S and F do.
+pub mod Verdicts
+pub mod Growing

@@ -1,0 +1,84 @@
+// A new record in an empty slot: its pages, then its number, its links and its line; and what B, S and F do with it.
+ghost use mathlib.Core.Path.{_≡_};
+ghost use Prim.Native.Nat.{suc, _+_, _*_, _<_};
+ghost use lib.ListN.{length, getD};
+ghost use Rattle.model.specs.Effects.{begin, seal, fork};
+ghost use Rattle.model.specs.Layout.{stateOf};
+ghost use Rattle.tables.specs.Ready.{Ready};
+ghost use Rattle.lines.specs.Growing.{paged, opened, viewed};
+use geometry::Geometry;
+
+// The pages of slot f become those of slot s.
+fn copy_pages(t: &mut [u32], g: Geometry, f: usize, s: usize)
+    requires { ⌜ Ready g (now t) × (f < g .records) × (s < g .records) × (s ≡ f → ⊥) ⌝ }
+    ensures is { λ _. ⌜ now (t .exit) ≡ paged g (now (t .entry)) f (suc s) ⌝ }
+{
+    let mut x: usize = 0;
+    while x < g.pages {
+        t[32 + 272 * f + 16 + x] = t[32 + 272 * s + 16 + x];
+        x += 1;
+    }
+}
+
+// The pages of slot f become empty.
+fn clear_pages(t: &mut [u32], g: Geometry, f: usize)
+    requires { ⌜ Ready g (now t) × (f < g .records) ⌝ }
+    ensures is { λ _. ⌜ now (t .exit) ≡ paged g (now (t .entry)) f 0 ⌝ }
+{
+    let mut x: usize = 0;
+    while x < g.pages {
+        t[32 + 272 * f + 16 + x] = 0;
+        x += 1;
+    }
+}
+
+// The record in slot f is open, of the next number, and has these links and this line. Gives its number.
+fn open_record(t: &mut [u32], f: usize, prev: u32, base: u32, line: u32) -> u32
+    requires { ⌜ (f < 64) × (36 + 272 * f < length (now t)) × (getD (now t) 6 0 < 999999) ⌝ }
+    ensures is { λ r. ⌜ now (t .exit) ≡ opened (now (t .entry)) f prev base line ⌝ }
+    ensures number { λ r. ⌜ r ≡ getD (now (t .entry)) 6 0 + 1 ⌝ }
+{
+    let number = t[6] + 1;
+    t[6] = number;
+    t[32 + 272 * f] = number;
+    t[32 + 272 * f + 1] = 1;
+    t[32 + 272 * f + 2] = prev;
+    t[32 + 272 * f + 3] = base;
+    t[32 + 272 * f + 4] = line;
+    number
+}
+
+// B with the empty slot f. Gives the new number, as do the next two.
+pub fn begin_at(t: &mut [u32], g: Geometry, f: usize) -> u32
+    requires { ⌜ Ready g (now t) × (f < g .records) × (getD (now t) 6 0 < 999999) ⌝ }
+    ensures is { λ r. ⌜ now (t .exit) ≡ viewed g (now (t .entry)) (begin (stateOf g (now (t .entry)) .view) f) ⌝ }
+    ensures number { λ r. ⌜ r ≡ getD (now (t .entry)) 6 0 + 1 ⌝ }
+{
+    clear_pages(t, g, f);
+    let line = t[6] + 1;
+    open_record(t, f, 0, 0, line)
+}
+
+// S on the record in slot s: it is sealed, and the new one follows it.
+pub fn seal_at(t: &mut [u32], g: Geometry, f: usize, s: usize) -> u32
+    requires { ⌜ Ready g (now t) × (f < g .records) × (getD (now t) 6 0 < 999999) × (s < g .records) × (s ≡ f → ⊥) ⌝ }
+    ensures is { λ r. ⌜ now (t .exit) ≡ viewed g (now (t .entry)) (seal (stateOf g (now (t .entry)) .view) s f) ⌝ }
+    ensures number { λ r. ⌜ r ≡ getD (now (t .entry)) 6 0 + 1 ⌝ }
+{
+    copy_pages(t, g, f, s);
+    t[32 + 272 * s + 1] = 0;
+    let base = t[32 + 272 * s + 3];
+    let line = t[32 + 272 * s + 4];
+    open_record(t, f, (s + 1) as u32, base, line)
+}
+
+// F on the record in slot s: it is the base of a new line.
+pub fn fork_at(t: &mut [u32], g: Geometry, f: usize, s: usize) -> u32
+    requires { ⌜ Ready g (now t) × (f < g .records) × (getD (now t) 6 0 < 999999) × (s < g .records) × (s ≡ f → ⊥) ⌝ }
+    ensures is { λ r. ⌜ now (t .exit) ≡ viewed g (now (t .entry)) (fork (stateOf g (now (t .entry)) .view) s f) ⌝ }
+    ensures number { λ r. ⌜ r ≡ getD (now (t .entry)) 6 0 + 1 ⌝ }
+{
+    copy_pages(t, g, f, s);
+    let line = t[6] + 1;
+    open_record(t, f, 0, (s + 1) as u32, line)
+}

@@ -1,0 +1,69 @@
+// The calls that open a record: B, S, F.
+pub mod grow;
+pub mod verdict;
+
+ghost use mathlib.Core.Path.{_≡_};
+ghost use Rattle.answer.specs.Reply.{replyOf};
+ghost use Rattle.model.specs.declared.Call.the-variants.{Begin, Seal, Fork};
+ghost use Rattle.tables.specs.Ready.{Ready, OutLong};
+ghost use Rattle.tables.specs.Outcome.{replied, tablesLeft, outLeft};
+use crate::grow::begin_at;
+use crate::grow::fork_at;
+use crate::grow::seal_at;
+use crate::verdict::Verdict;
+use crate::verdict::forking;
+use crate::verdict::room;
+use crate::verdict::sealing;
+use answer::Answer;
+use geometry::Geometry;
+
+// B: an empty open record in a new line.
+pub fn begin(g: Geometry, t: &mut [u32], out: &mut [u32]) -> Answer
+    requires { ⌜ Ready g (now t) × OutLong g (now out) ⌝ }
+    ensures reply { λ r. ⌜ replyOf r (now (out .exit)) ≡ replied g (now (t .entry)) Begin ⌝ }
+    ensures tables { λ r. ⌜ now (t .exit) ≡ tablesLeft g (now (t .entry)) Begin ⌝ }
+    ensures out { λ r. ⌜ now (out .exit) ≡ outLeft g (now (t .entry)) (now (out .entry)) Begin ⌝ }
+{
+    let verdict = room(t, g, 0);
+    match verdict {
+        Verdict::Refused(k) => Answer::Refused(k),
+        Verdict::Accept(_, f) => {
+            out[0] = begin_at(t, g, f);
+            Answer::Done(1)
+        }
+    }
+}
+
+// S: the record is sealed, and an open one with its pages follows it.
+pub fn seal(g: Geometry, t: &mut [u32], out: &mut [u32], n: u32) -> Answer
+    requires { ⌜ Ready g (now t) × OutLong g (now out) ⌝ }
+    ensures reply { λ r. ⌜ replyOf r (now (out .exit)) ≡ replied g (now (t .entry)) (Seal n) ⌝ }
+    ensures tables { λ r. ⌜ now (t .exit) ≡ tablesLeft g (now (t .entry)) (Seal n) ⌝ }
+    ensures out { λ r. ⌜ now (out .exit) ≡ outLeft g (now (t .entry)) (now (out .entry)) (Seal n) ⌝ }
+{
+    let verdict = sealing(t, g, n);
+    match verdict {
+        Verdict::Refused(k) => Answer::Refused(k),
+        Verdict::Accept(s, f) => {
+            out[0] = seal_at(t, g, f, s);
+            Answer::Done(1)
+        }
+    }
+}
+
+// F: a new line with an open record that has the pages of a sealed one.
+pub fn fork(g: Geometry, t: &mut [u32], out: &mut [u32], n: u32) -> Answer
+    requires { ⌜ Ready g (now t) × OutLong g (now out) ⌝ }
+    ensures reply { λ r. ⌜ replyOf r (now (out .exit)) ≡ replied g (now (t .entry)) (Fork n) ⌝ }
+    ensures tables { λ r. ⌜ now (t .exit) ≡ tablesLeft g (now (t .entry)) (Fork n) ⌝ }
+    ensures out { λ r. ⌜ now (out .exit) ≡ outLeft g (now (t .entry)) (now (out .entry)) (Fork n) ⌝ }
+{
+    let verdict = forking(t, g, n);
+    match verdict {
+        Verdict::Refused(k) => Answer::Refused(k),
+        Verdict::Accept(s, f) => {
+            out[0] = fork_at(t, g, f, s);
+            Answer::Done(1)
+        }
+    }
+}

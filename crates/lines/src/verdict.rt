@@ -1,0 +1,61 @@
+// Whether a call that opens a record is refused, and on which slots it works.
+ghost use mathlib.Core.Path.{_≡_};
+ghost use Rattle.model.specs.declared.Call.the-variants.{Begin, Seal, Fork};
+ghost use Rattle.model.specs.Layout.{stateOf};
+ghost use Rattle.model.specs.Calls.{slot};
+ghost use Rattle.tables.specs.Ready.{Roomy};
+ghost use Rattle.lines.specs.Verdicts.{verdict};
+use geometry::Geometry;
+use tables::find::slot_of;
+use tables::find::vacant_slot;
+
+// What such a call meets: a refusal, or the slot of its record and the empty slot.
+pub enum Verdict {
+    Refused(u8),
+    Accept(usize, usize),
+}
+
+// The refusals 11 and 12, of a call on the record in slot s; those of B are no others.
+pub fn room(t: &[u32], g: Geometry, s: usize) -> Verdict
+    requires { ⌜ Roomy g (now t) ⌝ }
+    ensures { λ r. ⌜ r ≡ verdict g (now (t .entry)) Begin s ⌝ }
+{
+    let empty = vacant_slot(t, g);
+    if empty == 0 {
+        return Verdict::Refused(11);
+    }
+    if 999999 <= t[6] {
+        return Verdict::Refused(12);
+    }
+    Verdict::Accept(s, empty - 1)
+}
+
+// The verdict on S of the record of number n: 9 if it is sealed.
+pub fn sealing(t: &[u32], g: Geometry, n: u32) -> Verdict
+    requires { ⌜ Roomy g (now t) ⌝ }
+    ensures { λ r. ⌜ r ≡ verdict g (now (t .entry)) (Seal n) (slot (stateOf g (now (t .entry))) n) ⌝ }
+{
+    let link = slot_of(t, g, n);
+    if link == 0 {
+        return Verdict::Refused(8);
+    }
+    if t[32 + 272 * (link - 1) + 1] == 0 {
+        return Verdict::Refused(9);
+    }
+    room(t, g, link - 1)
+}
+
+// The verdict on F: 9 if the record is open.
+pub fn forking(t: &[u32], g: Geometry, n: u32) -> Verdict
+    requires { ⌜ Roomy g (now t) ⌝ }
+    ensures { λ r. ⌜ r ≡ verdict g (now (t .entry)) (Fork n) (slot (stateOf g (now (t .entry))) n) ⌝ }
+{
+    let link = slot_of(t, g, n);
+    if link == 0 {
+        return Verdict::Refused(8);
+    }
+    if 0 < t[32 + 272 * (link - 1) + 1] {
+        return Verdict::Refused(9);
+    }
+    room(t, g, link - 1)
+}

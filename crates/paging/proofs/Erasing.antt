@@ -1,0 +1,242 @@
+-- E: its verdict, and what its action leaves.
+use mathlib.Core.Path.{_≡_, refl, sym, ap, _∙_, subst}
+use mathlib.Core.List.{List, [], _∷_, map}
+use Prim.Native.Nat.{ℕ, zero, suc, _+_, _-_, _*_, _≤_, _<_}
+use native.Mathlib.Omega.{arith}
+use lib.ListN.{length, getD, set, length-map}
+use lib.Seq.{sets}
+use borrow.Author.Tests.{le-leb, lt-leb, lt-ltb, le-ltb, ltb-false}
+use Rattle.answer.specs.Reply.{refused, replyOf}
+use Rattle.answer.specs.Refusal.{NoneHolds}
+use Rattle.answer.specs.declared.Answer.the-variants.{Done}
+use Rattle.answer.proofs.Cases.{cases, same?}
+use Rattle.geometry.specs.declared.Geometry.{Geometry}
+use Rattle.geometry.specs.Limits.{blocks}
+use Rattle.log.specs.Word.{writeAt, bytesOf, released}
+use Rattle.log.proofs.Writing.{write-none}
+use Rattle.model.specs.declared.Call.the-variants.{Erase}
+use Rattle.model.specs.View.{View, predNum, baseNum}
+use Rattle.model.specs.Effects.{Fate, freed, marked, kept, fate}
+use Rattle.model.specs.Held.{freedOne, erased}
+use Rattle.model.specs.Actions.{doE, slotOf}
+use Rattle.model.specs.Calls.{slot, written, conditions, acted}
+use Rattle.model.specs.Layout.{recordCell, viewOf, stateOf, stored}
+use Rattle.model.proofs.Fine.{asks-E}
+use Rattle.tables.specs.Ready.{Ready, LogLong, OutLong}
+use Rattle.tables.specs.Outcome.{replied, tablesLeft, logLeft, outLeft}
+use Rattle.tables.specs.Puts.{withUsed}
+use Rattle.tables.proofs.Fields
+use Rattle.tables.proofs.Ranges
+use Rattle.tables.proofs.Steps.{step-used}
+use Rattle.paging.specs.Target.{Target, freesOf}
+use Rattle.paging.specs.Kill.{emptied}
+use Rattle.paging.specs.EraseVerdict.{Judged}
+use Rattle.paging.specs.declared.erase.Verdict.{Verdict}
+use Rattle.paging.specs.declared.erase.Verdict.the-variants.{Refused, Accept}
+use Rattle.paging.proofs.Answers
+use Rattle.paging.proofs.Looking
+use Rattle.paging.proofs.Killing
+
+-- ── the verdict on E of page x of record n; w is x as it was read ──
+
+module _ (g : Geometry) (t : List ℕ) (n x w : ℕ) (ew : w ≡ x) where
+  pub erase-5 : g .pages ≤ w → replied g t (Erase n x) ≡ refused 5
+  unfolding replied
+  erase-5 h = Looking.cond-here _ _ _ (le-leb (g .pages) x (omega arith))
+
+  pub erase-8 : (l : ℕ) → w < g .pages → l ≡ slotOf (viewOf g t) n → l ≡ 0 → replied g t (Erase n x) ≡ refused 8
+  unfolding replied
+  erase-8 l h e z = Looking.cond-next _ _ _ _ (lt-leb (g .pages) x (omega arith)) (Looking.cond-here _ _ _ (Looking.eight-yes g t n l e z))
+
+  module _ (R : Ready g t) (l : ℕ) (h : w < g .pages) (e : l ≡ slotOf (viewOf g t) n) (used : l ≡ 0 → ⊥) where
+    pub erase-9 : getD t (recordCell (l - 1) 1) 0 ≡ 0 → replied g t (Erase n x) ≡ refused 9
+    unfolding replied
+    erase-9 o =
+        Looking.cond-next _ _ _ _ (lt-leb (g .pages) x (omega arith)) (Looking.cond-next _ _ _ _ (Looking.eight-no R n l e used)
+        (Looking.cond-here _ _ _ (Looking.nine-yes R n l e used o)))
+
+    -- u log words are used, f blocks are freed
+    module _ (o : getD t (recordCell (l - 1) 1) 0 ≡ 0 → ⊥) (u v f : ℕ) (eu : u ≡ getD t 9 0) (ev : v ≡ x)
+        (ef : f ≡ length (erased (viewOf g t) (l - 1) (viewOf g t .page (l - 1) v))) where
+      words-are : length (written g (stateOf g t) (Erase n x)) ≡ f
+      words-are =
+          length-map (freesOf g t (slot (stateOf g t) n) x) released ∙ sym (Looking.frees-are R n l e used v x f ev ef)
+
+      unused-is : g .words - stateOf g t .used ≡ g .words - u
+      unfolding stateOf
+      unused-is = ap (λ k. g .words - k) (sym eu)
+
+      pub erase-14 : g .words - u < f → replied g t (Erase n x) ≡ refused 14
+      unfolding replied
+      erase-14 s =
+          Looking.cond-next _ _ _ _ (lt-leb (g .pages) x (omega arith)) (Looking.cond-next _ _ _ _ (Looking.eight-no R n l e used)
+          (Looking.cond-next _ _ _ _ (Looking.nine-no R n l e used o)
+          (Looking.cond-here _ _ _ (lt-ltb (g .words - stateOf g t .used) (length (written g (stateOf g t) (Erase n x))) (omega (arith, words-are, unused-is))))))
+
+      pub erase-accepts : f ≤ g .words - u → NoneHolds (conditions g (stateOf g t) (Erase n x)) × (slot (stateOf g t) n ≡ l - 1)
+      erase-accepts s = (
+        (
+          lt-leb (g .pages) x (omega arith),
+          (
+            Looking.eight-no R n l e used,
+            (
+              Looking.nine-no R n l e used o,
+              (le-ltb (g .words - stateOf g t .used) (length (written g (stateOf g t) (Erase n x))) (omega (arith, words-are, unused-is)), tt),
+            ),
+          ),
+        ),
+        Looking.slot-is R n l e used,
+      )
+
+-- ── the action; l is the page's link as it was read, f how many blocks are freed ──
+
+fate-one : (b : ℕ) (f : Fate) → length (freedOne b f) ≡ 1 → freedOne b f ≡ (suc b - 1) ∷ []
+unfolding freedOne
+fate-one b freed e = ap (λ k. k ∷ []) (omega arith)
+fate-one b marked e = absurd (let z : ⊥ = omega arith in z)
+fate-one b kept e = absurd (let z : ⊥ = omega arith in z)
+
+fate-none : (b : ℕ) (f : Fate) → (length (freedOne b f) ≡ 1 → ⊥) → freedOne b f ≡ []
+unfolding freedOne
+fate-none b freed n = absurd (n refl)
+fate-none b marked n = refl
+fate-none b kept n = refl
+
+pub erased-one : (K : View) (s l : ℕ) → length (erased K s l) ≡ 1 → erased K s l ≡ (l - 1) ∷ []
+unfolding erased
+erased-one K s zero e = absurd (let z : ⊥ = omega arith in z)
+erased-one K s (suc b) e = fate-one b (fate (K .birth b) (predNum K s) (baseNum K s)) e
+
+pub erased-none : (K : View) (s l : ℕ) → (length (erased K s l) ≡ 1 → ⊥) → erased K s l ≡ []
+unfolding erased
+erased-none K s zero n = refl
+erased-none K s (suc b) n = fate-none b (fate (K .birth b) (predNum K s) (baseNum K s)) n
+
+pub erased-pos : (K : View) (s l : ℕ) → length (erased K s l) ≡ 1 → 0 < l
+unfolding erased
+erased-pos K s zero e = absurd (let z : ⊥ = omega arith in z)
+erased-pos K s (suc b) e = omega arith
+
+pub erased-few : (K : View) (s l : ℕ) → length (erased K s l) ≤ 1
+erased-few K s l = cases (same? (length (erased K s l)) 1) (λ e. omega arith) (λ n. omega (arith, ap length (erased-none K s l n)))
+
+pub few-freed : (K : View) (s l f : ℕ) → f ≡ length (erased K s l) → f ≤ 1
+few-freed K s l f e = omega (arith, erased-few K s l)
+
+module _ {g : Geometry} {t : List ℕ} {s x : ℕ} (A : Target g t s x) (l f : ℕ) (e : l ≡ getD t (Fields.pageCell s x) 0)
+    (ef : f ≡ length (erased (viewOf g t) s (viewOf g t .page s x))) where
+  pub frees-one : f ≡ 1 → freesOf g t s x ≡ (l - 1) ∷ []
+  unfolding stateOf
+  frees-one i =
+      let p : viewOf g t .page s x ≡ l = Fields.page-is g t s x (A .slot) (A .page) ∙ sym e in
+      erased-one (viewOf g t) s (viewOf g t .page s x) (sym ef ∙ i) ∙ ap (λ k. (k - 1) ∷ []) p
+
+  pub frees-none : (f ≡ 1 → ⊥) → freesOf g t s x ≡ []
+  unfolding stateOf
+  frees-none i = erased-none (viewOf g t) s (viewOf g t .page s x) (λ d. i (ef ∙ d))
+
+  pub link-pos : f ≡ 1 → 0 < l
+  unfolding stateOf
+  link-pos i =
+      let p : viewOf g t .page s x ≡ l = Fields.page-is g t s x (A .slot) (A .page) ∙ sym e in
+      omega (arith, erased-pos (viewOf g t) s (viewOf g t .page s x) (sym ef ∙ i))
+
+  -- the result
+  pub one-count : f ≡ 1 → 1 ≡ length (freesOf g t s x)
+  one-count i = sym (ap length (frees-one i))
+
+  pub one-out : f ≡ 1 → (out : List ℕ) → set out 0 (l - 1) ≡ sets out 0 (freesOf g t s x)
+  one-out i out = sym (ap (λ v. sets out 0 v) (frees-one i))
+
+  pub none-count : (f ≡ 1 → ⊥) → 0 ≡ length (freesOf g t s x)
+  none-count i = sym (ap length (frees-none i))
+
+  pub none-out : (f ≡ 1 → ⊥) → (out : List ℕ) → out ≡ sets out 0 (freesOf g t s x)
+  none-out i out = sym (ap (λ v. sets out 0 v) (frees-none i))
+
+  -- u: the tables with the page emptied
+  module _ (u : List ℕ) (eu : u ≡ stored g (emptied g t s x) t) where
+    -- nothing is freed
+    pub none-tables : (f ≡ 1 → ⊥) → u ≡ stored g (acted (stateOf g t) (doE s x) (length (map released (freesOf g t s x)))) t
+    unfolding acted emptied withUsed
+    none-tables i =
+        let k : stateOf g t .used ≡ stateOf g t .used + length (map released (freesOf g t s x)) = omega (arith, ap (λ v. length (map released v)) (frees-none i)) in
+        eu ∙ ap (λ k. stored g (withUsed (emptied g t s x) k) t) k
+
+    pub none-log : (f ≡ 1 → ⊥) → (log : List ℕ) → log ≡ writeAt log (8 * stateOf g t .used) (bytesOf (map released (freesOf g t s x)))
+    none-log i log =
+        sym (ap (λ v. writeAt log (8 * stateOf g t .used) (bytesOf (map released v))) (frees-none i) ∙ write-none log (8 * stateOf g t .used))
+
+    -- one block is freed
+    module _ (i : f ≡ 1) where
+      pub one-room : (log : List ℕ) → length (freesOf g t s x) ≤ g .words - getD t 9 0 → LogLong g log →
+          (9 < length u) × (getD u 9 0 < 8192) × (8 * getD u 9 0 + 8 ≤ length log)
+      one-room log h k =
+          let d = ap length (frees-one i) in
+          let a = Killing.emptied-used A u eu in
+          let m = A .ready .roomy .inside .words-most in
+          (Killing.emptied-room A u eu, omega arith, omega arith)
+
+      pub one-tables : set u 9 (getD u 9 0 + 1) ≡ stored g (acted (stateOf g t) (doE s x) (length (map released (freesOf g t s x)))) t
+      unfolding acted emptied withUsed stateOf
+      one-tables =
+          let k : getD u 9 0 + 1 ≡ stateOf g t .used + length (map released (freesOf g t s x)) =
+          omega (arith, Killing.emptied-used A u eu, ap (λ v. length (map released v)) (frees-one i)) in
+          step-used g t (A .ready .roomy) (Killing.emptied-holds A u eu) (getD u 9 0 + 1) .is ∙ ap (λ k. stored g (withUsed (emptied g t s x) k) t) k
+
+      pub one-log : (b : ℕ) (log m : List ℕ) → b ≡ l - 1 → m ≡ writeAt log (8 * getD u 9 0) (bytesOf ((b * 16384 + 2) ∷ [])) →
+          m ≡ writeAt log (8 * stateOf g t .used) (bytesOf (map released (freesOf g t s x)))
+      unfolding stateOf
+      one-log b log m eb d =
+          d ∙ ap (λ k. writeAt log (8 * k) (bytesOf ((b * 16384 + 2) ∷ []))) (Killing.emptied-used A u eu) ∙
+          ap (λ k. writeAt log (8 * getD t 9 0) (bytesOf (released k ∷ []))) eb ∙
+          ap (λ v. writeAt log (8 * getD t 9 0) (bytesOf (map released v))) (sym (frees-one i))
+
+-- ── the call: a verdict and what it tells ──
+
+pub judged-refused : (g : Geometry) (t : List ℕ) (n x : ℕ) (v : Verdict) (k : ℕ) → Judged g t n x v → v ≡ Refused k → replied g t (Erase n x) ≡ refused k
+judged-refused g t n x v k J e = subst (λ v. Judged g t n x v) e J
+
+pub judged-accept : (g : Geometry) (t : List ℕ) (n x : ℕ) (v : Verdict) (s : ℕ) → Judged g t n x v → v ≡ Accept s →
+    NoneHolds (conditions g (stateOf g t) (Erase n x)) × (slot (stateOf g t) n ≡ s)
+judged-accept g t n x v s J e = subst (λ v. Judged g t n x v) e J
+
+module _ {g : Geometry} {t : List ℕ} (R : Ready g t) (n x s w : ℕ) (none : NoneHolds (conditions g (stateOf g t) (Erase n x))) (es : slot (stateOf g t) n ≡ s)
+    (ew : w ≡ x) where
+  pub erase-target : Target g t s w
+  unfolding stateOf viewOf
+  erase-target =
+      let a = asks-E g (R .roomy .inside) (stateOf g t) (Looking.ready-fine R) n x none in
+      let live : 0 < viewOf g t .num s = rw es at (a .0) in
+      record { ready = R; slot = Ranges.slot-in R s live; live = live; isOpen = rw es at (a .1); page = rw (← ew) at (a .2) }
+
+  pub erase-fits : length (freesOf g t s w) ≤ g .words - getD t 9 0
+  unfolding stateOf
+  erase-fits =
+      omega (
+        arith,
+        ltb-false (g .words - stateOf g t .used) (length (written g (stateOf g t) (Erase n x))) (none .1 .1 .1 .0),
+        length-map (freesOf g t (slot (stateOf g t) n) x) released,
+        ap (λ k. length (freesOf g t k x)) es,
+        ap (λ k. length (freesOf g t s k)) ew,
+      )
+
+  frees-same : freesOf g t s w ≡ freesOf g t (slot (stateOf g t) n) x
+  frees-same = ap (λ k. freesOf g t k w) (sym es) ∙ ap (freesOf g t (slot (stateOf g t) n)) ew
+
+  pub erase-out : (out m : List ℕ) (k : ℕ) → OutLong g out → k ≡ length (freesOf g t s w) → m ≡ sets out 0 (freesOf g t s w) →
+      (replyOf (Done k) m ≡ replied g t (Erase n x)) × (m ≡ outLeft g t out (Erase n x))
+  erase-out out m k long e d =
+      Answers.done-out g t (Erase n x) none k out m (e ∙ ap length frees-same)
+      (omega (arith, erased-few (stateOf g t .view) s (stateOf g t .view .page s w))) (d ∙ ap (λ v. sets out 0 v) frees-same)
+
+  pub erase-tables : (u : List ℕ) → u ≡ stored g (acted (stateOf g t) (doE s w) (length (map released (freesOf g t s w)))) t → u ≡ tablesLeft g t (Erase n x)
+  erase-tables u d =
+      Answers.done-tables g t (Erase n x) none u
+      (d ∙ ap (λ v. stored g (acted (stateOf g t) (doE s w) (length (map released v))) t) frees-same ∙
+      ap (λ k. stored g (acted (stateOf g t) (doE k w) (length (written g (stateOf g t) (Erase n x)))) t) (sym es) ∙
+      ap (λ k. stored g (acted (stateOf g t) (doE (slot (stateOf g t) n) k) (length (written g (stateOf g t) (Erase n x)))) t) ew)
+
+  pub erase-log : (log m : List ℕ) → m ≡ writeAt log (8 * stateOf g t .used) (bytesOf (map released (freesOf g t s w))) → m ≡ logLeft g t log (Erase n x)
+  erase-log log m d =
+      Answers.done-log g t (Erase n x) none log m (d ∙ ap (λ v. writeAt log (8 * stateOf g t .used) (bytesOf (map released v))) frees-same)

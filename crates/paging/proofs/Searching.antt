@@ -1,0 +1,100 @@
+-- The search of a free block, on the lent tables.
+use mathlib.Core.Path.{_≡_, refl, sym, ap, ap₂, _∙_}
+use mathlib.Core.Bool.{Bool, cond}
+use mathlib.Core.List.{List}
+use Prim.Native.Nat.{ℕ, zero, suc, _+_, _-_, _*_, _%_, _≤_, _<_}
+use native.Mathlib.Nat.{mod-lt}
+use native.Mathlib.Omega.{arith}
+use lib.Dec.{eqb}
+use lib.ListN.{length, getD, take, drop, length-drop}
+use lib.Seq.{getD-take, getD-drop, length-take-le}
+use Rattle.geometry.specs.declared.Geometry.{Geometry}
+use Rattle.geometry.specs.Limits.{blocks}
+use Rattle.choice.specs.declared.Found.{Found}
+use Rattle.choice.specs.declared.Found.the-variants.{At}
+use Rattle.choice.specs.Search.{orElse, firstFree, inArena, inArenas, chosen}
+use Rattle.choice.specs.Rows.{freeIn, markIn, Fine}
+use Rattle.choice.proofs.Ranges.{block-inside}
+use Rattle.model.specs.Held.{available}
+use Rattle.model.specs.Calls.{found}
+use Rattle.model.specs.Layout.{stateOf}
+use Rattle.tables.specs.Ready.{Ready}
+use Rattle.tables.proofs.Fields
+
+-- ── the choice depends on the blocks and marks of the store alone ──
+
+module _ (p q : ℕ → Bool) (m k : ℕ → ℕ) (arenas per : ℕ) (frees : (b : ℕ) → b < arenas * per → p b ≡ q b)
+    (marks : (a : ℕ) → a < arenas → m a ≡ k a) (low : (a : ℕ) → a < arenas → m a < per) where
+  first-same : (a o n : ℕ) → a < arenas → o + n ≤ per → firstFree p per a o n ≡ firstFree q per a o n
+  unfolding firstFree
+  first-same a o zero h l = refl
+  first-same a o (suc n) h l =
+      ap₂ (λ y f. cond y (At a o) f) (frees (a * per + o) (block-inside a arenas per o h (omega arith))) (first-same a (suc o) n h (omega arith))
+
+  arena-same : (a : ℕ) → a < arenas → inArena p m per a ≡ inArena q k per a
+  unfolding inArena
+  arena-same a h =
+      let l : m a < per = low a h in
+      ap₂ orElse
+      (first-same a (m a) (per - m a) h (omega arith) ∙ ap (λ i. firstFree q per a i (per - i)) (marks a h))
+      (first-same a 0 (m a) h (omega arith) ∙ ap (firstFree q per a 0) (marks a h))
+
+  arenas-same : (f n : ℕ) → 0 < arenas → inArenas p m arenas per f n ≡ inArenas q k arenas per f n
+  unfolding inArenas
+  arenas-same f zero h = refl
+  arenas-same f (suc n) h = ap₂ orElse (arena-same (f % arenas) (mod-lt f h)) (arenas-same (suc f) n h)
+
+  pub chosen-same : (first : ℕ) → 0 < arenas → chosen p m arenas per first ≡ chosen q k arenas per first
+  unfolding chosen
+  chosen-same first h = arenas-same first arenas h
+
+-- ── the parts of the tables that the search is lent: n numbers from i on ──
+
+part-at : (t : List ℕ) (i n j : ℕ) → j < n → getD (take n (drop i t)) j 0 ≡ getD t (i + j) 0
+part-at t i n j h = getD-take n (drop i t) j 0 h ∙ getD-drop i t j 0
+
+part-long : (t : List ℕ) (i n : ℕ) → i + n ≤ length t → length (take n (drop i t)) ≡ n
+part-long t i n h = length-take-le n (drop i t) (omega (arith, length-drop i t))
+
+module _ {g : Geometry} {t : List ℕ} (R : Ready g t) where
+  abbrev start : ℕ
+  start = 32 + 272 * g .records
+
+  abbrev rows : List ℕ
+  rows = take (length t - start) (drop start t)
+
+  abbrev marks : List ℕ
+  marks = take 16 (drop 16 t)
+
+  mark-at : (a : ℕ) → a < g .arenas → getD marks a 0 ≡ stateOf g t .mark a
+  mark-at a h = part-at t 16 16 a (omega (arith, R .roomy .inside .arenas-most)) ∙ sym (Fields.mark-is g t a h)
+
+  free-at : (b : ℕ) → b < blocks g → freeIn rows b ≡ available (stateOf g t .view) b
+  unfolding freeIn available stateOf
+  free-at b h =
+      ap (λ v. eqb v 0) (part-at t start (length t - start) (8 * b) (omega (arith, R .roomy .room)) ∙ sym (Fields.birth-is g t b h))
+
+  pub search-fine : (c k : ℕ) → c ≡ getD t 7 0 → k ≤ 2 →
+      Fine (take (length t - (32 + 272 * g .records)) (drop (32 + 272 * g .records) t)) (take 16 (drop 16 t)) (g .arenas) (g .per) c k
+  unfolding stateOf
+  search-fine c k e h = record {
+    arenas-least = R .roomy .inside .arenas-least;
+    arenas-most = R .roomy .inside .arenas-most;
+    per-least = R .roomy .inside .per-least;
+    per-most = R .roomy .inside .per-most;
+    rows-long = omega (arith, R .roomy .room, part-long t start (length t - start) (omega (arith, R .roomy .room)));
+    marks-long = omega (arith, R .roomy .inside .arenas-most, part-long t 16 16 (omega (arith, R .roomy .room)));
+    marks-low = λ a l. omega (arith, mark-at a l, R .range .marks a);
+    counter-low = omega (arith, R .range .counter);
+    kind-low = h;
+  }
+
+  pub search-is : (r : Found) (c k v : ℕ) → c ≡ getD t 7 0 → k ≡ v →
+      r ≡ chosen (freeIn (take (length t - (32 + 272 * g .records)) (drop (32 + 272 * g .records) t))) (markIn (take 16 (drop 16 t))) (g .arenas) (g .per) (c + k) →
+      r ≡ found g (stateOf g t) v
+  unfolding found markIn
+  search-is r c k v e ek d =
+      d ∙ chosen-same (freeIn rows) (available (stateOf g t .view)) (markIn marks) (stateOf g t .mark) (g .arenas) (g .per)
+      free-at mark-at (λ a l. omega (arith, mark-at a l, R .range .marks a)) (c + k) (R .roomy .inside .arenas-least) ∙
+      ap (λ f. chosen (available (stateOf g t .view)) (stateOf g t .mark) (g .arenas) (g .per) f)
+      (omega (arith, Fields.counter-is g t))

@@ -1,0 +1,84 @@
+-- The refusals of E in their order, or the slot.
+use native.Mathlib.Omega.{arith}
+use borrow.Author.Needs.{needs}
+use Rattle.paging.proofs.Looking
+use Rattle.paging.proofs.Erasing
+use Rattle.paging.proofs.erase.erase_verdict.Statement.{statement}
+use Rattle.paging.proofs.erase.erase_verdict.Tie as tie
+
+wide-requires : tie.Need-wide-requires
+wide-requires c κs = search needs
+
+returns : tie.Need-returns
+returns c = Erasing.erase-5 _ _ _ _ _ (c .before .before .wide .ensures) (c .if1 .taken)
+
+slot-of-requires : tie.Need-slot-of-requires
+slot-of-requires c κs = search needs
+
+returns-2 : tie.Need-returns-2
+returns-2 c = Erasing.erase-8 _ _ _ _ _ (c .before .before .before .before .wide .ensures) _ (c .before .before .if1 .left) (c .before .slot-of .ensures .0) (c .if2 .taken)
+
+sub-s : tie.Need-sub-s
+sub-s c = search needs
+
+mul-if3 : tie.Need-mul-if3
+mul-if3 c = search needs
+
+add-if3 : tie.Need-add-if3
+add-if3 c = search needs
+
+add-if3-2 : tie.Need-add-if3-2
+add-if3-2 c = search needs
+
+mul-if3-2 : tie.Need-mul-if3-2
+mul-if3-2 c = search needs
+
+shared-slice-read-if3 : tie.Need-shared-slice-read-if3
+shared-slice-read-if3 c = search needs
+
+returns-3 : tie.Need-returns-3
+returns-3 c = Erasing.erase-9 _ _ _ _ _ (c .before .before .before .before .before .before .wide .ensures) (c .before .before .before .before .before .before .before .before .pre) _ (c .before .before .before .before .if1 .left) (c .before .before .before .slot-of .ensures .0) (c .before .before .if2 .left) (c .if3 .taken)
+
+shared-slice-read-wide : tie.Need-shared-slice-read-wide
+shared-slice-read-wide c = search needs
+
+wide-requires-2 : tie.Need-wide-requires-2
+wide-requires-2 c κs = search needs
+
+sub-if4 : tie.Need-sub-if4
+sub-if4 c = omega (arith, Looking.used-le (c .before .before .before .before .before .before .before .before .before .before .before .pre))
+
+wide-requires-3 : tie.Need-wide-requires-3
+wide-requires-3 c κs = search needs
+
+frees-on-requires : tie.Need-frees-on-requires
+frees-on-requires c κs = (c .before .before .before .before .before .before .before .before .before .before .before .before .pre, omega (arith, c .before .before .before .before .before .before .before .slot-of .ensures .1), Looking.named-live (c .before .before .before .before .before .before .before .before .before .before .before .before .pre) _ _ (c .before .before .before .before .before .before .before .slot-of .ensures .0) (c .before .before .before .before .before .before .if2 .left), omega arith)
+
+returns-4 : tie.Need-returns-4
+returns-4 c = Erasing.erase-14 _ _ _ _ _ (c .before .before .before .before .before .before .before .before .before .before .before .before .wide .ensures) (c .before .before .before .before .before .before .before .before .before .before .before .before .before .before .pre) _ (c .before .before .before .before .before .before .before .before .before .before .if1 .left) (c .before .before .before .before .before .before .before .before .before .slot-of .ensures .0) (c .before .before .before .before .before .before .before .before .if2 .left) (c .before .before .before .before .before .before .if3 .left) _ _ _ (c .before .before .before .before .wide2 .ensures) (c .before .before .wide3 .ensures) (c .before .frees-on .ensures) (c .if4 .taken)
+
+returns-5 : tie.Need-returns-5
+returns-5 c = Erasing.erase-accepts _ _ _ _ _ (c .before .before .before .before .before .before .before .before .before .before .before .before .wide .ensures) (c .before .before .before .before .before .before .before .before .before .before .before .before .before .before .pre) _ (c .before .before .before .before .before .before .before .before .before .before .if1 .left) (c .before .before .before .before .before .before .before .before .before .slot-of .ensures .0) (c .before .before .before .before .before .before .before .before .if2 .left) (c .before .before .before .before .before .before .if3 .left) _ _ _ (c .before .before .before .before .wide2 .ensures) (c .before .before .wide3 .ensures) (c .before .frees-on .ensures) (c .if4 .left)
+
+pub erase-verdict-spec : {M : Type 1} → statement M
+erase-verdict-spec =
+    tie.close
+    (tie.spec
+    wide-requires
+    returns
+    slot-of-requires
+    returns-2
+    sub-s
+    mul-if3
+    add-if3
+    add-if3-2
+    mul-if3-2
+    shared-slice-read-if3
+    returns-3
+    shared-slice-read-wide
+    wide-requires-2
+    sub-if4
+    wide-requires-3
+    frees-on-requires
+    returns-4
+    returns-5)

@@ -1,0 +1,39 @@
+-- The old block is killed, the new one is put there, the mark and the turn move.
+use borrow.Author.Needs.{needs}
+use Rattle.paging.proofs.Placing
+use Rattle.paging.proofs.place.fill_page.Statement.{statement}
+use Rattle.paging.proofs.place.fill_page.Tie as tie
+
+kill-on-requires : tie.Need-kill-on-requires
+kill-on-requires c κs = search needs
+
+mul-put-block : tie.Need-mul-put-block
+mul-put-block c = search needs
+
+add-put-block : tie.Need-add-put-block
+add-put-block c = search needs
+
+put-block-requires : tie.Need-put-block-requires
+put-block-requires c κs = let A = c .before .before .before .before .before .before .before .pre .0 in let P = c .before .before .before .before .before .before .before .pre .1 in (Placing.emptied-kept A P _ (c .before .before .before .before .kill-on .ensures), A .slot, A .page, P .block)
+
+turn-on-requires : tie.Need-turn-on-requires
+turn-on-requires c κs = let A = c .before .before .before .before .before .before .before .before .before .before .before .pre .0 in let P = c .before .before .before .before .before .before .before .before .before .before .before .pre .1 in let k = c .before .before .before .before .before .before .before .before .kill-on .ensures in let p = c .before .before .before .put-block .ensures in
+    (Placing.block-kept A P _ k _ p, P .arena, P .offset, Placing.block-counter A P _ k _ p, Placing.block-writes A P _ k _ p)
+
+same-length : tie.Need-same-length
+same-length c = search needs
+
+returns : tie.Need-returns
+returns c = Placing.page-filled (c .before .before .before .before .before .before .before .before .before .before .before .before .before .before .pre .0) (c .before .before .before .before .before .before .before .before .before .before .before .before .before .before .pre .1) _ (c .before .before .before .before .before .before .before .before .before .before .before .kill-on .ensures) _ (c .before .before .before .before .before .before .put-block .ensures) _ (c .before .before .turn-on .ensures)
+
+pub fill-page-spec : {M : Type 1} → statement M
+fill-page-spec =
+    tie.close
+    (tie.spec
+    kill-on-requires
+    mul-put-block
+    add-put-block
+    put-block-requires
+    turn-on-requires
+    same-length
+    returns)

@@ -1,0 +1,88 @@
+-- R: two refusals, an empty page, a block.
+use native.Mathlib.Omega.{arith}
+use borrow.Author.Needs.{needs}
+use Rattle.paging.proofs.Answers
+use Rattle.paging.proofs.Looking
+use Rattle.paging.proofs.read.read.Statement.{statement}
+use Rattle.paging.proofs.read.read.Tie as tie
+
+wide-requires : tie.Need-wide-requires
+wide-requires c κs = search needs
+
+returns : tie.Need-returns
+returns c = Answers.refused-out _ _ _ _ (Looking.read-5 _ _ _ _ _ (c .before .before .wide .ensures) (c .if1 .taken)) _
+
+slot-of-requires : tie.Need-slot-of-requires
+slot-of-requires c κs = search needs
+
+returns-2 : tie.Need-returns-2
+returns-2 c = Answers.refused-out _ _ _ _ (Looking.read-8 _ _ _ _ _ (c .before .before .before .before .wide .ensures) _ (c .before .before .if1 .left) (c .before .slot-of .ensures .0) (c .if2 .taken)) _
+
+sub-wide : tie.Need-sub-wide
+sub-wide c = search needs
+
+mul-wide : tie.Need-mul-wide
+mul-wide c = search needs
+
+add-wide : tie.Need-add-wide
+add-wide c = search needs
+
+add-wide-2 : tie.Need-add-wide-2
+add-wide-2 c = search needs
+
+wide-requires-2 : tie.Need-wide-requires-2
+wide-requires-2 c κs = search needs
+
+add-wide-3 : tie.Need-add-wide-3
+add-wide-3 c = search needs
+
+mul-wide-2 : tie.Need-mul-wide-2
+mul-wide-2 c = search needs
+
+shared-slice-read-wide : tie.Need-shared-slice-read-wide
+shared-slice-read-wide c = search needs
+
+wide-requires-3 : tie.Need-wide-requires-3
+wide-requires-3 c κs = search needs
+
+returns-3 : tie.Need-returns-3
+returns-3 c = Looking.read-empty _ _ _ _ _ (c .before .before .before .before .before .before .before .before .wide .ensures) (c .before .before .before .before .before .before .before .before .before .before .before .pre .0) _ (c .before .before .before .before .before .before .if1 .left) (c .before .before .before .before .before .slot-of .ensures .0) (c .before .before .before .before .if2 .left) _ _ (c .before .before .before .wide2 .ensures) (c .before .wide3 .ensures) _ (c .if3 .taken)
+
+sub-out : tie.Need-sub-out
+sub-out c = search needs
+
+cast-out : tie.Need-cast-out
+cast-out c = omega (arith, Looking.read-le _ _ _ _ _ (c .before .before .before .before .before .before .before .before .wide .ensures) (c .before .before .before .before .before .before .before .before .before .before .before .pre .0) _ (c .before .before .before .before .before .before .if1 .left) (c .before .before .before .before .before .slot-of .ensures .0) (c .before .before .before .before .if2 .left) _ _ (c .before .before .before .wide2 .ensures) (c .before .wide3 .ensures))
+
+slice-write-out : tie.Need-slice-write-out
+slice-write-out c = search needs
+
+same-length : tie.Need-same-length
+same-length c = search needs
+
+returns-4 : tie.Need-returns-4
+returns-4 c = Looking.read-one _ _ _ _ _ (c .before .before .before .before .before .before .before .before .wide .ensures) (c .before .before .before .before .before .before .before .before .before .before .before .pre .0) _ (c .before .before .before .before .before .before .if1 .left) (c .before .before .before .before .before .slot-of .ensures .0) (c .before .before .before .before .if2 .left) _ _ (c .before .before .before .wide2 .ensures) (c .before .wide3 .ensures) _ (c .before .before .before .before .before .before .before .before .before .before .before .pre .1) (c .if3 .left)
+
+pub read-spec : {M : Type 1} → statement M
+read-spec =
+    tie.close
+    (tie.spec
+    wide-requires
+    returns
+    slot-of-requires
+    returns-2
+    sub-wide
+    mul-wide
+    add-wide
+    add-wide-2
+    wide-requires-2
+    add-wide-3
+    mul-wide-2
+    shared-slice-read-wide
+    wide-requires-3
+    returns-3
+    sub-out
+    cast-out
+    slice-write-out
+    same-length
+    returns-4)

@@ -1,0 +1,155 @@
+-- The page is filled; the block and the one that is freed are logged and given.
+use native.Mathlib.Omega.{arith}
+use borrow.Author.Needs.{needs}
+use mathlib.Core.Path.{refl, _∙_}
+use lib.ListN.{length-set}
+use Rattle.paging.proofs.Killing
+use Rattle.paging.proofs.Erasing
+use Rattle.paging.proofs.Giving
+use Rattle.paging.proofs.write.write_page.Statement.{statement}
+use Rattle.paging.proofs.write.write_page.Tie as tie
+
+mul-wide : tie.Need-mul-wide
+mul-wide c = search needs
+
+add-wide : tie.Need-add-wide
+add-wide c = search needs
+
+add-wide-2 : tie.Need-add-wide-2
+add-wide-2 c = search needs
+
+add-wide-3 : tie.Need-add-wide-3
+add-wide-3 c = search needs
+
+mul-wide-2 : tie.Need-mul-wide-2
+mul-wide-2 c = search needs
+
+slice-read-wide : tie.Need-slice-read-wide
+slice-read-wide c = search needs
+
+wide-requires : tie.Need-wide-requires
+wide-requires c κs = search needs
+
+frees-on-requires : tie.Need-frees-on-requires
+frees-on-requires c κs = search needs
+
+fill-page-requires : tie.Need-fill-page-requires
+fill-page-requires c κs = search needs
+
+mul-b : tie.Need-mul-b
+mul-b c = search needs
+
+add-b : tie.Need-add-b
+add-b c = search needs
+
+cast-out : tie.Need-cast-out
+cast-out c = search needs
+
+slice-write-out : tie.Need-slice-write-out
+slice-write-out c = search needs
+
+sub-old : tie.Need-sub-old
+sub-old c = omega (arith, Erasing.link-pos (c .before .before .before .before .before .before .before .before .before .before .before .before .before .pre .0) _ _ (c .before .before .before .before .before .before .before .before .wide .ensures) (c .before .before .before .before .before .before .frees-on .ensures) (c .if1 .taken))
+
+mul-log-two : tie.Need-mul-log-two
+mul-log-two c = search needs
+
+add-log-two : tie.Need-add-log-two
+add-log-two c = search needs
+
+mul-log-two-2 : tie.Need-mul-log-two-2
+mul-log-two-2 c = omega (arith, Killing.link-small (c .before .before .before .before .before .before .before .before .before .before .before .before .before .before .before .pre .0) _ (c .before .before .before .before .before .before .before .before .before .before .wide .ensures))
+
+add-log-two-2 : tie.Need-add-log-two-2
+add-log-two-2 c = omega (arith, Killing.link-small (c .before .before .before .before .before .before .before .before .before .before .before .before .before .before .before .pre .0) _ (c .before .before .before .before .before .before .before .before .before .before .wide .ensures))
+
+log-two-requires : tie.Need-log-two-requires
+log-two-requires c κs = Giving.two-room (c .before .before .before .before .before .before .before .before .before .before .before .before .before .before .before .pre .0) (c .before .before .before .before .before .before .before .before .before .before .before .before .before .before .before .pre .1) _ _ (c .before .before .before .before .before .before .before .before .before .before .wide .ensures) (c .before .before .before .before .before .before .before .before .frees-on .ensures) _ (c .before .before .before .before .before .before .fill-page .ensures) (c .before .before .if1 .taken) (c .before .before .before .before .before .before .before .before .before .before .before .before .before .before .before .args .log .now) (c .before .before .before .before .before .before .before .before .before .before .before .before .before .before .before .pre .2) (c .before .before .before .before .before .before .before .before .before .before .before .before .before .before .before .pre .3)
+
+cast-out-2 : tie.Need-cast-out-2
+cast-out-2 c = omega (arith, Killing.link-small (c .before .before .before .before .before .before .before .before .before .before .before .before .before .before .before .before .before .before .before .before .pre .0) _ (c .before .before .before .before .before .before .before .before .before .before .before .before .before .before .before .wide .ensures))
+
+slice-write-out-2 : tie.Need-slice-write-out-2
+slice-write-out-2 c = simp length-set (omega (arith, c .before .before .before .before .before .before .before .before .before .before .before .before .before .before .before .before .before .before .before .before .pre .4))
+
+same-length : tie.Need-same-length
+same-length c = search needs
+
+same-length-2 : tie.Need-same-length-2
+same-length-2 c = search needs
+
+same-length-3 : tie.Need-same-length-3
+same-length-3 c = search needs
+
+returns : tie.Need-returns
+returns c = let A = c .before .before .before .before .before .before .before .before .before .before .before .before .before .before .before .before .before .before .before .before .pre .0 in let P = c .before .before .before .before .before .before .before .before .before .before .before .before .before .before .before .before .before .before .before .before .pre .1 in let w = c .before .before .before .before .before .before .before .before .before .before .before .before .before .before .before .wide .ensures in let f = c .before .before .before .before .before .before .before .before .before .before .before .before .before .frees-on .ensures in let p = c .before .before .before .before .before .before .before .before .before .before .before .fill-page .ensures in let i = c .before .before .before .before .before .before .before .if1 .taken in (
+  Giving.two-count A P _ _ w f i,
+  (
+    c .before .before .before .before .log-two .ensures .0 ∙ Giving.two-tables A P _ _ w f _ p i,
+    (Giving.two-log A P _ _ w f _ p i _ _ (c .before .before .before .before .before .before .before .before .before .before .before .before .before .before .before .before .before .before .before .before .args .log .now) _ refl refl (c .before .before .before .before .log-two .ensures .1), Giving.two-out A P _ _ w f i (c .before .before .before .before .before .before .before .before .before .before .before .before .before .before .before .before .before .before .before .before .args .out .now)),
+  ),
+)
+
+mul-log-one : tie.Need-mul-log-one
+mul-log-one c = search needs
+
+add-log-one : tie.Need-add-log-one
+add-log-one c = search needs
+
+log-one-requires : tie.Need-log-one-requires
+log-one-requires c κs = Giving.one-room (c .before .before .before .before .before .before .before .before .before .before .before .before .before .before .before .pre .0) (c .before .before .before .before .before .before .before .before .before .before .before .before .before .before .before .pre .1) _ _ (c .before .before .before .before .before .before .before .before .before .before .wide .ensures) (c .before .before .before .before .before .before .before .before .frees-on .ensures) _ (c .before .before .before .before .before .before .fill-page .ensures) (c .before .before .if1 .left) (c .before .before .before .before .before .before .before .before .before .before .before .before .before .before .before .args .log .now) (c .before .before .before .before .before .before .before .before .before .before .before .before .before .before .before .pre .2) (c .before .before .before .before .before .before .before .before .before .before .before .before .before .before .before .pre .3)
+
+same-length-4 : tie.Need-same-length-4
+same-length-4 c = search needs
+
+same-length-5 : tie.Need-same-length-5
+same-length-5 c = search needs
+
+same-length-6 : tie.Need-same-length-6
+same-length-6 c = search needs
+
+returns-2 : tie.Need-returns-2
+returns-2 c = let A = c .before .before .before .before .before .before .before .before .before .before .before .before .before .before .before .before .before .before .before .before .pre .0 in let P = c .before .before .before .before .before .before .before .before .before .before .before .before .before .before .before .before .before .before .before .before .pre .1 in let w = c .before .before .before .before .before .before .before .before .before .before .before .before .before .before .before .wide .ensures in let f = c .before .before .before .before .before .before .before .before .before .before .before .before .before .frees-on .ensures in let p = c .before .before .before .before .before .before .before .before .before .before .before .fill-page .ensures in let i = c .before .before .before .before .before .before .before .if1 .left in (
+  Giving.one-count A P _ _ w f i,
+  (
+    c .before .before .before .before .log-one .ensures .0 ∙ Giving.one-tables A P _ _ w f _ p i,
+    (Giving.one-log A P _ _ w f _ p i _ (c .before .before .before .before .before .before .before .before .before .before .before .before .before .before .before .before .before .before .before .before .args .log .now) _ refl (c .before .before .before .before .log-one .ensures .1), Giving.one-out A P _ _ w f i (c .before .before .before .before .before .before .before .before .before .before .before .before .before .before .before .before .before .before .before .before .args .out .now)),
+  ),
+)
+
+pub write-page-spec : {M : Type 1} → statement M
+write-page-spec =
+    tie.close
+    (tie.spec
+    mul-wide
+    add-wide
+    add-wide-2
+    add-wide-3
+    mul-wide-2
+    slice-read-wide
+    wide-requires
+    frees-on-requires
+    fill-page-requires
+    mul-b
+    add-b
+    cast-out
+    slice-write-out
+    sub-old
+    mul-log-two
+    add-log-two
+    mul-log-two-2
+    add-log-two-2
+    log-two-requires
+    cast-out-2
+    slice-write-out-2
+    same-length
+    same-length-2
+    same-length-3
+    returns
+    mul-log-one
+    add-log-one
+    log-one-requires
+    same-length-4
+    same-length-5
+    same-length-6
+    returns-2)

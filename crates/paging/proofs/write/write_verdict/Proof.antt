@@ -1,0 +1,109 @@
+-- The refusals of W in their order, or the slot and the place of the block.
+use native.Mathlib.Omega.{arith}
+use borrow.Author.Needs.{needs}
+use Rattle.paging.proofs.Looking
+use Rattle.paging.proofs.Erasing
+use Rattle.paging.proofs.Giving
+use Rattle.paging.proofs.write.write_verdict.Statement.{statement}
+use Rattle.paging.proofs.write.write_verdict.Tie as tie
+
+wide-requires : tie.Need-wide-requires
+wide-requires c κs = search needs
+
+returns : tie.Need-returns
+returns c = Giving.write-5 _ _ _ _ _ _ (c .before .before .wide .ensures) (c .if1 .taken)
+
+returns-2 : tie.Need-returns-2
+returns-2 c = Giving.write-6 _ _ _ _ _ _ (c .before .before .before .wide .ensures) (c .before .if1 .left) (c .if2 .taken)
+
+slot-of-requires : tie.Need-slot-of-requires
+slot-of-requires c κs = search needs
+
+returns-3 : tie.Need-returns-3
+returns-3 c = Giving.write-8 _ _ _ _ _ _ (c .before .before .before .before .before .wide .ensures) (c .before .before .before .if1 .left) (c .before .before .if2 .left) _ (c .before .slot-of .ensures .0) (c .if3 .taken)
+
+sub-s : tie.Need-sub-s
+sub-s c = search needs
+
+mul-if4 : tie.Need-mul-if4
+mul-if4 c = search needs
+
+add-if4 : tie.Need-add-if4
+add-if4 c = search needs
+
+add-if4-2 : tie.Need-add-if4-2
+add-if4-2 c = search needs
+
+mul-if4-2 : tie.Need-mul-if4-2
+mul-if4-2 c = search needs
+
+shared-slice-read-if4 : tie.Need-shared-slice-read-if4
+shared-slice-read-if4 c = search needs
+
+returns-4 : tie.Need-returns-4
+returns-4 c = Giving.write-9 _ _ _ _ _ _ (c .before .before .before .before .before .before .before .wide .ensures) (c .before .before .before .before .before .if1 .left) (c .before .before .before .before .if2 .left) _ (c .before .before .before .slot-of .ensures .0) (c .before .before .before .before .before .before .before .before .before .pre) (c .before .before .if3 .left) (c .if4 .taken)
+
+search-requires : tie.Need-search-requires
+search-requires c κs = search needs
+
+enum-known-found : tie.Need-enum-known-found
+enum-known-found c = search needs
+
+enum-told : tie.Need-enum-told
+enum-told c = search needs
+
+returns-5 : tie.Need-returns-5
+returns-5 c = Giving.write-13 _ _ _ _ _ _ (c .before .before .before .before .before .before .before .before .before .before .wide .ensures) (c .before .before .before .before .before .before .before .before .if1 .left) (c .before .before .before .before .before .before .before .if2 .left) _ (c .before .before .before .before .before .before .slot-of .ensures .0) (c .before .before .before .before .before .before .before .before .before .before .before .before .pre) (c .before .before .before .before .before .if3 .left) (c .before .before .before .if4 .left) _ (c .before .before .search .ensures) (c .enum-told .given .1)
+
+shared-slice-read-wide : tie.Need-shared-slice-read-wide
+shared-slice-read-wide c = search needs
+
+wide-requires-2 : tie.Need-wide-requires-2
+wide-requires-2 c κs = search needs
+
+sub-if5 : tie.Need-sub-if5
+sub-if5 c = omega (arith, Looking.used-le (c .before .before .before .before .before .before .before .before .before .before .before .before .before .before .before .before .pre))
+
+wide-requires-3 : tie.Need-wide-requires-3
+wide-requires-3 c κs = search needs
+
+frees-on-requires : tie.Need-frees-on-requires
+frees-on-requires c κs = (c .before .before .before .before .before .before .before .before .before .before .before .before .before .before .before .before .before .pre, omega (arith, c .before .before .before .before .before .before .before .before .before .before .before .slot-of .ensures .1, c .before .before .before .before .before .before .before .before .before .before .if3 .left), Looking.named-live (c .before .before .before .before .before .before .before .before .before .before .before .before .before .before .before .before .before .pre) _ _ (c .before .before .before .before .before .before .before .before .before .before .before .slot-of .ensures .0) (c .before .before .before .before .before .before .before .before .before .before .if3 .left), omega (arith, c .wide3 .ensures, c .before .before .before .before .before .before .before .before .before .before .before .before .before .before .before .wide .ensures, c .before .before .before .before .before .before .before .before .before .before .before .before .before .if1 .left))
+
+add-if5 : tie.Need-add-if5
+add-if5 c = omega (arith, Erasing.few-freed _ _ _ _ (c .frees-on .ensures))
+
+returns-6 : tie.Need-returns-6
+returns-6 c = Giving.write-14 _ _ _ _ _ _ (c .before .before .before .before .before .before .before .before .before .before .before .before .before .before .before .before .before .wide .ensures) (c .before .before .before .before .before .before .before .before .before .before .before .before .before .before .before .if1 .left) (c .before .before .before .before .before .before .before .before .before .before .before .before .before .before .if2 .left) _ (c .before .before .before .before .before .before .before .before .before .before .before .before .before .slot-of .ensures .0) (c .before .before .before .before .before .before .before .before .before .before .before .before .before .before .before .before .before .before .before .pre) (c .before .before .before .before .before .before .before .before .before .before .before .before .if3 .left) (c .before .before .before .before .before .before .before .before .before .before .if4 .left) _ (c .before .before .before .before .before .before .before .before .before .search .ensures) _ _ (c .before .before .before .before .before .before .before .found .given .1) _ _ _ (c .before .before .before .before .wide2 .ensures) (c .before .before .wide3 .ensures) (c .before .frees-on .ensures) (c .if5 .taken)
+
+returns-7 : tie.Need-returns-7
+returns-7 c = Giving.write-accepts _ _ _ _ _ _ (c .before .before .before .before .before .before .before .before .before .before .before .before .before .before .before .before .before .wide .ensures) (c .before .before .before .before .before .before .before .before .before .before .before .before .before .before .before .if1 .left) (c .before .before .before .before .before .before .before .before .before .before .before .before .before .before .if2 .left) _ (c .before .before .before .before .before .before .before .before .before .before .before .before .before .slot-of .ensures .0) (c .before .before .before .before .before .before .before .before .before .before .before .before .before .before .before .before .before .before .before .pre) (c .before .before .before .before .before .before .before .before .before .before .before .before .if3 .left) (c .before .before .before .before .before .before .before .before .before .before .if4 .left) _ (c .before .before .before .before .before .before .before .before .before .search .ensures) _ _ (c .before .before .before .before .before .before .before .found .given .1) _ _ _ (c .before .before .before .before .wide2 .ensures) (c .before .before .wide3 .ensures) (c .before .frees-on .ensures) (c .if5 .left)
+
+pub write-verdict-spec : {M : Type 1} → statement M
+write-verdict-spec =
+    tie.close
+    (tie.spec
+    wide-requires
+    returns
+    returns-2
+    slot-of-requires
+    returns-3
+    sub-s
+    mul-if4
+    add-if4
+    add-if4-2
+    mul-if4-2
+    shared-slice-read-if4
+    returns-4
+    search-requires
+    enum-known-found
+    enum-told
+    returns-5
+    shared-slice-read-wide
+    wide-requires-2
+    sub-if5
+    wide-requires-3
+    frees-on-requires
+    add-if5
+    returns-6
+    returns-7)

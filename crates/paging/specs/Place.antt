@@ -1,0 +1,36 @@
+-- A free block goes on a page: what that asks, and the states that it leaves.
+use mathlib.Core.Path.{_≡_}
+use mathlib.Core.List.{List}
+use Prim.Native.Nat.{ℕ, _+_, _*_, _≤_, _<_}
+use lib.ListN.{getD}
+use Rattle.geometry.specs.declared.Geometry.{Geometry}
+use Rattle.geometry.specs.Limits.{blocks}
+use Rattle.choice.specs.declared.Found.the-variants.{At}
+use Rattle.model.specs.State.{State}
+use Rattle.model.specs.SoundStore.{MadeFor}
+use Rattle.model.specs.Effects.{place, write}
+use Rattle.model.specs.Calls.{given}
+use Rattle.model.specs.Layout.{viewOf, stateOf}
+use Rattle.tables.specs.Ready.{Roomy}
+use Rattle.tables.specs.Puts.{withView}
+
+-- tables with room, made for g, that hold no more entries than blocks: what single stores ask
+pub record Kept (g : Geometry) (t : List ℕ) : Type 0 where
+  pub roomy : Roomy g t
+  pub made : MadeFor g t
+  pub few : getD t 10 0 ≤ blocks g
+
+-- the block at offset o of arena a is free
+pub record Spot (g : Geometry) (t : List ℕ) (a o : ℕ) : Type 0 where
+  pub arena : a < g .arenas
+  pub offset : o < g .per
+  pub block : a * g .per + o < blocks g
+  pub free : viewOf g t .birth (a * g .per + o) ≡ 0
+
+-- the state T with block b on page x of the record in slot s
+unfoldable pub placed : State → ℕ → ℕ → ℕ → State
+placed T s x b = withView T (place (T .view) s x b)
+
+-- what t says, when the block at offset o of arena a was given to a write on page x of the record in slot s
+unfoldable pub filled : Geometry → List ℕ → ℕ → ℕ → ℕ → ℕ → State
+filled g t s x a o = given g (withView (stateOf g t) (write (stateOf g t .view) s x (a * g .per + o))) (At a o)

@@ -1,0 +1,56 @@
+-- Laws of decimal digits: one digit or one more, how many there are, and numbers behind spaces.
+use Prim.Native.Nat.{ℕ, zero, suc, _+_, _/_, _%_, _^_, _<_, _≤_}
+use mathlib.Core.Path.{_≡_, refl, sym, ap, _∙_}
+use mathlib.Core.List.{List, [], _∷_, _++_, append-assoc, append-nil}
+use native.Mathlib.Nat.{pow-succ'}
+use native.Mathlib.Omega.{arith}
+use borrow.Author.Tests.{lt-ltb, le-ltb}
+use lib.ListN.{length, length-append}
+use Rattle.answer.proofs.Cases.{cases, lt?}
+use Rattle.script.specs.Decimal.{digits, decimal, spaced}
+
+-- what is asked for beyond the digits changes nothing
+digits-same : (k j n : ℕ) → n ≤ k → n ≤ j → digits k n ≡ digits j n
+unfolding digits
+digits-same zero zero n h g = refl
+digits-same zero (suc j) n h g = let e : n < 10 = omega arith in rw (lt-ltb n 10 e)
+digits-same (suc k) zero n h g = let e : n < 10 = omega arith in rw (lt-ltb n 10 e)
+digits-same (suc k) (suc j) n h g =
+    cases (lt? n 10)
+    (λ e. rw (lt-ltb n 10 e))
+    (λ e. rw (le-ltb n 10 e) (ap (λ (l : List ℕ). l ++ ((48 + n % 10) ∷ [])) (digits-same k j (n / 10) (omega arith) (omega arith))))
+
+pub decimal-one : (n : ℕ) → n < 10 → decimal n ≡ (48 + n) ∷ []
+unfolding digits decimal
+decimal-one zero h = refl
+decimal-one (suc n) h = rw (lt-ltb (suc n) 10 h)
+
+pub decimal-more : (n : ℕ) → 10 ≤ n → decimal n ≡ decimal (n / 10) ++ ((48 + n % 10) ∷ [])
+unfolding digits decimal
+decimal-more zero h = absurd (let z : ⊥ = omega arith in z)
+decimal-more (suc n) h =
+    rw (le-ltb (suc n) 10 h) (ap (λ (l : List ℕ). l ++ ((48 + suc n % 10) ∷ [])) (digits-same n (suc n / 10) (suc n / 10) (omega arith) (omega arith)))
+
+pub length-one : (n : ℕ) → n < 10 → length (decimal n) ≡ 1
+length-one n h = rw (decimal-one n h)
+
+pub length-more : (n : ℕ) → 10 ≤ n → length (decimal n) ≡ length (decimal (n / 10)) + 1
+length-more n h = rw (decimal-more n h) (length-append (decimal (n / 10)) _)
+
+pub length-decimal : (j n : ℕ) → n < 10 ^ suc j → length (decimal n) ≤ suc j
+length-decimal zero n h = omega (arith, length-one n (omega arith))
+length-decimal (suc j) n h =
+    let p = pow-succ' 10 (suc j) in
+    cases (lt? n 10)
+    (λ e. omega (arith, length-one n e))
+    (λ e. omega (arith, length-more n e, length-decimal j (n / 10) (omega arith)))
+
+pub spaced-one : (n : ℕ) → spaced (n ∷ []) ≡ 32 ∷ decimal n
+unfolding spaced
+spaced-one n = ap (λ (l : List ℕ). 32 ∷ l) (append-nil (decimal n))
+
+pub spaced-append : (ns ms : List ℕ) → spaced (ns ++ ms) ≡ spaced ns ++ spaced ms
+unfolding spaced
+spaced-append [] ms = refl
+spaced-append (n ∷ ns) ms =
+    ap (λ (l : List ℕ). 32 ∷ l) (ap (λ (l : List ℕ). decimal n ++ l) (spaced-append ns ms) ∙ sym (append-assoc (decimal n) (spaced ns) (spaced ms)))

@@ -1,0 +1,72 @@
+-- Document 01's lines and replies, as bytes; and lines that are no call.
+use mathlib.Core.Path.{_≡_, refl}
+use mathlib.Core.List.{[], _∷_}
+use Rattle.answer.specs.Reply.{accepted, refused}
+use Rattle.model.specs.declared.Call.the-variants.{Write, Delete, FreeList}
+use Rattle.script.specs.declared.parse.Parsed.{Parsed}
+use Rattle.script.specs.declared.parse.Parsed.the-variants.{Store, Asks}
+use Rattle.script.specs.Decimal.{digits, decimal, spaced}
+use Rattle.script.specs.Parse.{parsed, opens, callLine, numbersFrom, numberFrom, firstDigit, digitsFrom, countOf, callOf}
+use Rattle.script.specs.Lines.{linesOf}
+use Rattle.script.specs.ReplyText.{replyText}
+
+-- `store 1 4 2 4 8 10`
+store-line : parsed (115 ∷ 116 ∷ 111 ∷ 114 ∷ 101 ∷ 32 ∷ 49 ∷ 32 ∷ 52 ∷ 32 ∷ 50 ∷ 32 ∷ 52 ∷ 32 ∷ 56 ∷ 32 ∷ 49 ∷ 48 ∷ [])
+    ≡ Store (record { arenas = 1; per = 4; pages = 2; records = 4; turn = 8; words = 10 })
+unfolding parsed opens numbersFrom numberFrom firstDigit digitsFrom
+store-line = refl
+
+-- `W 2 0 0`
+write-line : parsed (87 ∷ 32 ∷ 50 ∷ 32 ∷ 48 ∷ 32 ∷ 48 ∷ []) ≡ Asks (Write 2 0 0)
+unfolding parsed opens callLine countOf callOf numbersFrom numberFrom firstDigit digitsFrom
+write-line = refl
+
+-- `D 9`
+delete-line : parsed (68 ∷ 32 ∷ 57 ∷ []) ≡ Asks (Delete 9)
+unfolding parsed opens callLine countOf callOf numbersFrom numberFrom firstDigit digitsFrom
+delete-line = refl
+
+-- `L`
+list-line : parsed (76 ∷ []) ≡ Asks FreeList
+unfolding parsed opens callLine countOf callOf numbersFrom numberFrom firstDigit digitsFrom
+list-line = refl
+
+-- `D 09`, `L ` and the empty line are no calls
+leading-zero : parsed (68 ∷ 32 ∷ 48 ∷ 57 ∷ []) ≡ Parsed.No
+unfolding parsed opens callLine countOf callOf numbersFrom numberFrom firstDigit digitsFrom
+leading-zero = refl
+
+space-behind : parsed (76 ∷ 32 ∷ []) ≡ Parsed.No
+unfolding parsed opens callLine countOf callOf numbersFrom numberFrom firstDigit digitsFrom
+space-behind = refl
+
+empty-line : parsed [] ≡ Parsed.No
+unfolding parsed opens callLine
+empty-line = refl
+
+-- `D 12345678`: eight digits
+eight-digits : parsed (68 ∷ 32 ∷ 49 ∷ 50 ∷ 51 ∷ 52 ∷ 53 ∷ 54 ∷ 55 ∷ 56 ∷ []) ≡ Parsed.No
+unfolding parsed opens callLine countOf callOf numbersFrom numberFrom firstDigit digitsFrom
+eight-digits = refl
+
+-- `+`, `+ 2 1` and `- 10`
+nothing-given : replyText (accepted []) ≡ 43 ∷ 10 ∷ []
+unfolding replyText spaced
+nothing-given = refl
+
+two-given : replyText (accepted (2 ∷ 1 ∷ [])) ≡ 43 ∷ 32 ∷ 50 ∷ 32 ∷ 49 ∷ 10 ∷ []
+unfolding replyText spaced decimal digits
+two-given = refl
+
+ten-refused : replyText (refused 10) ≡ 45 ∷ 32 ∷ 49 ∷ 48 ∷ 10 ∷ []
+unfolding replyText spaced decimal digits
+ten-refused = refl
+
+-- `B`, an empty line, `L` with no line feed behind it; and nothing behind the last line feed
+three-lines : linesOf (66 ∷ 10 ∷ 10 ∷ 76 ∷ []) ≡ (66 ∷ []) ∷ [] ∷ (76 ∷ []) ∷ []
+unfolding linesOf
+three-lines = refl
+
+one-line : linesOf (66 ∷ 10 ∷ []) ≡ (66 ∷ []) ∷ []
+unfolding linesOf
+one-line = refl

@@ -1,0 +1,11 @@
+-- Laws of scripts: for the functions' proofs, then the theorems over the definitions.
+pub mod Runs
+pub mod Letters
+pub mod Reading
+pub mod Opening
+pub mod Decimals
+pub mod Printing
+pub mod Spelling
+pub mod Saying
+pub mod LinesFacts
+pub mod Examples

@@ -1,0 +1,94 @@
+-- What a line says, by reading it from its start: "An empty or longer line is no call"; the five letters `store` and six numbers,
+-- or a call's letter and its numbers, to the line's end.
+use Prim.Native.Nat.{ℕ, zero, suc, _+_, _-_, _*_}
+use mathlib.Core.Bool.{Bool, true, false, cond, _&&_}
+use mathlib.Core.List.{List, [], _∷_, _++_}
+use mathlib.Core.Option.{Option, none, some}
+use lib.ListN.{length, getD, drop}
+use lib.Dec.{eqb, leb, ltb}
+use Rattle.model.specs.declared.Call.{Call}
+use Rattle.model.specs.declared.Call.the-variants.{Begin, Write, Erase, Seal, Fork, Delete, Read, Barrier, Compress, FreeList}
+use Rattle.script.specs.declared.number.Number.{Number}
+use Rattle.script.specs.declared.parse.Six.{Six}
+use Rattle.script.specs.declared.parse.Parsed.{Parsed}
+use Rattle.script.specs.declared.parse.Parsed.the-variants.{Store, Asks}
+
+abbrev pub isDigit : ℕ → Bool
+isDigit b = leb 48 b && leb b 57
+
+-- the digits at the head of a list, at most `room` of them, behind those of `value`; `at` is the list's position in its line
+unfoldable pub digitsFrom : List ℕ → ℕ → ℕ → ℕ → Number
+digitsFrom [] value room at = Number.Read value at
+digitsFrom (b ∷ l) value zero at = Number.Read value at
+digitsFrom (b ∷ l) value (suc room) at = cond (isDigit b) (digitsFrom l (value * 10 + (b - 48)) room (at + 1)) (Number.Read value at)
+
+-- "1 to 7 digits, no leading zero but 0 itself"
+unfoldable pub firstDigit : List ℕ → ℕ → Number
+firstDigit [] at = Number.No
+firstDigit (b ∷ l) at = cond (eqb b 48) (Number.Read 0 (at + 1)) (cond (isDigit b) (digitsFrom l (b - 48) 6 (at + 1)) Number.No)
+
+-- a number behind a single space, and the position behind it
+unfoldable pub numberFrom : List ℕ → ℕ → Number
+numberFrom [] at = Number.No
+numberFrom (b ∷ l) at = cond (eqb b 32) (firstDigit l (at + 1)) Number.No
+
+abbrev pub onNumber : Number → (ℕ → ℕ → Option (List ℕ)) → Option (List ℕ)
+onNumber (Number.Read value at) f = f value at
+onNumber Number.No f = none
+
+abbrev pub gave : Bool → List ℕ → Option (List ℕ)
+gave t ns = cond t (some ns) none
+
+-- n numbers from a position to the line's end, behind those that were read before
+unfoldable pub numbersFrom : List ℕ → ℕ → ℕ → List ℕ → Option (List ℕ)
+numbersFrom line at zero before = gave (eqb at (length line)) before
+numbersFrom line at (suc n) before = onNumber (numberFrom (drop at line) at) (λ value end. numbersFrom line end n (before ++ (value ∷ [])))
+
+-- whether a line begins with a word
+unfoldable pub opens : List ℕ → List ℕ → Bool
+opens [] line = true
+opens (w ∷ ws) [] = false
+opens (w ∷ ws) (b ∷ l) = cond (eqb b w) (opens ws l) false
+
+-- the five letters `store`
+abbrev pub store : List ℕ
+store = 115 ∷ 116 ∷ 111 ∷ 114 ∷ 101 ∷ []
+
+abbrev pub sixOf : List ℕ → Six
+sixOf ns =
+    record {
+      arenas = getD ns 0 0;
+      per = getD ns 1 0;
+      pages = getD ns 2 0;
+      records = getD ns 3 0;
+      turn = getD ns 4 0;
+      words = getD ns 5 0;
+    }
+
+abbrev pub storeOf : Option (List ℕ) → Parsed
+storeOf none = Parsed.No
+storeOf (some ns) = Store (sixOf ns)
+
+-- how many numbers follow a letter: B W E S F D R Y C L; 4 for no letter of a call
+unfoldable pub countOf : ℕ → ℕ
+countOf b =
+    cond (eqb b 66) 0 (cond (eqb b 87) 3 (cond (eqb b 69) 2 (cond (eqb b 83) 1 (cond (eqb b 70) 1 (cond (eqb b 68) 1 (cond (eqb b 82) 2 (cond (eqb b 89) 0 (cond (eqb b 67) 0 (cond (eqb b 76) 0 4)))))))))
+
+-- the call of a letter and its numbers
+unfoldable pub callOf : ℕ → ℕ → ℕ → ℕ → Call
+callOf b x y z =
+    cond (eqb b 66) Begin (cond (eqb b 87) (Write x y z) (cond (eqb b 69) (Erase x y) (cond (eqb b 83) (Seal x) (cond (eqb b 70) (Fork x) (cond (eqb b 68) (Delete x) (cond (eqb b 82) (Read x y) (cond (eqb b 89) Barrier (cond (eqb b 67) Compress FreeList))))))))
+
+abbrev pub asksOf : ℕ → Option (List ℕ) → Parsed
+asksOf b none = Parsed.No
+asksOf b (some ns) = Asks (callOf b (getD ns 0 0) (getD ns 1 0) (getD ns 2 0))
+
+-- a line that does not open with `store`
+unfoldable pub callLine : List ℕ → Parsed
+callLine [] = Parsed.No
+callLine (b ∷ l) = cond (ltb 3 (countOf b)) Parsed.No (asksOf b (numbersFrom (b ∷ l) 1 (countOf b) []))
+
+-- what a line says
+unfoldable pub parsed : List ℕ → Parsed
+parsed line =
+    cond (ltb 80 (length line)) Parsed.No (cond (opens store line) (storeOf (numbersFrom line 5 6 [])) (callLine line))

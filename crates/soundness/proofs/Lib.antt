@@ -1,0 +1,6 @@
+-- The laws that the functions' proofs cite.
+pub mod Cells
+pub mod Loops
+pub mod Clauses
+pub mod Entries
+pub mod Whole

@@ -1,0 +1,42 @@
+-- `log_holds`: two laws of `Whole`, of what was read of the log.
+use mathlib.Core.Path.{sym}
+use Prim.Native.Nat.{_*_}
+use native.Mathlib.Omega.{arith}
+use lib.Seq.{length-take-le}
+use borrow.Author.Needs.{needs}
+use Rattle.soundness.proofs.Whole.{log-unread, log-read}
+use Rattle.soundness.proofs.held.log_holds.Statement.{statement}
+use Rattle.soundness.proofs.held.log_holds.Tie as tie
+
+header-number-requires : tie.Need-header-number-requires
+header-number-requires c κs = search needs
+
+mul-end : tie.Need-mul-end
+mul-end c = search needs
+
+slice-aggregate-read-log : tie.Need-slice-aggregate-read-log
+slice-aggregate-read-log c = sym (length-take-le (8 * c .before .header-number .result) (c .before .before .before .before .args .log .now) (omega (arith, c .before .header-number .ensures, c .before .before .before .before .pre .1, c .before .before .before .before .pre .2)))
+
+read-log-requires : tie.Need-read-log-requires
+read-log-requires c κs = search needs
+
+returns : tie.Need-returns
+returns c = log-unread _ _ _ (c .before .before .before .before .header-number .ensures) (c .before .before .read-log .ensures) (c .if1 .taken)
+
+births-agree-requires : tie.Need-births-agree-requires
+births-agree-requires c κs = search needs
+
+returns-2 : tie.Need-returns-2
+returns-2 c = log-read _ _ _ (c .before .before .before .before .before .before .before .header-number .ensures) (c .before .before .before .before .before .read-log .ensures) (c .before .before .before .if1 .left) (c .births-agree .ensures)
+
+pub log-holds-spec : {M : Type 1} → statement M
+log-holds-spec =
+    tie.close
+    (tie.spec
+    header-number-requires
+    mul-end
+    slice-aggregate-read-log
+    read-log-requires
+    returns
+    births-agree-requires
+    returns-2)

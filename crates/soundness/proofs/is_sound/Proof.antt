@@ -1,0 +1,74 @@
+-- `is_sound`: each return is one law of `Whole`, from the tests that led there.
+use Prim.Native.Nat.{ℕ}
+use lib.ListN.{replicate, length-replicate}
+use borrow.Author.Needs.{needs}
+use borrow.Author.Tests.{not-false}
+use Rattle.soundness.proofs.Entries.{seen-none}
+use Rattle.soundness.proofs.Loops.{failed, passed}
+use Rattle.soundness.proofs.Whole.{range-known, sound-no-numbers, sound-no-range, sound-no-slots, sound-no-entries, sound-no-order, sound-no-rows, sound-yes}
+use Rattle.soundness.proofs.is_sound.Statement.{statement}
+use Rattle.soundness.proofs.is_sound.Tie as tie
+
+numbers-fit-requires : tie.Need-numbers-fit-requires
+numbers-fit-requires c κs = search needs
+
+returns : tie.Need-returns
+returns c = sound-no-numbers _ _ _ (failed (c .before .numbers-fit .ensures) (c .if1 .taken))
+
+ranges-fit-requires : tie.Need-ranges-fit-requires
+ranges-fit-requires c κs = search needs
+
+returns-2 : tie.Need-returns-2
+returns-2 c = sound-no-range _ _ _ (failed (c .before .ranges-fit .ensures) (c .if2 .taken))
+
+records-fit-requires : tie.Need-records-fit-requires
+records-fit-requires c κs = search needs
+
+returns-3 : tie.Need-returns-3
+returns-3 c = sound-no-slots _ _ _ (failed (c .before .records-fit .ensures) (c .if3 .taken))
+
+mark-entries-requires : tie.Need-mark-entries-requires
+mark-entries-requires c κs = (c .before .before .before .before .before .before .before .before .before .pre .0, range-known _ _ (passed (c .before .before .before .before .ranges-fit .ensures) (c .before .before .before .if2 .left)) .1, length-replicate {A = ℕ} 2048 0)
+
+returns-4 : tie.Need-returns-4
+returns-4 c = sound-no-entries _ _ _ (replicate 2048 0) (seen-none 2048) (failed (c .before .mark-entries .ensures .0) (c .if4 .taken))
+
+neighbours-fit-requires : tie.Need-neighbours-fit-requires
+neighbours-fit-requires c κs = (c .before .before .before .before .before .before .before .before .before .before .before .pre .0, range-known _ _ (passed (c .before .before .before .before .before .before .ranges-fit .ensures) (c .before .before .before .before .before .if2 .left)) .1)
+
+returns-5 : tie.Need-returns-5
+returns-5 c = sound-no-order _ _ _ (failed (c .before .neighbours-fit .ensures) (c .if5 .taken))
+
+blocks-fit-requires : tie.Need-blocks-fit-requires
+blocks-fit-requires c κs = search needs
+
+returns-6 : tie.Need-returns-6
+returns-6 c = sound-no-rows _ _ _ (replicate 2048 0) (seen-none 2048) _ (c .before .before .before .before .before .before .mark-entries .ensures .1 (not-false _ (c .before .before .before .before .before .if4 .left))) (failed (c .before .blocks-fit .ensures) (c .if6 .taken))
+
+log-holds-requires : tie.Need-log-holds-requires
+log-holds-requires c κs = (c .before .before .before .before .before .before .before .before .before .before .before .before .before .before .before .before .pre .0, c .before .before .before .before .before .before .before .before .before .before .before .before .before .before .before .before .pre .1, range-known _ _ (passed (c .before .before .before .before .before .before .before .before .before .before .before .ranges-fit .ensures) (c .before .before .before .before .before .before .before .before .before .before .if2 .left)) .0)
+
+returns-7 : tie.Need-returns-7
+returns-7 c = sound-yes _ _ _ (replicate 2048 0) (seen-none 2048) _ (c .before .before .before .before .before .before .before .mark-entries .ensures .1 (not-false _ (c .before .before .before .before .before .before .if4 .left)))
+    (passed (c .before .before .before .before .before .before .before .before .before .before .before .before .before .before .numbers-fit .ensures) (c .before .before .before .before .before .before .before .before .before .before .before .before .before .if1 .left)) (passed (c .before .before .before .before .before .before .before .before .before .before .before .before .ranges-fit .ensures) (c .before .before .before .before .before .before .before .before .before .before .before .if2 .left)) (passed (c .before .before .before .before .before .before .before .before .before .before .records-fit .ensures) (c .before .before .before .before .before .before .before .before .before .if3 .left))
+    (passed (c .before .before .before .before .before .before .before .mark-entries .ensures .0) (c .before .before .before .before .before .before .if4 .left)) (passed (c .before .before .before .before .before .neighbours-fit .ensures) (c .before .before .before .before .if5 .left)) (passed (c .before .before .blocks-fit .ensures) (c .before .if6 .left))
+    (c .log-holds .ensures)
+
+pub is-sound-spec : {M : Type 1} → statement M
+is-sound-spec =
+    tie.close
+    (tie.spec
+    numbers-fit-requires
+    returns
+    ranges-fit-requires
+    returns-2
+    records-fit-requires
+    returns-3
+    mark-entries-requires
+    returns-4
+    neighbours-fit-requires
+    returns-5
+    blocks-fit-requires
+    returns-6
+    log-holds-requires
+    returns-7)

@@ -1,0 +1,2 @@
+-- What the check reads at a time.
+pub mod Rows

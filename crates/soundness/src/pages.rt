@@ -1,0 +1,99 @@
+// The pages of a record: what is on them, and what has left them.
+ghost use mathlib.Core.Path.{_≡_};
+ghost use mathlib.Core.Bool.{Bool, _&&_};
+ghost use Prim.Native.Nat.{ℕ, _<_};
+ghost use Rattle.model.specs.Table.{all};
+ghost use Rattle.model.specs.View.{pageOf};
+ghost use Rattle.model.specs.Check.{page?, dies?};
+ghost use Rattle.model.specs.Layout.{viewOf};
+ghost use Rattle.tables.specs.Ready.{Roomy};
+ghost use Rattle.soundness.specs.Rows.{kinOf};
+use crate::read::base_number;
+use crate::read::block_at;
+use crate::read::page_behind;
+use crate::read::page_link;
+use crate::read::pred_number;
+use crate::read::pred_of;
+use crate::read::record_number;
+use geometry::Geometry;
+
+// What the check of a record's pages asks of the record each time: its number, the links to the record before it and to its pred, and the numbers
+// of its pred (older) and of its line's base (root).
+pub struct Kin {
+    pub number: usize,
+    pub prev: usize,
+    pub pred: usize,
+    pub older: usize,
+    pub root: usize,
+}
+
+fn kin_of(g: Geometry, t: &[u32], s: usize) -> Kin
+    requires { ⌜ Roomy g (now t) ⌝ }
+    ensures { λ r. ⌜ r ≡ kinOf (viewOf g (now (t .entry))) s ⌝ }
+{
+    Kin {
+        number: record_number(g, t, s, 0),
+        prev: record_number(g, t, s, 2),
+        pred: pred_of(g, t, s),
+        older: pred_number(g, t, s),
+        root: base_number(g, t, s),
+    }
+}
+
+// What is on page x of the record in slot s.
+fn page_fits(g: Geometry, t: &[u32], s: usize, kin: Kin, x: usize) -> bool
+    requires { ⌜ Roomy g (now t) × (kin ≡ kinOf (viewOf g (now t)) s) ⌝ }
+    ensures { λ r. ⌜ r ≡ page? (viewOf g (now (t .entry))) s x (viewOf g (now (t .entry)) .page s x) ⌝ }
+{
+    let link = page_link(g, t, s, x);
+    if link == 0 {
+        return true;
+    }
+    let b = link - 1;
+    let block = block_at(g, t, b);
+    let above = page_behind(g, t, kin.pred, x);
+    let inherited = !(block.birth <= kin.older) | (above == link);
+    let own = !(kin.older < block.birth) | (block.home == s);
+    (b < g.arenas * g.per)
+        & (0 < block.birth)
+        & (block.leaf == x)
+        & (block.birth <= kin.number)
+        & inherited
+        & own
+}
+
+// What was on page x of the record before the one in slot s, and is not on its own, is on its deadlist if it is younger than the line's base.
+fn page_dies(g: Geometry, t: &[u32], s: usize, kin: Kin, x: usize) -> bool
+    requires { ⌜ Roomy g (now t) × (s < g .records) × (kin ≡ kinOf (viewOf g (now t)) s) ⌝ }
+    ensures { λ r. ⌜ r ≡ dies? (viewOf g (now (t .entry))) s x (pageOf (viewOf g (now (t .entry))) (viewOf g (now (t .entry)) .prev s) x) ⌝ }
+{
+    let link = page_behind(g, t, kin.prev, x);
+    if link == 0 {
+        return true;
+    }
+    let own = page_link(g, t, s, x);
+    if own == link {
+        return true;
+    }
+    let block = block_at(g, t, link - 1);
+    !(kin.root < block.birth) | (block.dead == s + 1)
+}
+
+// All pages of the record in slot s.
+pub fn pages_fit(g: Geometry, t: &[u32], s: usize) -> bool
+    requires { ⌜ Roomy g (now t) × (s < g .records) ⌝ }
+    ensures { λ r. ⌜ r ≡ all (g .pages) (λ x. page? (viewOf g (now (t .entry))) s x (viewOf g (now (t .entry)) .page s x) && dies? (viewOf g (now (t .entry))) s x (pageOf (viewOf g (now (t .entry))) (viewOf g (now (t .entry)) .prev s) x)) ⌝ }
+{
+    let kin = kin_of(g, t, s);
+    let mut x: usize = 0;
+    while x < g.pages {
+        if !page_fits(g, t, s, kin, x) {
+            return false;
+        }
+        if !page_dies(g, t, s, kin, x) {
+            return false;
+        }
+        x += 1;
+    }
+    true
+}
