@@ -45,6 +45,7 @@ fn count_frees(t: &[u32], g: Geometry, s: usize, follower: usize) -> usize
     count_gone(t, g, s, follower - 1, p)
 }
 
+// The first refusal of a deletion that applies, or its slot and follower.
 fn delete_verdict(t: &[u32], g: Geometry, number: u32) -> Verdict
     requires { ⌜ Ready g (now t) ⌝ }
     ensures { λ r. ⌜ r ≡ verdictOf g (stateOf g (now (t .entry))) number ⌝ }
@@ -79,6 +80,7 @@ fn log_frees(t: &mut [u32], log: &mut [u8], out: &[u32], n: usize)
     t[9] = (used + n) as u32;
 }
 
+// Deletes the record in slot s, with the link of the one that follows; returns how many blocks are freed.
 fn delete_record(g: Geometry, t: &mut [u32], out: &mut [u32], s: usize, follower: usize) -> usize
     requires { ⌜ Ready g (now t) × (length (deleted (viewOf g (now t)) s follower) ≤ length (now out)) × (s < g .records) × (0 < viewOf g (now t) .num s) × (follower ≤ g .records) ⌝ }
     ensures count { λ r. ⌜ r ≡ length (deleted (viewOf g (now (t .entry))) s follower) ⌝ }
@@ -92,6 +94,7 @@ fn delete_record(g: Geometry, t: &mut [u32], out: &mut [u32], s: usize, follower
     delete_next(t, g, out, s, follower - 1, p)
 }
 
+// D: the record leaves the store; the numbers of the result are the freed blocks.
 pub fn delete(g: Geometry, t: &mut [u32], log: &mut [u8], out: &mut [u32], number: u32) -> Answer
     requires { ⌜ Ready g (now t) × LogLong g (now log) × OutLong g (now out) ⌝ }
     ensures reply { λ r. ⌜ replyOf r (now (out .exit)) ≡ replied g (now (t .entry)) (Delete number) ⌝ }
