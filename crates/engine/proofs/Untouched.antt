@@ -1,0 +1,52 @@
+-- What a call is not lent, it leaves: a call that writes no words leaves the log, one that gives no number the result buffer, one that keeps the
+-- state the tables.
+use mathlib.Core.Path.{_≡_, refl, sym, ap, _∙_, subst}
+use mathlib.Core.List.{List, []}
+use Prim.Native.Nat.{ℕ}
+use lib.Seq.{sets}
+use Rattle.answer.specs.declared.Answer.{Answer}
+use Rattle.answer.specs.Reply.{Reply, accepted, refused, replyOf}
+use Rattle.answer.specs.Refusal.{leaves}
+use Rattle.geometry.specs.declared.Geometry.{Geometry}
+use Rattle.log.specs.Word.{writeAt, bytesOf}
+use Rattle.log.proofs.Writing.{write-none}
+use Rattle.model.specs.declared.Call.{Call}
+use Rattle.model.specs.Calls.{result, written, effect}
+use Rattle.model.specs.Layout.{stateOf, stored}
+use Rattle.model.specs.Memory.{writtenAt}
+use Rattle.model.proofs.Restored.{stored-state}
+use Rattle.tables.specs.Ready.{Ready}
+use Rattle.tables.specs.Outcome.{replied, tablesLeft, logLeft, outLeft}
+
+-- whatever the reply
+either-way : {A : Type 0} (r : Reply) (old new : A) → new ≡ old → old ≡ leaves r old new
+either-way (accepted l) old new e = sym e
+either-way (refused n) old new e = refl
+
+module _ (g : Geometry) (t : List ℕ) (c : Call) where
+  pub log-stays : (log : List ℕ) → written g (stateOf g t) c ≡ [] → log ≡ logLeft g t log c
+  unfolding logLeft
+  log-stays log e =
+      let at = writtenAt (stateOf g t) c in
+      either-way (replied g t c) log (writeAt log at (bytesOf (written g (stateOf g t) c)))
+      (ap (λ ws. writeAt log at (bytesOf ws)) e ∙ write-none log at)
+
+  pub out-stays : (out : List ℕ) → result g (stateOf g t) c ≡ [] → out ≡ outLeft g t out c
+  unfolding outLeft
+  out-stays out e = either-way (replied g t c) out (sets out 0 (result g (stateOf g t) c)) (ap (sets out 0) e)
+
+  pub tables-stay : Ready g t → effect g (stateOf g t) c ≡ stateOf g t → t ≡ tablesLeft g t c
+  unfolding tablesLeft
+  tables-stay R e =
+      either-way (replied g t c) t (stored g (effect g (stateOf g t) c) t)
+      (ap (λ U. stored g U t) e ∙ stored-state g t (R .made) (R .roomy .room))
+
+-- the four promises of a call
+abbrev pub Performed : Answer → List ℕ → List ℕ → List ℕ → Geometry → List ℕ → List ℕ → List ℕ → Call → Type 0
+Performed r t′ log′ out′ g t log out c =
+    (replyOf r out′ ≡ replied g t c) × ((t′ ≡ tablesLeft g t c) × ((log′ ≡ logLeft g t log c) × (out′ ≡ outLeft g t out c)))
+
+-- of the call that the code has taken apart
+pub of-call : (g : Geometry) (t log out : List ℕ) {c d : Call} → c ≡ d → (r : Answer) (t′ log′ out′ : List ℕ) →
+    Performed r t′ log′ out′ g t log out d → Performed r t′ log′ out′ g t log out c
+of-call g t log out e r t′ log′ out′ p = subst (Performed r t′ log′ out′ g t log out) (sym e) p

@@ -1,0 +1,278 @@
+-- `perform`: each arm is one call; what it is not lent stays.
+use mathlib.Core.Path.{refl}
+use Rattle.engine.proofs.Untouched.{log-stays, out-stays, tables-stay, of-call}
+use native.Mathlib.Omega.{arith}
+use borrow.Author.Needs.{needs}
+use Rattle.engine.proofs.perform.Statement.{statement}
+use Rattle.engine.proofs.perform.Tie as tie
+
+enum-told : tie.Need-enum-told
+enum-told c = search needs
+
+begin-requires : tie.Need-begin-requires
+begin-requires c κs = let p = c .before .before .before .before .before .before .before .pre in (p .0, p .2)
+
+enum-known-c : tie.Need-enum-known-c
+enum-known-c c = search needs
+
+write-requires : tie.Need-write-requires
+write-requires c κs = let p = c .before .before .before .before .before .before .before .before .before .pre in p
+
+enum-known-c-2 : tie.Need-enum-known-c-2
+enum-known-c-2 c = search needs
+
+erase-requires : tie.Need-erase-requires
+erase-requires c κs = let p = c .before .before .before .before .before .before .before .before .before .pre in p
+
+enum-known-c-3 : tie.Need-enum-known-c-3
+enum-known-c-3 c = search needs
+
+seal-requires : tie.Need-seal-requires
+seal-requires c κs = let p = c .before .before .before .before .before .before .before .before .pre in (p .0, p .2)
+
+enum-known-c-4 : tie.Need-enum-known-c-4
+enum-known-c-4 c = search needs
+
+fork-requires : tie.Need-fork-requires
+fork-requires c κs = let p = c .before .before .before .before .before .before .before .before .pre in (p .0, p .2)
+
+enum-known-c-5 : tie.Need-enum-known-c-5
+enum-known-c-5 c = search needs
+
+delete-requires : tie.Need-delete-requires
+delete-requires c κs = let p = c .before .before .before .before .before .before .before .before .before .pre in p
+
+enum-known-c-6 : tie.Need-enum-known-c-6
+enum-known-c-6 c = search needs
+
+read-requires : tie.Need-read-requires
+read-requires c κs = let p = c .before .before .before .before .before .before .before .before .pre in (p .0, p .2)
+
+enum-told-2 : tie.Need-enum-told-2
+enum-told-2 c = search needs
+
+barrier-requires : tie.Need-barrier-requires
+barrier-requires c κs = let p = c .before .before .before .before .before .before .before .pre in (p .0, p .1)
+
+enum-told-3 : tie.Need-enum-told-3
+enum-told-3 c = search needs
+
+compress-log-requires : tie.Need-compress-log-requires
+compress-log-requires c κs = let p = c .before .before .before .before .before .before .before .before .pre in p
+
+enum-told-4 : tie.Need-enum-told-4
+enum-told-4 c = search needs
+
+free-list-requires : tie.Need-free-list-requires
+free-list-requires c κs = let p = c .before .before .before .before .before .before .before .pre in (p .0, p .2)
+
+same-length : tie.Need-same-length
+same-length c = search needs
+
+same-length-2 : tie.Need-same-length-2
+same-length-2 c = search needs
+
+returns : tie.Need-returns
+returns c =
+    let s = c .before .before .before .before .before .before .before .before .before .before .before .before in
+    let a = s .args in
+    let e = c .before .before .before .before .begin .ensures in
+    of-call (a .g) (a .t .now) (a .log .now) (a .out .now) (c .before .before .before .before .before .before .before .enum-told .given .1) _ _ _ _
+    (e .0, (e .1 .0, (log-stays (a .g) (a .t .now) _ (a .log .now) refl, e .1 .1)))
+
+same-length-3 : tie.Need-same-length-3
+same-length-3 c = search needs
+
+same-length-4 : tie.Need-same-length-4
+same-length-4 c = search needs
+
+same-length-5 : tie.Need-same-length-5
+same-length-5 c = search needs
+
+returns-2 : tie.Need-returns-2
+returns-2 c =
+    let s = c .before .before .before .before .before .before .before .before .before .before .before .before .before .before .before .before in
+    let a = s .args in
+    let e = c .before .before .before .before .before .before .write .ensures in
+    of-call (a .g) (a .t .now) (a .log .now) (a .out .now) (c .before .before .before .before .before .before .before .before .before .before .before .c .given .1) _ _ _ _
+    e
+
+same-length-6 : tie.Need-same-length-6
+same-length-6 c = search needs
+
+same-length-7 : tie.Need-same-length-7
+same-length-7 c = search needs
+
+same-length-8 : tie.Need-same-length-8
+same-length-8 c = search needs
+
+returns-3 : tie.Need-returns-3
+returns-3 c =
+    let s = c .before .before .before .before .before .before .before .before .before .before .before .before .before .before .before .before in
+    let a = s .args in
+    let e = c .before .before .before .before .before .before .erase .ensures in
+    of-call (a .g) (a .t .now) (a .log .now) (a .out .now) (c .before .before .before .before .before .before .before .before .before .before .before .c2 .given .1) _ _ _ _
+    e
+
+same-length-9 : tie.Need-same-length-9
+same-length-9 c = search needs
+
+same-length-10 : tie.Need-same-length-10
+same-length-10 c = search needs
+
+returns-4 : tie.Need-returns-4
+returns-4 c =
+    let s = c .before .before .before .before .before .before .before .before .before .before .before .before .before in
+    let a = s .args in
+    let e = c .before .before .before .before .seal .ensures in
+    of-call (a .g) (a .t .now) (a .log .now) (a .out .now) (c .before .before .before .before .before .before .before .before .c3 .given .1) _ _ _ _
+    (e .0, (e .1 .0, (log-stays (a .g) (a .t .now) _ (a .log .now) refl, e .1 .1)))
+
+same-length-11 : tie.Need-same-length-11
+same-length-11 c = search needs
+
+same-length-12 : tie.Need-same-length-12
+same-length-12 c = search needs
+
+returns-5 : tie.Need-returns-5
+returns-5 c =
+    let s = c .before .before .before .before .before .before .before .before .before .before .before .before .before in
+    let a = s .args in
+    let e = c .before .before .before .before .fork .ensures in
+    of-call (a .g) (a .t .now) (a .log .now) (a .out .now) (c .before .before .before .before .before .before .before .before .c4 .given .1) _ _ _ _
+    (e .0, (e .1 .0, (log-stays (a .g) (a .t .now) _ (a .log .now) refl, e .1 .1)))
+
+same-length-13 : tie.Need-same-length-13
+same-length-13 c = search needs
+
+same-length-14 : tie.Need-same-length-14
+same-length-14 c = search needs
+
+same-length-15 : tie.Need-same-length-15
+same-length-15 c = search needs
+
+returns-6 : tie.Need-returns-6
+returns-6 c =
+    let s = c .before .before .before .before .before .before .before .before .before .before .before .before .before .before .before .before in
+    let a = s .args in
+    let e = c .before .before .before .before .before .before .delete .ensures in
+    of-call (a .g) (a .t .now) (a .log .now) (a .out .now) (c .before .before .before .before .before .before .before .before .before .before .before .c5 .given .1) _ _ _ _
+    e
+
+same-length-16 : tie.Need-same-length-16
+same-length-16 c = search needs
+
+same-length-17 : tie.Need-same-length-17
+same-length-17 c = search needs
+
+returns-7 : tie.Need-returns-7
+returns-7 c =
+    let s = c .before .before .before .before .before .before .before .before .before .before .before in
+    let a = s .args in
+    let e = c .before .before .read .ensures in
+    of-call (a .g) (a .t .now) (a .log .now) (a .out .now) (c .before .before .before .before .before .before .c6 .given .1) _ _ _ _
+    (e .0, (tables-stay (a .g) (a .t .now) _ (s .pre .0) refl, (log-stays (a .g) (a .t .now) _ (a .log .now) refl, e .1)))
+
+same-length-18 : tie.Need-same-length-18
+same-length-18 c = search needs
+
+same-length-19 : tie.Need-same-length-19
+same-length-19 c = search needs
+
+returns-8 : tie.Need-returns-8
+returns-8 c =
+    let s = c .before .before .before .before .before .before .before .before .before .before .before .before in
+    let a = s .args in
+    let e = c .before .before .before .before .barrier .ensures in
+    of-call (a .g) (a .t .now) (a .log .now) (a .out .now) (c .before .before .before .before .before .before .before .enum-told2 .given .1) _ _ _ _
+    (e .0 _, (e .1 .0, (e .1 .1, out-stays (a .g) (a .t .now) _ (a .out .now) refl)))
+
+same-length-20 : tie.Need-same-length-20
+same-length-20 c = search needs
+
+same-length-21 : tie.Need-same-length-21
+same-length-21 c = search needs
+
+same-length-22 : tie.Need-same-length-22
+same-length-22 c = search needs
+
+returns-9 : tie.Need-returns-9
+returns-9 c =
+    let s = c .before .before .before .before .before .before .before .before .before .before .before .before .before .before .before in
+    let a = s .args in
+    let e = c .before .before .before .before .before .before .compress-log .ensures in
+    of-call (a .g) (a .t .now) (a .log .now) (a .out .now) (c .before .before .before .before .before .before .before .before .before .before .enum-told3 .given .1) _ _ _ _
+    e
+
+same-length-23 : tie.Need-same-length-23
+same-length-23 c = search needs
+
+same-length-24 : tie.Need-same-length-24
+same-length-24 c = search needs
+
+returns-10 : tie.Need-returns-10
+returns-10 c =
+    let s = c .before .before .before .before .before .before .before .before .before .before in
+    let a = s .args in
+    let e = c .before .before .free-list .ensures in
+    of-call (a .g) (a .t .now) (a .log .now) (a .out .now) (c .before .before .before .before .before .enum-told4 .given .1) _ _ _ _
+    (e .0, (tables-stay (a .g) (a .t .now) _ (s .pre .0) refl, (log-stays (a .g) (a .t .now) _ (a .log .now) refl, e .1)))
+
+pub perform-spec : {M : Type 1} → statement M
+perform-spec =
+    tie.close
+    (tie.spec
+    enum-told
+    begin-requires
+    enum-known-c
+    write-requires
+    enum-known-c-2
+    erase-requires
+    enum-known-c-3
+    seal-requires
+    enum-known-c-4
+    fork-requires
+    enum-known-c-5
+    delete-requires
+    enum-known-c-6
+    read-requires
+    enum-told-2
+    barrier-requires
+    enum-told-3
+    compress-log-requires
+    enum-told-4
+    free-list-requires
+    same-length
+    same-length-2
+    returns
+    same-length-3
+    same-length-4
+    same-length-5
+    returns-2
+    same-length-6
+    same-length-7
+    same-length-8
+    returns-3
+    same-length-9
+    same-length-10
+    returns-4
+    same-length-11
+    same-length-12
+    returns-5
+    same-length-13
+    same-length-14
+    same-length-15
+    returns-6
+    same-length-16
+    same-length-17
+    returns-7
+    same-length-18
+    same-length-19
+    returns-8
+    same-length-20
+    same-length-21
+    same-length-22
+    returns-9
+    same-length-23
+    same-length-24
+    returns-10)

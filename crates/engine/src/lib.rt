@@ -1,0 +1,40 @@
+// The ten calls on tables that are known to be sound. Internal: `store` is what users call.
+ghost use mathlib.Core.Path.{_≡_};
+ghost use Rattle.answer.specs.Reply.{replyOf};
+ghost use Rattle.tables.specs.Ready.{Ready, OutLong, LogLong};
+ghost use Rattle.tables.specs.Outcome.{replied, tablesLeft, logLeft, outLeft};
+use answer::Answer;
+use deleting::delete::delete;
+use geometry::Geometry;
+use lines::begin;
+use lines::fork;
+use lines::seal;
+use logging::barrier;
+use logging::compress_log;
+use logging::free_list;
+use model::Call;
+use paging::erase::erase;
+use paging::read::read;
+use paging::write::write;
+
+// One call. A call costs what it touches: no table is scanned that it does not change.
+pub fn perform(g: Geometry, t: &mut [u32], log: &mut [u8], out: &mut [u32], c: Call) -> Answer
+    requires { ⌜ Ready g (now t) × LogLong g (now log) × OutLong g (now out) ⌝ }
+    ensures reply { λ r. ⌜ replyOf r (now (out .exit)) ≡ replied g (now (t .entry)) c ⌝ }
+    ensures tables { λ r. ⌜ now (t .exit) ≡ tablesLeft g (now (t .entry)) c ⌝ }
+    ensures log { λ r. ⌜ now (log .exit) ≡ logLeft g (now (t .entry)) (now (log .entry)) c ⌝ }
+    ensures out { λ r. ⌜ now (out .exit) ≡ outLeft g (now (t .entry)) (now (out .entry)) c ⌝ }
+{
+    match c {
+        Call::Begin => begin(g, t, out),
+        Call::Write(n, page, kind) => write(g, t, log, out, n, page, kind),
+        Call::Erase(n, page) => erase(g, t, log, out, n, page),
+        Call::Seal(n) => seal(g, t, out, n),
+        Call::Fork(n) => fork(g, t, out, n),
+        Call::Delete(n) => delete(g, t, log, out, n),
+        Call::Read(n, page) => read(g, t, out, n, page),
+        Call::Barrier => barrier(g, t, log),
+        Call::Compress => compress_log(g, t, log, out),
+        Call::FreeList => free_list(g, t, out),
+    }
+}

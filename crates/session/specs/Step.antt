@@ -1,0 +1,68 @@
+-- THE RUNNER, line by line. "Each parsed line is taken apart as a call, or the runner prints 1. Before a store exists every other call gives 4."
+-- "a later such line, if accepted, starts afresh."
+use mathlib.Core.Path.{_≡_}
+use mathlib.Core.Bool.{Bool, true, cond}
+use mathlib.Core.List.{List}
+use Prim.Native.Nat.{ℕ, _≤_}
+use lib.ListN.{length}
+use Rattle.answer.specs.declared.Answer.{Answer}
+use Rattle.answer.specs.declared.Answer.the-variants.{Done, Refused}
+use Rattle.answer.specs.Reply.{Reply, accepted, refused, replyOf}
+use Rattle.geometry.specs.declared.Geometry.{Geometry}
+use Rattle.geometry.specs.Limits.{Inside, geometryOf}
+use Rattle.model.specs.Memory.{Memory, reply, after, makeReply, makeAfter}
+use Rattle.model.specs.SoundStore.{SoundStore}
+use Rattle.script.specs.declared.parse.Parsed.{Parsed}
+use Rattle.script.specs.declared.parse.Parsed.the-variants.{Store, Asks, No}
+use Rattle.script.specs.declared.parse.Six.{Six}
+use Rattle.session.specs.declared.Session.{Session}
+use Rattle.session.specs.declared.Stepped.{Stepped}
+
+-- the geometry of a store line
+abbrev pub geometryIn : Six → Geometry
+geometryIn x = geometryOf (x .arenas) (x .per) (x .pages) (x .records) (x .turn) (x .words)
+
+-- the reply to a line
+unfoldable pub stepReply : Session → Memory → Parsed → Reply
+stepReply s M (Store x) = makeReply (geometryIn x) M
+stepReply s M (Asks c) = cond (s .made) (reply (s .g) M c) (refused 4)
+stepReply s M No = refused 1
+
+-- what it leaves in the lent memory
+unfoldable pub stepMemory : Session → Memory → Parsed → Memory
+stepMemory s M (Store x) = makeAfter (geometryIn x) M
+stepMemory s M (Asks c) = cond (s .made) (after (s .g) M c) M
+stepMemory s M No = M
+
+abbrev pub startedBy : Reply → Session → Geometry → Session
+startedBy (accepted l) s g = record { made = true; g = g }
+startedBy (refused n) s g = s
+
+-- whether there is a store then, and its geometry
+unfoldable pub stepSession : Session → Memory → Parsed → Session
+stepSession s M (Store x) = startedBy (makeReply (geometryIn x) M) s (geometryIn x)
+stepSession s M (Asks c) = s
+stepSession s M No = s
+
+-- what the runner keeps: memory enough for every geometry inside its limits, and, once there is a store, soundness
+pub record Kept (s : Session) (t bytes numbers : List ℕ) : Type 0 where
+  pub tables : 33824 ≤ length t
+  pub log : 65536 ≤ length bytes
+  pub out : 4160 ≤ length numbers
+  pub inside : s .made ≡ true → Inside (s .g)
+  pub sound : s .made ≡ true → SoundStore (s .g) t bytes
+
+-- an answer that gives at most 4,096 numbers
+abbrev pub Few : Answer → Type 0
+Few (Done n) = n ≤ 4096
+Few (Refused k) = Unit {0}
+
+-- all that is promised of a line that says p: what it answers and leaves of the memory M
+pub record Stepping (s : Session) (M : Memory) (p : Parsed) (r : Stepped) (left : Memory) : Type 0 where
+  pub reply : replyOf (r .answer) (left .out) ≡ stepReply s M p
+  pub session : r .session ≡ stepSession s M p
+  pub tables : left .tables ≡ stepMemory s M p .tables
+  pub log : left .log ≡ stepMemory s M p .log
+  pub out : left .out ≡ stepMemory s M p .out
+  pub kept : Kept (r .session) (left .tables) (left .log) (left .out)
+  pub few : Few (r .answer)

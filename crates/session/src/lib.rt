@@ -1,0 +1,123 @@
+// A script's run on memory that the runner owns: a line in, an answer out. Soundness is kept, not checked anew.
+ghost use mathlib.Core.Path.{_≡_};
+ghost use mathlib.Core.Bool.{false};
+ghost use Rattle.answer.specs.Reply.{replyOf};
+ghost use Rattle.answer.specs.declared.Answer.the-variants.{Refused};
+ghost use Rattle.script.specs.Parse.{parsed};
+ghost use Rattle.store.specs.Lent.{lent};
+ghost use Rattle.script.specs.declared.parse.Parsed.the-variants.{Store, Asks};
+ghost use Rattle.session.specs.Step.{stepReply, stepMemory, stepSession, Kept, Few, Stepping};
+use answer::Answer;
+use engine::perform;
+use geometry::Geometry;
+use model::Call;
+use script::parse::Parsed;
+use script::parse::Six;
+use script::parse::parse;
+use store::make::make;
+use tables::find::wide;
+
+// Whether a store was made, and its geometry.
+pub struct Session {
+    pub made: bool,
+    pub g: Geometry,
+}
+
+// What a line leaves of the session, and its answer.
+pub struct Stepped {
+    pub session: Session,
+    pub answer: Answer,
+}
+
+// Before the first line there is no store.
+pub fn start() -> Session
+    ensures { λ r. ⌜ r .made ≡ false ⌝ }
+{
+    Session {
+        made: false,
+        g: Geometry {
+            arenas: 1,
+            per: 1,
+            pages: 1,
+            records: 1,
+            turn: 1,
+            words: 4,
+        },
+    }
+}
+
+fn refuse(s: Session, number: u8) -> Stepped
+    ensures { λ r. ⌜ r ≡ record { session = s; answer = Refused number } ⌝ }
+{
+    Stepped {
+        session: s,
+        answer: Answer::Refused(number),
+    }
+}
+
+// A store line: an accepted one starts afresh, a refused one changes nothing.
+fn store_line(s: Session, x: Six, t: &mut [u32], log: &[u8], out: &[u32]) -> Stepped
+    requires { ⌜ Kept s (now t) (now log) (now out) ⌝ }
+    ensures { λ r. ⌜ Stepping s (lent (now (t .entry)) (now (log .entry)) (now (out .entry))) (Store x) r (lent (now (t .exit)) (now (log .entry)) (now (out .entry))) ⌝ }
+{
+    let g = Geometry {
+        arenas: wide(x.arenas),
+        per: wide(x.per),
+        pages: wide(x.pages),
+        records: wide(x.records),
+        turn: wide(x.turn),
+        words: wide(x.words),
+    };
+    let answer = make(
+        g.arenas,
+        g.per,
+        g.pages,
+        g.records,
+        g.turn,
+        g.words,
+        t,
+        log,
+        out,
+    );
+    let Answer::Done(n) = answer else {
+        return Stepped { session: s, answer };
+    };
+    Stepped {
+        session: Session { made: true, g },
+        answer: Answer::Done(n),
+    }
+}
+
+// A call: 4 before a store exists, else the engine acts at once.
+fn call_line(s: Session, c: Call, t: &mut [u32], log: &mut [u8], out: &mut [u32]) -> Stepped
+    requires { ⌜ Kept s (now t) (now log) (now out) ⌝ }
+    ensures { λ r. ⌜ Stepping s (lent (now (t .entry)) (now (log .entry)) (now (out .entry))) (Asks c) r (lent (now (t .exit)) (now (log .exit)) (now (out .exit))) ⌝ }
+{
+    if !s.made {
+        return refuse(s, 4);
+    }
+    let g = s.g;
+    let answer = perform(g, t, log, out, c);
+    Stepped { session: s, answer }
+}
+
+// One line.
+pub fn step(s: Session, line: &[u8], t: &mut [u32], log: &mut [u8], out: &mut [u32]) -> Stepped
+    requires { ⌜ Kept s (now t) (now log) (now out) ⌝ }
+    ensures reply { λ r. ⌜ replyOf (r .answer) (now (out .exit)) ≡ stepReply s (lent (now (t .entry)) (now (log .entry)) (now (out .entry))) (parsed (now (line .entry))) ⌝ }
+    ensures session { λ r. ⌜ r .session ≡ stepSession s (lent (now (t .entry)) (now (log .entry)) (now (out .entry))) (parsed (now (line .entry))) ⌝ }
+    ensures tables { λ r. ⌜ now (t .exit) ≡ stepMemory s (lent (now (t .entry)) (now (log .entry)) (now (out .entry))) (parsed (now (line .entry))) .tables ⌝ }
+    ensures log { λ r. ⌜ now (log .exit) ≡ stepMemory s (lent (now (t .entry)) (now (log .entry)) (now (out .entry))) (parsed (now (line .entry))) .log ⌝ }
+    ensures out { λ r. ⌜ now (out .exit) ≡ stepMemory s (lent (now (t .entry)) (now (log .entry)) (now (out .entry))) (parsed (now (line .entry))) .out ⌝ }
+    ensures kept { λ r. ⌜ Kept (r .session) (now (t .exit)) (now (log .exit)) (now (out .exit)) ⌝ }
+    ensures few { λ r. ⌜ Few (r .answer) ⌝ }
+{
+    let said = parse(line);
+    if let Parsed::Store(x) = said {
+        return store_line(s, x, t, log, out);
+    }
+    let Parsed::Asks(c) = said else {
+        return refuse(s, 1);
+    };
+    call_line(s, c, t, log, out)
+}

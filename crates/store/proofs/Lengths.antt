@@ -1,0 +1,80 @@
+-- What a call leaves is as long as what it was lent: the words it writes fit the log.
+use mathlib.Core.Path.{_≡_, refl, sym, ap, _∙_}
+use mathlib.Core.List.{List, []}
+use Prim.Native.Nat.{ℕ, _+_, _*_, _-_, _≤_}
+use native.Mathlib.Omega.{arith}
+use lib.ListN.{length}
+use lib.Seq.{sets, length-sets}
+use borrow.Author.Tests.{ltb-false}
+use Rattle.answer.specs.Reply.{Reply, accepted, refused}
+use Rattle.answer.specs.Refusal.{NoneHolds, leaves}
+use Rattle.geometry.specs.declared.Geometry.{Geometry}
+use Rattle.log.specs.Word.{writeAt, bytesOf}
+use Rattle.log.proofs.Writing.{length-write, length-bytes}
+use Rattle.model.specs.State.{State, InRange}
+use Rattle.model.specs.Calls.{compressed, conditions, result, written, effect}
+use Rattle.model.specs.Layout.{stateOf, stored, made}
+use Rattle.model.specs.Memory.{Memory, writtenAt, reply, after, makeReply, makeAfter}
+use Rattle.model.specs.declared.Call.{Call}
+use Rattle.model.specs.declared.Call.the-variants.{Begin, Write, Erase, Seal, Fork, Delete, Read, Barrier, Compress, FreeList}
+use Rattle.model.proofs.LayoutFacts.{stored-length}
+use Rattle.model.proofs.MadeFacts.{made-length}
+use Rattle.model.proofs.Keeps.{accepted-is}
+
+-- the words of an accepted call fit the log
+module _ (g : Geometry) (T : State) (R : InRange g T) where
+  behind : (ws : List ℕ) → length ws ≤ g .words - T .used → 8 * T .used + length (bytesOf ws) ≤ 8 * g .words
+  behind ws h = omega (arith, R .used, length-bytes ws)
+
+  nothing : 8 * T .used + length (bytesOf []) ≤ 8 * g .words
+  nothing = behind [] (omega arith)
+
+  words-fit : (c : Call) → NoneHolds (conditions g T c) → writtenAt T c + length (bytesOf (written g T c)) ≤ 8 * g .words
+  words-fit Begin n = nothing
+  words-fit (Write r x k) n = behind (written g T (Write r x k)) (ltb-false (g .words - T .used) (length (written g T (Write r x k))) (n .1 .1 .1 .1 .1 .0))
+  words-fit (Erase r x) n = behind (written g T (Erase r x)) (ltb-false (g .words - T .used) (length (written g T (Erase r x))) (n .1 .1 .1 .0))
+  words-fit (Seal r) n = nothing
+  words-fit (Fork r) n = nothing
+  words-fit (Delete r) n = behind (written g T (Delete r)) (ltb-false (g .words - T .used) (length (written g T (Delete r))) (n .1 .1 .0))
+  words-fit (Read r x) n = nothing
+  words-fit Barrier n = behind (written g T Barrier) (ltb-false (g .words - T .used) 1 (n .0))
+  words-fit Compress n = omega (arith, length-bytes (compressed g T), ltb-false (g .words) (length (compressed g T)) (n .0))
+  words-fit FreeList n = nothing
+
+module _ (g : Geometry) (M : Memory) (c : Call) where
+  abbrev T : State
+  T = stateOf g (M .tables)
+
+  pub tables-length : length (after g M c .tables) ≡ length (M .tables)
+  unfolding after
+  tables-length = go (reply g M c)
+    where
+      go : (r : Reply) → length (leaves r (M .tables) (stored g (effect g T c) (M .tables))) ≡ length (M .tables)
+      go (accepted l) = stored-length g (effect g T c) (M .tables)
+      go (refused n) = refl
+
+  pub out-length : length (after g M c .out) ≡ length (M .out)
+  unfolding after
+  out-length = go (reply g M c)
+    where
+      go : (r : Reply) → length (leaves r (M .out) (sets (M .out) 0 (result g T c))) ≡ length (M .out)
+      go (accepted l) = length-sets (M .out) 0 (result g T c)
+      go (refused n) = refl
+
+  pub log-length : length (after g M c .log) ≡ length (M .log)
+  unfolding after
+  log-length = go (reply g M c) refl
+    where
+      go : (r : Reply) → reply g M c ≡ r → length (leaves r (M .log) (writeAt (M .log) (writtenAt T c) (bytesOf (written g T c)))) ≡ length (M .log)
+      go (accepted l) e =
+          let A = accepted-is g M c l e .0 in
+          length-write (M .log) (writtenAt T c) (bytesOf (written g T c)) (omega (arith, words-fit g T (A .sound .range) c (A .none), A .long .log))
+      go (refused n) e = refl
+
+pub make-length : (g : Geometry) (M : Memory) → length (makeAfter g M .tables) ≡ length (M .tables)
+unfolding makeAfter
+make-length g M = go (makeReply g M)
+  where
+    go : (r : Reply) → length (leaves r (M .tables) (made g (M .tables))) ≡ length (M .tables)
+    go (accepted l) = made-length g (M .tables)
+    go (refused n) = refl

@@ -1,0 +1,65 @@
+-- What the tests of lengths and of the six numbers tell, and the promises of `make`, return by return.
+use mathlib.Core.Path.{_≡_, refl, sym, ap, _∙_, subst}
+use mathlib.Core.Bool.{Bool, true, false, not, _||_}
+use mathlib.Core.List.{List, [], _∷_}
+use Prim.Native.Nat.{ℕ, _+_, _*_, _≤_, _<_}
+use lib.Dec.{ltb}
+use lib.ListN.{length}
+use borrow.Author.Tests.{lt-ltb, le-ltb}
+use Rattle.answer.specs.declared.Answer.{Answer}
+use Rattle.answer.specs.declared.Answer.the-variants.{Done, Refused}
+use Rattle.answer.specs.Reply.{Reply, accepted, refused, replyOf}
+use Rattle.answer.specs.Refusal.{leaves}
+use Rattle.geometry.specs.declared.Geometry.{Geometry}
+use Rattle.geometry.specs.Limits.{blocks, fits, Inside}
+use Rattle.geometry.proofs.Made.{inside-fits}
+use Rattle.log.proofs.Tools.{MadeOf}
+use Rattle.model.specs.Layout.{need, made}
+use Rattle.model.specs.Memory.{Memory, short?, makeReply, makeAfter}
+
+-- ── the lengths ──
+
+module _ (g : Geometry) (M : Memory) where
+  pub short-tables : length (M .tables) < need g → true ≡ short? g M
+  unfolding short?
+  short-tables h = rw (lt-ltb (length (M .tables)) (need g) h)
+
+  module _ (tables : need g ≤ length (M .tables)) where
+    pub short-log : length (M .log) < 8 * g .words → true ≡ short? g M
+    unfolding short?
+    short-log h = rw (le-ltb (length (M .tables)) (need g) tables, lt-ltb (length (M .log)) (8 * g .words) h)
+
+    pub short-out : 8 * g .words ≤ length (M .log) → ltb (length (M .out)) (2 * blocks g + 64) ≡ short? g M
+    unfolding short?
+    short-out log = rw (le-ltb (length (M .tables)) (need g) tables, le-ltb (length (M .log)) (8 * g .words) log)
+
+-- ── the making ──
+
+-- both promises of `make`: its answer, and the tables that it leaves
+abbrev pub Answered : Answer → List ℕ → Geometry → Memory → Type 0
+Answered r left g M = (replyOf r (M .out) ≡ makeReply g M) × (left ≡ makeAfter g M .tables)
+
+module _ (M : Memory) where
+  refuses : (g : Geometry) (n : ℕ) → makeReply g M ≡ refused n → Answered (Refused n) (M .tables) g M
+  unfolding replyOf makeAfter
+  refuses g n e = (sym e, sym (ap (λ (r : Reply). leaves r (M .tables) (made g (M .tables))) e))
+
+  pub make-2 : (g : Geometry) → fits g ≡ false → Answered (Refused 2) (M .tables) g M
+  unfolding makeReply
+  make-2 g f = refuses g 2 (rw f)
+
+  made-3 : (g : Geometry) → fits g ≡ true → short? g M ≡ true → Answered (Refused 3) (M .tables) g M
+  unfolding makeReply
+  made-3 g f s = refuses g 3 (rw (f, s))
+
+  made-done : (g : Geometry) → fits g ≡ true → short? g M ≡ false → Answered (Done 0) (made g (M .tables)) g M
+  unfolding makeReply makeAfter replyOf
+  made-done g f s = (rw (f, s), rw (f, s))
+
+  module _ {six g : Geometry} (m : MadeOf six g) where
+    pub make-3 : true ≡ short? g M → Answered (Refused 3) (M .tables) six M
+    make-3 s = subst (λ k. Answered (Refused 3) (M .tables) k M) (m .is) (made-3 g (inside-fits g (m .inside)) (sym s))
+
+    pub make-done : (left : List ℕ) → false ≡ short? g M → left ≡ made g (M .tables) → Answered (Done 0) left six M
+    make-done left s e =
+        subst (λ k. Answered (Done 0) left k M) (m .is) (rw e (made-done g (inside-fits g (m .inside)) (sym s)))

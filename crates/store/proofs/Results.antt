@@ -1,0 +1,128 @@
+-- How many numbers an accepted call gives: at most 4,096, so a result buffer of 4,160 tells their number.
+use mathlib.Core.Path.{_≡_, refl, sym, ap, _∙_, subst}
+use mathlib.Core.Bool.{Bool, true, false, cond}
+use mathlib.Core.List.{List, [], _∷_, _++_}
+use Prim.Native.Nat.{ℕ, zero, suc, _+_, _*_, _%_, _≤_}
+use native.Mathlib.Omega.{arith}
+use lib.Dec.{eqb, ltb}
+use lib.ListN.{length, take, length-take}
+use lib.Seq.{take-all, length-take-le}
+use Rattle.answer.specs.declared.Answer.the-variants.{Done}
+use Rattle.answer.specs.Reply.{accepted, replyOf}
+use Rattle.answer.specs.Refusal.{NoneHolds}
+use Rattle.answer.proofs.Cases.{cases, lt?}
+use Rattle.answer.proofs.Decided.{accepted-same}
+use Rattle.geometry.specs.declared.Geometry.{Geometry}
+use Rattle.geometry.specs.Limits.{Inside, blocks}
+use Rattle.log.specs.Runs.{Run, ending, runsFrom, runs}
+use Rattle.model.specs.View.{View, predNum, baseNum}
+use Rattle.model.specs.Effects.{Fate, freed, marked, kept, fate}
+use Rattle.model.specs.Held.{bit, tally, heldCount, available, freedOne, erased, frees}
+use Rattle.model.specs.State.{State}
+use Rattle.model.specs.Calls.{slot, onPage, pairs, freeList, writing, erasing, deleting, conditions, result}
+use Rattle.model.specs.Layout.{stateOf}
+use Rattle.model.specs.Memory.{Memory, reply}
+use Rattle.model.specs.declared.Call.{Call}
+use Rattle.model.specs.declared.Call.the-variants.{Begin, Write, Erase, Seal, Fork, Delete, Read, Barrier, Compress, FreeList}
+use Rattle.model.proofs.HeldFacts.{held-done}
+use Rattle.model.proofs.Fine.{Fine, asks-D}
+use Rattle.model.proofs.Keeps.{accepted-is, sound-fine}
+
+-- ── at most one ──
+
+freed-one : (b : ℕ) (f : Fate) → length (freedOne b f) ≤ 1
+unfolding freedOne
+freed-one b freed = omega arith
+freed-one b marked = omega arith
+freed-one b kept = omega arith
+
+erased-one : (K : View) (r l : ℕ) → length (erased K r l) ≤ 1
+unfolding erased
+erased-one K r zero = omega arith
+erased-one K r (suc b) = freed-one b (fate (K .birth b) (predNum K r) (baseNum K r))
+
+page-one : (l : ℕ) → length (onPage l) ≤ 1
+unfolding onPage
+page-one zero = omega arith
+page-one (suc b) = omega arith
+
+-- ── at most as many as there are blocks ──
+
+tally-le : (t : ℕ → Bool) (k : ℕ) → tally t k ≤ k
+unfolding tally
+tally-le t zero = omega arith
+tally-le t (suc k) = go (t k) (tally-le t k)
+  where
+    go : (x : Bool) → tally t k ≤ k → bit x + tally t k ≤ suc k
+    go true h = omega arith
+    go false h = omega arith
+
+held-le : (K : View) → heldCount K ≤ K .blocks
+unfolding heldCount
+held-le K = tally-le (λ b. ltb 0 (K .birth b)) (K .blocks)
+
+-- ── two for each run ──
+
+pairs-append : (l m : List Run) → length (pairs (l ++ m)) ≡ length (pairs l) + length (pairs m)
+unfolding pairs
+pairs-append [] m = omega arith
+pairs-append (r ∷ l) m = omega (arith, pairs-append l m)
+
+ending-le : (b r : ℕ) → length (pairs (ending b r)) ≤ 2 * r
+unfolding ending pairs
+ending-le b zero = omega arith
+ending-le b (suc r) = omega arith
+
+runs-le : (per : ℕ) (t : ℕ → Bool) (b r n : ℕ) → length (pairs (runsFrom per t b r n)) ≤ 2 * (r + n)
+unfolding runsFrom
+runs-le per t b r zero = omega (arith, ending-le b r)
+runs-le per t b r (suc n) = go (t b) (eqb (b % per) 0) (runs-le per t (suc b) 0 n) (runs-le per t (suc b) 1 n) (runs-le per t (suc b) (suc r) n)
+  where
+    next : ℕ → List Run
+    next k = runsFrom per t (suc b) k n
+
+    go : (p q : Bool) → length (pairs (next 0)) ≤ 2 * (0 + n) → length (pairs (next 1)) ≤ 2 * (1 + n) → length (pairs (next (suc r))) ≤ 2 * (suc r + n) →
+        length (pairs (cond p (cond q (ending b r ++ next 1) (next (suc r))) (ending b r ++ next 0))) ≤ 2 * (r + suc n)
+    go true true h k m = omega (arith, pairs-append (ending b r) (next 1), ending-le b r)
+    go true false h k m = omega arith
+    go false q h k m = omega (arith, pairs-append (ending b r) (next 0), ending-le b r)
+
+-- ── every call ──
+
+module _ (g : Geometry) (inside : Inside g) (T : State) (R : Fine g T) where
+  deleted-le : (r : ℕ) → NoneHolds (conditions g T (Delete r)) → length (frees (T .view) (deleting T r)) ≤ 2048
+  deleted-le r n =
+      omega (arith, held-done (T .view) (deleting T r) (R .good) (asks-D g inside T R r (n .0) (n .1 .0)), held-le (T .view), R .blocks, inside .blocks-most)
+
+  listed-le : length (freeList g T) ≤ 4096
+  unfolding freeList runs
+  listed-le = omega (arith, runs-le (g .per) (available (T .view)) 0 0 (blocks g), inside .blocks-most)
+
+  pub result-le : (c : Call) → NoneHolds (conditions g T c) → length (result g T c) ≤ 4096
+  result-le Begin n = omega arith
+  result-le (Write r x k) n = omega (arith, erased-one (T .view) (slot T r) (T .view .page (slot T r) x))
+  result-le (Erase r x) n = omega (arith, erased-one (T .view) (slot T r) (T .view .page (slot T r) x))
+  result-le (Seal r) n = omega arith
+  result-le (Fork r) n = omega arith
+  result-le (Delete r) n = omega (arith, deleted-le r n)
+  result-le (Read r x) n = omega (arith, page-one (T .view .page (slot T r) x))
+  result-le Barrier n = omega arith
+  result-le Compress n = omega arith
+  result-le FreeList n = listed-le
+
+pub accepted-le : (g : Geometry) (M : Memory) (c : Call) (l : List ℕ) → reply g M c ≡ accepted l → length l ≤ 4096
+accepted-le g M c l e =
+    let (A, r) = accepted-is g M c l e in
+    omega (arith, ap length r, result-le g (A .inside) (stateOf g (M .tables)) (sound-fine g (M .tables) (M .log) (A .sound)) c (A .none))
+
+-- the number of a result of at most 4,096 numbers
+pub number-of : (n : ℕ) (out l : List ℕ) → take n out ≡ l → length l ≤ 4096 → 4160 ≤ length out → n ≡ length l
+number-of n out l e h k =
+    cases (lt? n (length out))
+    (λ a. omega (arith, ap length e, length-take-le n out (omega arith)))
+    (λ a. absurd (let z : ⊥ = omega (arith, ap length (sym (take-all n out a) ∙ e)) in z))
+
+-- the number that an answer names
+pub done-le : (n : ℕ) (out : List ℕ) (g : Geometry) (M : Memory) (c : Call) → replyOf (Done n) out ≡ reply g M c → 4160 ≤ length out → n ≤ 4096
+unfolding replyOf
+done-le n out g M c e k = let a = accepted-le g M c (take n out) (sym e) in omega (arith, number-of n out (take n out) refl a k)

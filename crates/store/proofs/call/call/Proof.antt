@@ -1,0 +1,121 @@
+-- `call`: each return is one law of `Admitted`, from the tests that led there.
+use Rattle.geometry.specs.declared.Geometry.{Geometry}
+use Rattle.geometry.specs.Limits.{geometryOf}
+use Rattle.log.proofs.Tools.{MadeOf, made-of, outside}
+use Rattle.store.specs.Lent.{lent}
+use Rattle.store.proofs.Admitted.{call-2, call-3, call-4, call-done, sound-requires, perform-requires-of}
+use borrow.Author.Needs.{needs}
+use native.Mathlib.Omega.{arith}
+use Rattle.store.proofs.call.call.Statement.{statement}
+use Rattle.store.proofs.call.call.Tie as tie
+
+abbrev six : tie.Start → Geometry
+six s = geometryOf (s .args .arenas) (s .args .per) (s .args .pages) (s .args .records) (s .args .turn) (s .args .words)
+
+is-made : (c : tie.After-made) → MadeOf (six (c .before .before .before .before .before .before)) (c .made .given .0 .0)
+is-made c = made-of (six (c .before .before .before .before .before .before)) (c .made .given .0 .0) (c .before .before .new .ensures .0) (c .made .given .1)
+
+new-requires : tie.Need-new-requires
+new-requires c κs = search needs
+
+enum-known-made : tie.Need-enum-known-made
+enum-known-made c = search needs
+
+enum-told : tie.Need-enum-told
+enum-told c = search needs
+
+returns : tie.Need-returns
+returns c =
+    let n = c .before .before in
+    let s = n .before .before .before .before in
+    let a = s .args in
+    call-2 (lent (a .tables .now) (a .log .now) (a .out .now)) (a .c) (six s) (outside (six s) (c .enum-told .given .0 .0) (n .new .ensures .0) (c .enum-told .given .1))
+
+is-short-requires : tie.Need-is-short-requires
+is-short-requires c κs = is-made (c .before .before .before .before) .inside
+
+same-length : tie.Need-same-length
+same-length c = search needs
+
+same-length-2 : tie.Need-same-length-2
+same-length-2 c = search needs
+
+same-length-3 : tie.Need-same-length-3
+same-length-3 c = search needs
+
+returns-2 : tie.Need-returns-2
+returns-2 c =
+    let m = c .before .before .before .before .before .before in
+    let a = m .before .before .before .before .before .before .args in
+    let M = lent (a .tables .now) (a .log .now) (a .out .now) in
+    call-3 M (a .c) (is-made m) (c .before .is-short .ensures) (c .if1 .taken)
+
+is-sound-requires : tie.Need-is-sound-requires
+is-sound-requires c κs =
+    let m = c .before .before .before .before .before .before .before .before in
+    let a = m .before .before .before .before .before .before .args in
+    let M = lent (a .tables .now) (a .log .now) (a .out .now) in
+    sound-requires M (a .c) (is-made m) (c .before .before .before .is-short .ensures) (c .before .before .if1 .left)
+
+same-length-4 : tie.Need-same-length-4
+same-length-4 c = search needs
+
+same-length-5 : tie.Need-same-length-5
+same-length-5 c = search needs
+
+same-length-6 : tie.Need-same-length-6
+same-length-6 c = search needs
+
+returns-3 : tie.Need-returns-3
+returns-3 c =
+    let m = c .before .before .before .before .before .before .before .before .before .before in
+    let a = m .before .before .before .before .before .before .args in
+    let M = lent (a .tables .now) (a .log .now) (a .out .now) in
+    call-4 M (a .c) (is-made m) (c .before .before .before .before .before .is-short .ensures) (c .before .before .before .before .if1 .left) (c .before .is-sound .ensures) (c .if2 .taken)
+
+perform-requires : tie.Need-perform-requires
+perform-requires c κs =
+    let m = c .before .before .before .before .before .before .before .before .before .before .before .before .before in
+    let a = m .before .before .before .before .before .before .args in
+    let M = lent (a .tables .now) (a .log .now) (a .out .now) in
+    perform-requires-of M (a .c) (is-made m) (c .before .before .before .before .before .before .before .before .is-short .ensures) (c .before .before .before .before .before .before .before .if1 .left) (c .before .before .before .before .is-sound .ensures) (c .before .before .before .if2 .left)
+
+same-length-7 : tie.Need-same-length-7
+same-length-7 c = search needs
+
+same-length-8 : tie.Need-same-length-8
+same-length-8 c = search needs
+
+same-length-9 : tie.Need-same-length-9
+same-length-9 c = search needs
+
+returns-4 : tie.Need-returns-4
+returns-4 c =
+    let m = c .before .before .before .before .before .before .before .before .before .before .before .before .before .before .before .before .before .before .before .before in
+    let a = m .before .before .before .before .before .before .args in
+    let M = lent (a .tables .now) (a .log .now) (a .out .now) in
+    call-done M (a .c) (is-made m) (c .before .before .before .before .before .before .before .before .before .before .before .before .before .before .before .is-short .ensures) (c .before .before .before .before .before .before .before .before .before .before .before .before .before .before .if1 .left) (c .before .before .before .before .before .before .before .before .before .before .before .is-sound .ensures) (c .before .before .before .before .before .before .before .before .before .before .if2 .left) _ _ _ _ (c .before .before .before .before .before .before .perform .ensures)
+
+pub call-spec : {M : Type 1} → statement M
+call-spec =
+    tie.close
+    (tie.spec
+    new-requires
+    enum-known-made
+    enum-told
+    returns
+    is-short-requires
+    same-length
+    same-length-2
+    same-length-3
+    returns-2
+    is-sound-requires
+    same-length-4
+    same-length-5
+    same-length-6
+    returns-3
+    perform-requires
+    same-length-7
+    same-length-8
+    same-length-9
+    returns-4)

@@ -1,0 +1,65 @@
+// The making of a store on any memory that is long enough.
+ghost use mathlib.Core.Path.{_≡_};
+ghost use Prim.Native.Nat.{_+_, _*_, _≤_};
+ghost use lib.ListN.{length, replicate};
+ghost use lib.Seq.{sets};
+ghost use Rattle.answer.specs.Reply.{replyOf};
+ghost use Rattle.geometry.specs.Limits.{Inside, geometryOf};
+ghost use Rattle.model.specs.Layout.{need, made};
+ghost use Rattle.model.specs.Memory.{makeReply, makeAfter};
+ghost use Rattle.store.specs.Lent.{lent};
+use crate::call::is_short;
+use answer::Answer;
+use geometry::Geometry;
+use geometry::Making;
+
+// The first n numbers become 0.
+fn clear(t: &mut [u32], n: usize)
+    requires { ⌜ n ≤ length (now t) ⌝ }
+    ensures { λ _. ⌜ now (t .exit) ≡ sets (now (t .entry)) 0 (replicate n 0) ⌝ }
+{
+    let mut i: usize = 0;
+    while i < n {
+        t[i] = 0;
+        i += 1;
+    }
+}
+
+// The tables of a fresh store.
+fn fill(t: &mut [u32], g: Geometry)
+    requires { ⌜ Inside g × (need g ≤ length (now t)) ⌝ }
+    ensures { λ _. ⌜ now (t .exit) ≡ made g (now (t .entry)) ⌝ }
+{
+    clear(t, 32 + 272 * g.records + 8 * (g.arenas * g.per));
+    t[0] = g.arenas as u32;
+    t[1] = g.per as u32;
+    t[2] = g.pages as u32;
+    t[3] = g.records as u32;
+    t[4] = g.turn as u32;
+    t[5] = g.words as u32;
+}
+
+pub fn make(
+    arenas: usize,
+    per: usize,
+    pages: usize,
+    records: usize,
+    turn: usize,
+    words: usize,
+    tables: &mut [u32],
+    log: &[u8],
+    out: &[u32],
+) -> Answer
+    ensures reply { λ r. ⌜ replyOf r (now (out .entry)) ≡ makeReply (geometryOf arenas per pages records turn words) (lent (now (tables .entry)) (now (log .entry)) (now (out .entry))) ⌝ }
+    ensures tables { λ r. ⌜ now (tables .exit) ≡ makeAfter (geometryOf arenas per pages records turn words) (lent (now (tables .entry)) (now (log .entry)) (now (out .entry))) .tables ⌝ }
+{
+    let made = Geometry::new(arenas, per, pages, records, turn, words);
+    let Making::Made(g) = made else {
+        return Answer::Refused(2);
+    };
+    if is_short(g, tables, log, out) {
+        return Answer::Refused(3);
+    }
+    fill(tables, g);
+    Answer::Done(0)
+}

@@ -1,0 +1,127 @@
+//! Scripts made at random from a seed: forks of forks, deletes in the middle of a line, full stores, full logs, full record tables, bad lines.
+
+use crate::store::{Call, Geometry, Store};
+
+/// A small generator of numbers (xorshift).
+pub struct Dice(u64);
+
+impl Dice {
+    pub fn new(seed: u64) -> Dice {
+        Dice(seed.wrapping_mul(0x9E37_79B9_7F4A_7C15) | 1)
+    }
+
+    fn next(&mut self) -> u64 {
+        self.0 ^= self.0 << 13;
+        self.0 ^= self.0 >> 7;
+        self.0 ^= self.0 << 17;
+        self.0 >> 11
+    }
+
+    fn below(&mut self, n: u64) -> u64 {
+        self.next() % n
+    }
+}
+
+fn geometry(d: &mut Dice) -> [u64; 6] {
+    let (arenas, per) = match d.below(8) {
+        0 => (1, 1 + d.below(3)),
+        1 => (16, 128),
+        2 => (2, 1024),
+        _ => (1 + d.below(4), 1 + d.below(12)),
+    };
+    let n = arenas * per;
+    let pages = if d.below(10) == 0 { 256 } else { 1 + d.below(6) };
+    let records = if d.below(6) == 0 { 64 } else { 1 + d.below(12) };
+    let turn = 1 + d.below(5);
+    let words = if d.below(2) == 0 { 2 * n + 2 } else { (2 * n + 2 + d.below(60)).min(8192) };
+    [arenas, per, pages, records, turn, words]
+}
+
+const BAD: [&str; 14] = ["", "B ", " B", "W 1 0", "W 1 0 0 0", "E 01 0", "S", "Q 1", "b", "store", "store 1 4 2 4 8", "D 12345678", "R 1  0", "T 3"];
+
+/// A record to ask for: mostly one that is in the store, most often a new one.
+fn record(d: &mut Dice, store: &Store) -> u64 {
+    let numbers = store.numbers();
+    if numbers.is_empty() || d.below(25) == 0 {
+        return d.below(12);
+    }
+    let n = numbers.len() as u64;
+    let at = if d.below(3) == 0 { d.below(n) } else { n - 1 - d.below(n.min(4)) };
+    numbers[at as usize]
+}
+
+/// A call, with weights: `grow` leans towards new records and writes, else towards deletes.
+fn call(d: &mut Dice, g: &[u64; 6], store: &Store, grow: bool) -> Call {
+    let r = record(d, store);
+    let page = if d.below(40) == 0 { g[2] + d.below(2) } else { d.below(g[2]) };
+    let kind = if d.below(60) == 0 { 3 } else { d.below(3) };
+    let delete = if grow { 4 } else { 30 };
+    match d.below(86 + delete) {
+        0..=4 => Call::Begin,
+        5..=39 => Call::Write(r, page, kind),
+        40..=50 => Call::Erase(r, page),
+        51..=64 => Call::Seal(r),
+        65..=74 => Call::Fork(r),
+        75..=79 => Call::Read(r, page),
+        80 => Call::Barrier,
+        81..=82 => Call::Compress,
+        83..=85 => Call::FreeList,
+        _ => Call::Delete(r),
+    }
+}
+
+fn spelled(c: Call) -> String {
+    match c {
+        Call::Begin => "B".into(),
+        Call::Write(r, page, kind) => line_of("W", &[r, page, kind]),
+        Call::Erase(r, page) => line_of("E", &[r, page]),
+        Call::Seal(r) => line_of("S", &[r]),
+        Call::Fork(r) => line_of("F", &[r]),
+        Call::Delete(r) => line_of("D", &[r]),
+        Call::Read(r, page) => line_of("R", &[r, page]),
+        Call::Barrier => "Y".into(),
+        Call::Compress => "C".into(),
+        Call::FreeList => "L".into(),
+    }
+}
+
+pub fn script(seed: u64) -> Vec<u8> {
+    let mut d = Dice::new(seed);
+    let mut g = geometry(&mut d);
+    let mut store = Store::new(Geometry::new(g).expect("inside the limits"));
+    let mut lines = vec![line_of("store", &g)];
+    let mut grow = true;
+    for _ in 0..40 + d.below(1500) {
+        if d.below(40) == 0 {
+            grow = !grow;
+        }
+        match d.below(200) {
+            0..=1 => lines.push(BAD[d.below(BAD.len() as u64) as usize].into()),
+            2 => lines.push("W 1 0 0".repeat(1 + d.below(20) as usize)),
+            3 => lines.push(line_of("store", &[1, 4, 2, 4, 8, 9])),
+            4 if d.below(6) == 0 => {
+                g = geometry(&mut d);
+                store = Store::new(Geometry::new(g).expect("inside the limits"));
+                lines.push(line_of("store", &g));
+            }
+            _ => {
+                let c = call(&mut d, &g, &store, grow);
+                let _ = store.call(c);
+                lines.push(spelled(c));
+            }
+        }
+    }
+    let mut text = lines.join("\n").into_bytes();
+    if d.below(3) > 0 {
+        text.push(b'\n');
+    }
+    text
+}
+
+fn line_of(head: &str, numbers: &[u64]) -> String {
+    let mut s = head.to_string();
+    for n in numbers {
+        s += &format!(" {n}");
+    }
+    s
+}

@@ -1,0 +1,77 @@
+//! Scripts: lines, calls, replies.
+use crate::store::{Call, Geometry, Store};
+
+enum Line {
+    Store([u64; 6]),
+    Call(Call),
+}
+
+fn number(word: &[u8]) -> Option<u64> {
+    let digits = !word.is_empty() && word.len() <= 7 && word.iter().all(|b| b.is_ascii_digit());
+    if !digits || (word[0] == b'0' && word.len() > 1) {
+        return None;
+    }
+    std::str::from_utf8(word).ok()?.parse().ok()
+}
+
+fn parse(line: &[u8]) -> Option<Line> {
+    if line.is_empty() || line.len() > 80 {
+        return None;
+    }
+    let mut words = line.split(|&b| b == b' ');
+    let head = words.next()?;
+    let numbers: Option<Vec<u64>> = words.map(number).collect();
+    let n = numbers?;
+    if head == b"store" {
+        return n.try_into().ok().map(Line::Store);
+    }
+    let call = match (head, n.as_slice()) {
+        (b"B", []) => Call::Begin,
+        (b"W", &[r, page, kind]) => Call::Write(r, page, kind),
+        (b"E", &[r, page]) => Call::Erase(r, page),
+        (b"S", &[r]) => Call::Seal(r),
+        (b"F", &[r]) => Call::Fork(r),
+        (b"D", &[r]) => Call::Delete(r),
+        (b"R", &[r, page]) => Call::Read(r, page),
+        (b"Y", []) => Call::Barrier,
+        (b"C", []) => Call::Compress,
+        (b"L", []) => Call::FreeList,
+        _ => return None,
+    };
+    Some(Line::Call(call))
+}
+
+/// The replies to a script.
+pub fn run(text: &[u8]) -> Vec<u8> {
+    let text = &text[..text.len().min(65_536)];
+    let mut store: Option<Store> = None;
+    let mut out = Vec::new();
+    let mut lines: Vec<&[u8]> = text.split(|&b| b == b'\n').collect();
+    if lines.last().is_some_and(|l| l.is_empty()) {
+        lines.pop();
+    }
+    for line in lines {
+        let reply = match parse(line) {
+            None => Err(1),
+            Some(Line::Store(n)) => match Geometry::new(n) {
+                None => Err(2),
+                Some(g) => {
+                    store = Some(Store::new(g));
+                    Ok(vec![])
+                }
+            },
+            Some(Line::Call(c)) => store.as_mut().map_or(Err(4), |s| s.call(c)),
+        };
+        match reply {
+            Ok(numbers) => {
+                out.push(b'+');
+                for n in numbers {
+                    out.extend(format!(" {n}").bytes());
+                }
+            }
+            Err(n) => out.extend(format!("- {n}").bytes()),
+        }
+        out.push(b'\n');
+    }
+    out
+}

@@ -1,0 +1,363 @@
+//! The store of the scope document, the crude way: a block is freed when it leaves the last page of the last record.
+//! Deadlists are kept only for the order in which a delete gives its blocks, and checked against the crude walk.
+use std::collections::BTreeMap;
+
+#[derive(Clone, Copy)]
+pub struct Geometry {
+    pub arenas: u64,
+    pub per: u64,
+    pub pages: u64,
+    pub records: u64,
+    pub turn: u64,
+    pub words: u64,
+}
+
+impl Geometry {
+    pub fn new(n: [u64; 6]) -> Option<Geometry> {
+        let [arenas, per, pages, records, turn, words] = n;
+        let within = |lo: u64, x: u64, hi: u64| lo <= x && x <= hi;
+        if !within(1, arenas, 16) || !within(1, per, 1024) || arenas * per > 2048 {
+            return None;
+        }
+        if !within(1, pages, 256) || !within(1, records, 64) || !within(1, turn, 4096) {
+            return None;
+        }
+        if !within(2 * arenas * per + 2, words, 8192) {
+            return None;
+        }
+        Some(Geometry { arenas, per, pages, records, turn, words })
+    }
+
+    pub fn blocks(&self) -> u64 {
+        self.arenas * self.per
+    }
+}
+
+#[derive(Clone, Copy, Debug, PartialEq)]
+pub enum Call {
+    Begin,
+    Write(u64, u64, u64),
+    Erase(u64, u64),
+    Seal(u64),
+    Fork(u64),
+    Delete(u64),
+    Read(u64, u64),
+    Barrier,
+    Compress,
+    FreeList,
+}
+
+struct Record {
+    open: bool,
+    pages: Vec<Option<u64>>,
+    /// shards: by birth, first in first
+    dead: BTreeMap<u64, Vec<u64>>,
+}
+
+struct Line {
+    base: u64,
+    records: Vec<u64>,
+}
+
+pub struct Store {
+    pub g: Geometry,
+    last: u64,
+    records: BTreeMap<u64, Record>,
+    lines: Vec<Line>,
+    /// of a held block: the number of the record that was open when it was given
+    births: BTreeMap<u64, u64>,
+    marks: Vec<u64>,
+    counter: u64,
+    writes: u64,
+    pub log: Vec<u64>,
+}
+
+type Reply = Result<Vec<u64>, u32>;
+
+impl Store {
+    pub fn new(g: Geometry) -> Store {
+        Store {
+            g,
+            last: 0,
+            records: BTreeMap::new(),
+            lines: Vec::new(),
+            births: BTreeMap::new(),
+            marks: vec![0; g.arenas as usize],
+            counter: 0,
+            writes: 0,
+            log: Vec::new(),
+        }
+    }
+
+    /// The numbers of the records in the store.
+    pub fn numbers(&self) -> Vec<u64> {
+        self.records.keys().copied().collect()
+    }
+
+    fn line_of(&self, r: u64) -> usize {
+        self.lines.iter().position(|l| l.records.contains(&r)).expect("a record stands in a line")
+    }
+
+    fn pred(&self, r: u64) -> u64 {
+        let line = &self.lines[self.line_of(r)];
+        let at = line.records.iter().position(|&x| x == r).unwrap();
+        if at == 0 { line.base } else { line.records[at - 1] }
+    }
+
+    fn follower(&self, r: u64) -> Option<u64> {
+        let line = &self.lines[self.line_of(r)];
+        let at = line.records.iter().position(|&x| x == r).unwrap();
+        line.records.get(at + 1).copied()
+    }
+
+    fn on_a_page(&self, b: u64) -> bool {
+        self.records.values().any(|r| r.pages.contains(&Some(b)))
+    }
+
+    fn choose(&self, kind: u64) -> Option<(u64, u64)> {
+        let first = (self.counter + kind) % self.g.arenas;
+        for i in 0..self.g.arenas {
+            let arena = (first + i) % self.g.arenas;
+            let mark = self.marks[arena as usize];
+            let free = |o: &u64| !self.births.contains_key(&(arena * self.g.per + o));
+            if let Some(o) = (mark..self.g.per).find(free).or_else(|| (0..mark).find(free)) {
+                return Some((arena, o));
+            }
+        }
+        None
+    }
+
+    fn unused(&self) -> u64 {
+        self.g.words - self.log.len() as u64
+    }
+
+    fn free(&mut self, b: u64) {
+        assert!(!self.on_a_page(b), "a freed block is on no page");
+        assert!(self.births.remove(&b).is_some(), "a freed block was held");
+        self.log.push(b * 16384 + 2);
+    }
+
+    /// Would emptying this page free its block? The crude way: no other page of any record has it.
+    fn would_free(&self, r: u64, page: u64) -> Option<u64> {
+        let b = self.records[&r].pages[page as usize]?;
+        let others = self.records.iter().any(|(&n, rec)| {
+            rec.pages.iter().enumerate().any(|(x, &p)| p == Some(b) && (n != r || x as u64 != page))
+        });
+        if others { None } else { Some(b) }
+    }
+
+    /// The block has left the page; it is freed, or stands on the deadlist of r, or another line keeps it.
+    fn kill(&mut self, r: u64, b: u64) -> bool {
+        if !self.on_a_page(b) {
+            self.free(b);
+            return true;
+        }
+        let birth = self.births[&b];
+        let base = self.lines[self.line_of(r)].base;
+        if birth > base {
+            self.records.get_mut(&r).unwrap().dead.entry(birth).or_default().push(b);
+        }
+        false
+    }
+
+    fn room(&self) -> Result<(), u32> {
+        if self.records.len() as u64 >= self.g.records {
+            return Err(11);
+        }
+        if self.last >= 999_999 {
+            return Err(12);
+        }
+        Ok(())
+    }
+
+    fn open_record(&mut self, pages: Vec<Option<u64>>) -> u64 {
+        self.last += 1;
+        self.records.insert(self.last, Record { open: true, pages, dead: BTreeMap::new() });
+        self.last
+    }
+
+    fn open(&self, r: u64) -> Result<bool, u32> {
+        self.records.get(&r).map(|x| x.open).ok_or(8)
+    }
+
+    pub fn call(&mut self, c: Call) -> Reply {
+        match c {
+            Call::Begin => {
+                self.room()?;
+                let n = self.open_record(vec![None; self.g.pages as usize]);
+                self.lines.push(Line { base: 0, records: vec![n] });
+                Ok(vec![n])
+            }
+            Call::Write(r, page, kind) => self.write(r, page, kind),
+            Call::Erase(r, page) => self.erase(r, page),
+            Call::Seal(r) => {
+                if !self.open(r)? {
+                    return Err(9);
+                }
+                self.room()?;
+                let pages = self.records[&r].pages.clone();
+                self.records.get_mut(&r).unwrap().open = false;
+                let n = self.open_record(pages);
+                let line = self.line_of(r);
+                self.lines[line].records.push(n);
+                Ok(vec![n])
+            }
+            Call::Fork(r) => {
+                if self.open(r)? {
+                    return Err(9);
+                }
+                self.room()?;
+                let pages = self.records[&r].pages.clone();
+                let n = self.open_record(pages);
+                self.lines.push(Line { base: r, records: vec![n] });
+                Ok(vec![n])
+            }
+            Call::Delete(r) => self.delete(r),
+            Call::Read(r, page) => {
+                if page >= self.g.pages {
+                    return Err(5);
+                }
+                self.open(r)?;
+                Ok(self.records[&r].pages[page as usize].into_iter().collect())
+            }
+            Call::Barrier => {
+                if self.unused() < 1 {
+                    return Err(14);
+                }
+                self.log.push(3);
+                Ok(vec![])
+            }
+            Call::Compress => Ok(vec![self.compress()]),
+            Call::FreeList => Ok(self.runs(false).into_iter().flat_map(|(b, n)| [b, n]).collect()),
+        }
+    }
+
+    fn write(&mut self, r: u64, page: u64, kind: u64) -> Reply {
+        if page >= self.g.pages {
+            return Err(5);
+        }
+        if kind > 2 {
+            return Err(6);
+        }
+        if !self.open(r)? {
+            return Err(9);
+        }
+        let (arena, o) = self.choose(kind).ok_or(13u32)?;
+        let frees = self.would_free(r, page).is_some() as u64;
+        if self.unused() < 1 + frees {
+            return Err(14);
+        }
+        let b = arena * self.g.per + o;
+        self.marks[arena as usize] = (o + 1) % self.g.per;
+        self.writes += 1;
+        if self.writes == self.g.turn {
+            self.writes = 0;
+            self.counter = (self.counter + 1) % self.g.arenas;
+        }
+        assert!(self.births.insert(b, r).is_none());
+        self.log.push(b * 16384 + 1);
+        let old = self.records.get_mut(&r).unwrap().pages[page as usize].replace(b);
+        let mut given = vec![b];
+        if let Some(old) = old {
+            if self.kill(r, old) {
+                given.push(old);
+            }
+        }
+        Ok(given)
+    }
+
+    fn erase(&mut self, r: u64, page: u64) -> Reply {
+        if page >= self.g.pages {
+            return Err(5);
+        }
+        if !self.open(r)? {
+            return Err(9);
+        }
+        if self.unused() < self.would_free(r, page).is_some() as u64 {
+            return Err(14);
+        }
+        let old = self.records.get_mut(&r).unwrap().pages[page as usize].take();
+        match old {
+            Some(b) if self.kill(r, b) => Ok(vec![b]),
+            _ => Ok(vec![]),
+        }
+    }
+
+    /// The blocks that only r has, the crude way.
+    fn only_on(&self, r: u64) -> Vec<u64> {
+        let mine = self.records[&r].pages.iter().flatten().copied();
+        mine.filter(|b| !self.records.iter().any(|(&n, x)| n != r && x.pages.contains(&Some(*b)))).collect()
+    }
+
+    fn delete(&mut self, r: u64) -> Reply {
+        self.open(r)?;
+        if self.lines.iter().any(|l| l.base == r) {
+            return Err(10);
+        }
+        let p = self.pred(r);
+        let follower = self.follower(r);
+        let freed: Vec<u64> = match follower {
+            Some(n) => {
+                let shards = &self.records[&n].dead;
+                shards.range(p + 1..).flat_map(|(_, l)| l.iter().copied()).collect()
+            }
+            None => {
+                let mine = self.records[&r].pages.iter().flatten().copied();
+                mine.filter(|b| self.births[b] > p).collect()
+            }
+        };
+        let (mut a, mut b) = (freed.clone(), self.only_on(r));
+        a.sort();
+        b.sort();
+        assert_eq!(a, b, "deadlists and the crude walk agree");
+        if self.unused() < freed.len() as u64 {
+            return Err(14);
+        }
+        let gone = self.records.remove(&r).unwrap();
+        let line = self.line_of(r);
+        self.lines[line].records.retain(|&x| x != r);
+        if self.lines[line].records.is_empty() {
+            self.lines.remove(line);
+        }
+        if let Some(n) = follower {
+            let dead = &mut self.records.get_mut(&n).unwrap().dead;
+            dead.split_off(&(p + 1));
+            for (birth, list) in gone.dead {
+                dead.entry(birth).or_default().extend(list);
+            }
+        }
+        for &b in &freed {
+            self.free(b);
+        }
+        Ok(freed)
+    }
+
+    /// The longest runs, inside arenas, of blocks that are held, or of those that are not.
+    fn runs(&self, held: bool) -> Vec<(u64, u64)> {
+        let mut runs: Vec<(u64, u64)> = Vec::new();
+        for b in 0..self.g.blocks() {
+            if self.births.contains_key(&b) != held {
+                continue;
+            }
+            match runs.last_mut() {
+                Some((at, n)) if *at + *n == b && b % self.g.per != 0 => *n += 1,
+                _ => runs.push((b, 1)),
+            }
+        }
+        runs
+    }
+
+    fn compress(&mut self) -> u64 {
+        self.log.clear();
+        for (b, n) in self.runs(true) {
+            if n == 1 {
+                self.log.push(b * 16384 + 1);
+            } else {
+                self.log.push(b * 16384 + 4);
+                self.log.push(n * 16384);
+            }
+        }
+        self.log.push(3);
+        self.log.len() as u64
+    }
+}
