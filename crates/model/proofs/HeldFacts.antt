@@ -1,4 +1,4 @@
--- Blocks given less blocks freed is the number of blocks heldCount.
+-- Blocks given less blocks freed is the number of blocks held.
 use mathlib.Core.Path.{_≡_, refl, sym, ap, _∙_}
 use mathlib.Core.Logic.{inl}
 use mathlib.Core.Bool.{Bool, true, cond, true≢false}
@@ -202,7 +202,7 @@ held-done K (doS s) G (a, o, v) = refl
 held-done K (doF s) G (a, o, v) = refl
 held-done K (doD s) G (a, f) = omega (arith, delete-held K (G .sound) (G .lists) s a (follower K s))
 
--- ── the freed blocks are those that were heldCount and are not ──
+-- ── the freed blocks are those that were held and are not ──
 
 abbrev pub FreedIs : View → View → List ℕ → Type 0
 FreedIs K L l = (b : ℕ) → (In b l → (0 < K .birth b) × (L .birth b ≡ 0)) × ((0 < K .birth b) × (L .birth b ≡ 0) → In b l)

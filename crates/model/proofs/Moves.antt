@@ -83,9 +83,9 @@ unfolding eraseAt
 erase-num K r x zero s = refl
 erase-num K r x (suc b) s = killed-num K r x b s (fate (K .birth b) (predNum K r) (baseNum K r))
 
--- ── the heldCount blocks, by the events ──
+-- ── the held blocks, by the events ──
 
--- h says which blocks are heldCount in K
+-- h says which blocks are held in K
 abbrev pub Tells : (ℕ → Bool) → View → Type 0
 Tells h K = (c : ℕ) → h c ≡ ltb 0 (K .birth c)
 

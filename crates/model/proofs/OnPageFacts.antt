@@ -1,4 +1,4 @@
--- The fresh store, and what it means that the book and the store agree: a block is heldCount just where it is on a page of the book.
+-- The fresh store, and what it means that the book and the store agree: a block is held just where it is on a page of the book.
 use mathlib.Core.Path.{_≡_, sym, ap, _∙_, subst}
 use mathlib.Core.Logic.{inl, inr}
 use mathlib.Core.Bool.{Bool, true}
@@ -54,7 +54,7 @@ pub blank-held : (K : View) → Blank K → heldCount K ≡ 0
 unfolding heldCount
 blank-held K F = tally-none (λ b. ltb 0 (K .birth b)) (K .blocks) (λ b l. le-ltb 0 (K .birth b) (omega (arith, F .birth b)))
 
--- ── heldCount is on a page of the book ──
+-- ── held is on a page of the book ──
 
 module _ (K : View) (B : Book) (G : Good K) (A : Agree K B) where
   in-recs : (b s x : ℕ) → K .page s x ≡ suc b → 0 < K .num s → (c m : ℕ) (l : List Rec) → Row K c m l → HasIn (K .num s) l →

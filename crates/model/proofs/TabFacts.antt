@@ -1,4 +1,4 @@
--- What the tables of `specs/Tab.antt` hold.
+-- What the tables of `specs/Table.antt` hold.
 use mathlib.Core.Path.{_≡_, refl, sym, ap, ap₂, _∙_}
 use mathlib.Core.Logic.{_⊎_, inl, inr, ⊎-elim}
 use mathlib.Core.Bool.{Bool, true, false, cond, _&&_, _||_}
