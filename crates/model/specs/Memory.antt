@@ -27,6 +27,10 @@ pub record Memory : Type 0 where
   pub log : List ℕ
   pub out : List ℕ
 
+-- the memory that a call was lent
+abbrev pub lent : List ℕ → List ℕ → List ℕ → Memory
+lent tables log out = record { tables = tables; log = log; out = out }
+
 -- "3: tables or the store's own log space shorter than the geometry needs, or a result buffer under 2 × N + 64 numbers."
 unfoldable pub short? : Geometry → Memory → Bool
 short? g M = ltb (length (M .tables)) (need g) || (ltb (length (M .log)) (8 * g .words) || ltb (length (M .out)) (2 * blocks g + 64))

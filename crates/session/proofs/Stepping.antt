@@ -17,13 +17,12 @@ use Rattle.answer.proofs.Decided.{decide-accepted}
 use Rattle.geometry.specs.declared.Geometry.{Geometry}
 use Rattle.geometry.specs.Limits.{Inside, geometryOf, blocks, fits}
 use Rattle.model.specs.Layout.{need, made}
-use Rattle.model.specs.Memory.{Memory, short?, reply, after, makeReply, makeAfter}
+use Rattle.model.specs.Memory.{Memory, short?, reply, after, makeReply, makeAfter, lent}
 use Rattle.model.specs.SoundStore.{SoundStore}
 use Rattle.model.specs.declared.Call.{Call}
 use Rattle.model.proofs.Keeps.{Long, calls-keep-sound, making-is, fresh-is-sound}
 use Rattle.tables.specs.Ready.{Ready, OutLong, LogLong}
 use Rattle.tables.specs.Outcome.{replied, tablesLeft, logLeft, outLeft}
-use Rattle.store.specs.Lent.{lent}
 use Rattle.store.proofs.Admitted.{sound-ready, reply-is, tables-are, log-is, out-is}
 use Rattle.store.proofs.Results.{number-of, done-le}
 use Rattle.store.proofs.Lengths.{tables-length, log-length, out-length, make-length}

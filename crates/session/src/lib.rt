@@ -4,7 +4,7 @@ ghost use mathlib.Core.Bool.{false};
 ghost use Rattle.answer.specs.Reply.{replyOf};
 ghost use Rattle.answer.specs.declared.Answer.the-variants.{Refused};
 ghost use Rattle.script.specs.Parse.{parsed};
-ghost use Rattle.store.specs.Lent.{lent};
+ghost use Rattle.model.specs.Memory.{lent};
 ghost use Rattle.script.specs.declared.parse.Parsed.the-variants.{Store, Asks};
 ghost use Rattle.session.specs.Step.{stepReply, stepMemory, stepSession, Kept, Few, Stepping};
 use answer::Answer;

@@ -4,3 +4,4 @@ pub mod Loops
 pub mod Clauses
 pub mod Entries
 pub mod Whole
+pub mod Short

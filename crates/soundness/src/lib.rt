@@ -1,7 +1,8 @@
-// The check of a stranger's tables and log: whether they are a sound store. Linear in the tables and the log, but for pairs of record slots.
+// The check of what a stranger lends: whether it is long enough, and whether tables and log are a sound store. Linear in the tables and the log, but for pairs of record slots.
 mod blocks;
 mod header;
 mod held;
+pub mod lengths;
 mod pages;
 mod read;
 mod records;

@@ -1,4 +1,4 @@
--- What the tests of lengths and of the six numbers tell, and the promises of `make`, return by return.
+-- The promises of `make`, return by return.
 use mathlib.Core.Path.{_≡_, refl, sym, ap, _∙_, subst}
 use mathlib.Core.Bool.{Bool, true, false, not, _||_}
 use mathlib.Core.List.{List, [], _∷_}
@@ -16,22 +16,6 @@ use Rattle.geometry.proofs.Made.{inside-fits}
 use Rattle.log.proofs.Tools.{MadeOf}
 use Rattle.model.specs.Layout.{need, made}
 use Rattle.model.specs.Memory.{Memory, short?, makeReply, makeAfter}
-
--- ── the lengths ──
-
-module _ (g : Geometry) (M : Memory) where
-  pub short-tables : length (M .tables) < need g → true ≡ short? g M
-  unfolding short?
-  short-tables h = rw (lt-ltb (length (M .tables)) (need g) h)
-
-  module _ (tables : need g ≤ length (M .tables)) where
-    pub short-log : length (M .log) < 8 * g .words → true ≡ short? g M
-    unfolding short?
-    short-log h = rw (le-ltb (length (M .tables)) (need g) tables, lt-ltb (length (M .log)) (8 * g .words) h)
-
-    pub short-out : 8 * g .words ≤ length (M .log) → ltb (length (M .out)) (2 * blocks g + 64) ≡ short? g M
-    unfolding short?
-    short-out log = rw (le-ltb (length (M .tables)) (need g) tables, le-ltb (length (M .log)) (8 * g .words) log)
 
 -- ── the making ──
 

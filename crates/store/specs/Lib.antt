@@ -1,2 +1,2 @@
--- What the entry points promise: the model's definitions on the memory that was lent.
-pub mod Lent
+-- What the entry points promise.
+pub mod Called

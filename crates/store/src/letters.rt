@@ -1,10 +1,8 @@
 // One function a letter.
-ghost use mathlib.Core.Path.{_≡_};
-ghost use Rattle.answer.specs.Reply.{replyOf};
 ghost use Rattle.geometry.specs.Limits.{geometryOf};
-ghost use Rattle.model.specs.Memory.{reply, after};
+ghost use Rattle.model.specs.Memory.{lent};
+ghost use Rattle.store.specs.Called.{Called};
 ghost use Rattle.model.specs.declared.Call.the-variants.{Begin, Write, Erase, Seal, Fork, Delete, Read, Barrier, Compress, FreeList};
-ghost use Rattle.store.specs.Lent.{lent};
 use crate::call::call;
 use answer::Answer;
 use model::Call;
@@ -21,10 +19,9 @@ pub fn begin(
     log: &mut [u8],
     out: &mut [u32],
 ) -> Answer
-    ensures reply { λ r. ⌜ replyOf r (now (out .exit)) ≡ reply (geometryOf arenas per pages records turn words) (lent (now (tables .entry)) (now (log .entry)) (now (out .entry))) Begin ⌝ }
-    ensures tables { λ r. ⌜ now (tables .exit) ≡ after (geometryOf arenas per pages records turn words) (lent (now (tables .entry)) (now (log .entry)) (now (out .entry))) Begin .tables ⌝ }
-    ensures log { λ r. ⌜ now (log .exit) ≡ after (geometryOf arenas per pages records turn words) (lent (now (tables .entry)) (now (log .entry)) (now (out .entry))) Begin .log ⌝ }
-    ensures out { λ r. ⌜ now (out .exit) ≡ after (geometryOf arenas per pages records turn words) (lent (now (tables .entry)) (now (log .entry)) (now (out .entry))) Begin .out ⌝ }
+    ensures { λ r. ⌜ Called (geometryOf arenas per pages records turn words)
+        (lent (now (tables .entry)) (now (log .entry)) (now (out .entry))) Begin r
+        (lent (now (tables .exit)) (now (log .exit)) (now (out .exit))) ⌝ }
 {
     call(
         arenas,
@@ -55,10 +52,9 @@ pub fn write(
     page: u32,
     kind: u32,
 ) -> Answer
-    ensures reply { λ r. ⌜ replyOf r (now (out .exit)) ≡ reply (geometryOf arenas per pages records turn words) (lent (now (tables .entry)) (now (log .entry)) (now (out .entry))) (Write n page kind) ⌝ }
-    ensures tables { λ r. ⌜ now (tables .exit) ≡ after (geometryOf arenas per pages records turn words) (lent (now (tables .entry)) (now (log .entry)) (now (out .entry))) (Write n page kind) .tables ⌝ }
-    ensures log { λ r. ⌜ now (log .exit) ≡ after (geometryOf arenas per pages records turn words) (lent (now (tables .entry)) (now (log .entry)) (now (out .entry))) (Write n page kind) .log ⌝ }
-    ensures out { λ r. ⌜ now (out .exit) ≡ after (geometryOf arenas per pages records turn words) (lent (now (tables .entry)) (now (log .entry)) (now (out .entry))) (Write n page kind) .out ⌝ }
+    ensures { λ r. ⌜ Called (geometryOf arenas per pages records turn words)
+        (lent (now (tables .entry)) (now (log .entry)) (now (out .entry))) (Write n page kind) r
+        (lent (now (tables .exit)) (now (log .exit)) (now (out .exit))) ⌝ }
 {
     call(
         arenas,
@@ -88,10 +84,9 @@ pub fn erase(
     n: u32,
     page: u32,
 ) -> Answer
-    ensures reply { λ r. ⌜ replyOf r (now (out .exit)) ≡ reply (geometryOf arenas per pages records turn words) (lent (now (tables .entry)) (now (log .entry)) (now (out .entry))) (Erase n page) ⌝ }
-    ensures tables { λ r. ⌜ now (tables .exit) ≡ after (geometryOf arenas per pages records turn words) (lent (now (tables .entry)) (now (log .entry)) (now (out .entry))) (Erase n page) .tables ⌝ }
-    ensures log { λ r. ⌜ now (log .exit) ≡ after (geometryOf arenas per pages records turn words) (lent (now (tables .entry)) (now (log .entry)) (now (out .entry))) (Erase n page) .log ⌝ }
-    ensures out { λ r. ⌜ now (out .exit) ≡ after (geometryOf arenas per pages records turn words) (lent (now (tables .entry)) (now (log .entry)) (now (out .entry))) (Erase n page) .out ⌝ }
+    ensures { λ r. ⌜ Called (geometryOf arenas per pages records turn words)
+        (lent (now (tables .entry)) (now (log .entry)) (now (out .entry))) (Erase n page) r
+        (lent (now (tables .exit)) (now (log .exit)) (now (out .exit))) ⌝ }
 {
     call(
         arenas,
@@ -120,10 +115,9 @@ pub fn seal(
     out: &mut [u32],
     n: u32,
 ) -> Answer
-    ensures reply { λ r. ⌜ replyOf r (now (out .exit)) ≡ reply (geometryOf arenas per pages records turn words) (lent (now (tables .entry)) (now (log .entry)) (now (out .entry))) (Seal n) ⌝ }
-    ensures tables { λ r. ⌜ now (tables .exit) ≡ after (geometryOf arenas per pages records turn words) (lent (now (tables .entry)) (now (log .entry)) (now (out .entry))) (Seal n) .tables ⌝ }
-    ensures log { λ r. ⌜ now (log .exit) ≡ after (geometryOf arenas per pages records turn words) (lent (now (tables .entry)) (now (log .entry)) (now (out .entry))) (Seal n) .log ⌝ }
-    ensures out { λ r. ⌜ now (out .exit) ≡ after (geometryOf arenas per pages records turn words) (lent (now (tables .entry)) (now (log .entry)) (now (out .entry))) (Seal n) .out ⌝ }
+    ensures { λ r. ⌜ Called (geometryOf arenas per pages records turn words)
+        (lent (now (tables .entry)) (now (log .entry)) (now (out .entry))) (Seal n) r
+        (lent (now (tables .exit)) (now (log .exit)) (now (out .exit))) ⌝ }
 {
     call(
         arenas,
@@ -152,10 +146,9 @@ pub fn fork(
     out: &mut [u32],
     n: u32,
 ) -> Answer
-    ensures reply { λ r. ⌜ replyOf r (now (out .exit)) ≡ reply (geometryOf arenas per pages records turn words) (lent (now (tables .entry)) (now (log .entry)) (now (out .entry))) (Fork n) ⌝ }
-    ensures tables { λ r. ⌜ now (tables .exit) ≡ after (geometryOf arenas per pages records turn words) (lent (now (tables .entry)) (now (log .entry)) (now (out .entry))) (Fork n) .tables ⌝ }
-    ensures log { λ r. ⌜ now (log .exit) ≡ after (geometryOf arenas per pages records turn words) (lent (now (tables .entry)) (now (log .entry)) (now (out .entry))) (Fork n) .log ⌝ }
-    ensures out { λ r. ⌜ now (out .exit) ≡ after (geometryOf arenas per pages records turn words) (lent (now (tables .entry)) (now (log .entry)) (now (out .entry))) (Fork n) .out ⌝ }
+    ensures { λ r. ⌜ Called (geometryOf arenas per pages records turn words)
+        (lent (now (tables .entry)) (now (log .entry)) (now (out .entry))) (Fork n) r
+        (lent (now (tables .exit)) (now (log .exit)) (now (out .exit))) ⌝ }
 {
     call(
         arenas,
@@ -184,10 +177,9 @@ pub fn delete(
     out: &mut [u32],
     n: u32,
 ) -> Answer
-    ensures reply { λ r. ⌜ replyOf r (now (out .exit)) ≡ reply (geometryOf arenas per pages records turn words) (lent (now (tables .entry)) (now (log .entry)) (now (out .entry))) (Delete n) ⌝ }
-    ensures tables { λ r. ⌜ now (tables .exit) ≡ after (geometryOf arenas per pages records turn words) (lent (now (tables .entry)) (now (log .entry)) (now (out .entry))) (Delete n) .tables ⌝ }
-    ensures log { λ r. ⌜ now (log .exit) ≡ after (geometryOf arenas per pages records turn words) (lent (now (tables .entry)) (now (log .entry)) (now (out .entry))) (Delete n) .log ⌝ }
-    ensures out { λ r. ⌜ now (out .exit) ≡ after (geometryOf arenas per pages records turn words) (lent (now (tables .entry)) (now (log .entry)) (now (out .entry))) (Delete n) .out ⌝ }
+    ensures { λ r. ⌜ Called (geometryOf arenas per pages records turn words)
+        (lent (now (tables .entry)) (now (log .entry)) (now (out .entry))) (Delete n) r
+        (lent (now (tables .exit)) (now (log .exit)) (now (out .exit))) ⌝ }
 {
     call(
         arenas,
@@ -217,10 +209,9 @@ pub fn read(
     n: u32,
     page: u32,
 ) -> Answer
-    ensures reply { λ r. ⌜ replyOf r (now (out .exit)) ≡ reply (geometryOf arenas per pages records turn words) (lent (now (tables .entry)) (now (log .entry)) (now (out .entry))) (Read n page) ⌝ }
-    ensures tables { λ r. ⌜ now (tables .exit) ≡ after (geometryOf arenas per pages records turn words) (lent (now (tables .entry)) (now (log .entry)) (now (out .entry))) (Read n page) .tables ⌝ }
-    ensures log { λ r. ⌜ now (log .exit) ≡ after (geometryOf arenas per pages records turn words) (lent (now (tables .entry)) (now (log .entry)) (now (out .entry))) (Read n page) .log ⌝ }
-    ensures out { λ r. ⌜ now (out .exit) ≡ after (geometryOf arenas per pages records turn words) (lent (now (tables .entry)) (now (log .entry)) (now (out .entry))) (Read n page) .out ⌝ }
+    ensures { λ r. ⌜ Called (geometryOf arenas per pages records turn words)
+        (lent (now (tables .entry)) (now (log .entry)) (now (out .entry))) (Read n page) r
+        (lent (now (tables .exit)) (now (log .exit)) (now (out .exit))) ⌝ }
 {
     call(
         arenas,
@@ -248,10 +239,9 @@ pub fn barrier(
     log: &mut [u8],
     out: &mut [u32],
 ) -> Answer
-    ensures reply { λ r. ⌜ replyOf r (now (out .exit)) ≡ reply (geometryOf arenas per pages records turn words) (lent (now (tables .entry)) (now (log .entry)) (now (out .entry))) Barrier ⌝ }
-    ensures tables { λ r. ⌜ now (tables .exit) ≡ after (geometryOf arenas per pages records turn words) (lent (now (tables .entry)) (now (log .entry)) (now (out .entry))) Barrier .tables ⌝ }
-    ensures log { λ r. ⌜ now (log .exit) ≡ after (geometryOf arenas per pages records turn words) (lent (now (tables .entry)) (now (log .entry)) (now (out .entry))) Barrier .log ⌝ }
-    ensures out { λ r. ⌜ now (out .exit) ≡ after (geometryOf arenas per pages records turn words) (lent (now (tables .entry)) (now (log .entry)) (now (out .entry))) Barrier .out ⌝ }
+    ensures { λ r. ⌜ Called (geometryOf arenas per pages records turn words)
+        (lent (now (tables .entry)) (now (log .entry)) (now (out .entry))) Barrier r
+        (lent (now (tables .exit)) (now (log .exit)) (now (out .exit))) ⌝ }
 {
     call(
         arenas,
@@ -279,10 +269,9 @@ pub fn compress(
     log: &mut [u8],
     out: &mut [u32],
 ) -> Answer
-    ensures reply { λ r. ⌜ replyOf r (now (out .exit)) ≡ reply (geometryOf arenas per pages records turn words) (lent (now (tables .entry)) (now (log .entry)) (now (out .entry))) Compress ⌝ }
-    ensures tables { λ r. ⌜ now (tables .exit) ≡ after (geometryOf arenas per pages records turn words) (lent (now (tables .entry)) (now (log .entry)) (now (out .entry))) Compress .tables ⌝ }
-    ensures log { λ r. ⌜ now (log .exit) ≡ after (geometryOf arenas per pages records turn words) (lent (now (tables .entry)) (now (log .entry)) (now (out .entry))) Compress .log ⌝ }
-    ensures out { λ r. ⌜ now (out .exit) ≡ after (geometryOf arenas per pages records turn words) (lent (now (tables .entry)) (now (log .entry)) (now (out .entry))) Compress .out ⌝ }
+    ensures { λ r. ⌜ Called (geometryOf arenas per pages records turn words)
+        (lent (now (tables .entry)) (now (log .entry)) (now (out .entry))) Compress r
+        (lent (now (tables .exit)) (now (log .exit)) (now (out .exit))) ⌝ }
 {
     call(
         arenas,
@@ -310,10 +299,9 @@ pub fn free_list(
     log: &mut [u8],
     out: &mut [u32],
 ) -> Answer
-    ensures reply { λ r. ⌜ replyOf r (now (out .exit)) ≡ reply (geometryOf arenas per pages records turn words) (lent (now (tables .entry)) (now (log .entry)) (now (out .entry))) FreeList ⌝ }
-    ensures tables { λ r. ⌜ now (tables .exit) ≡ after (geometryOf arenas per pages records turn words) (lent (now (tables .entry)) (now (log .entry)) (now (out .entry))) FreeList .tables ⌝ }
-    ensures log { λ r. ⌜ now (log .exit) ≡ after (geometryOf arenas per pages records turn words) (lent (now (tables .entry)) (now (log .entry)) (now (out .entry))) FreeList .log ⌝ }
-    ensures out { λ r. ⌜ now (out .exit) ≡ after (geometryOf arenas per pages records turn words) (lent (now (tables .entry)) (now (log .entry)) (now (out .entry))) FreeList .out ⌝ }
+    ensures { λ r. ⌜ Called (geometryOf arenas per pages records turn words)
+        (lent (now (tables .entry)) (now (log .entry)) (now (out .entry))) FreeList r
+        (lent (now (tables .exit)) (now (log .exit)) (now (out .exit))) ⌝ }
 {
     call(
         arenas,

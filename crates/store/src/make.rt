@@ -6,12 +6,11 @@ ghost use lib.Seq.{sets};
 ghost use Rattle.answer.specs.Reply.{replyOf};
 ghost use Rattle.geometry.specs.Limits.{Inside, geometryOf};
 ghost use Rattle.model.specs.Layout.{need, made};
-ghost use Rattle.model.specs.Memory.{makeReply, makeAfter};
-ghost use Rattle.store.specs.Lent.{lent};
-use crate::call::is_short;
+ghost use Rattle.model.specs.Memory.{makeReply, makeAfter, lent};
 use answer::Answer;
 use geometry::Geometry;
 use geometry::Making;
+use soundness::lengths::is_short;
 
 // The first n numbers become 0.
 fn clear(t: &mut [u32], n: usize)

@@ -2,7 +2,7 @@
 use Rattle.geometry.specs.declared.Geometry.{Geometry}
 use Rattle.geometry.specs.Limits.{geometryOf}
 use Rattle.log.proofs.Tools.{MadeOf, made-of, outside}
-use Rattle.store.specs.Lent.{lent}
+use Rattle.model.specs.Memory.{lent}
 use Rattle.store.proofs.Admitted.{call-2, call-3, call-4, call-done, sound-requires, perform-requires-of}
 use borrow.Author.Needs.{needs}
 use native.Mathlib.Omega.{arith}

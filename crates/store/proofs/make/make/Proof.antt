@@ -4,7 +4,7 @@ use Rattle.geometry.specs.declared.Geometry.{Geometry}
 use Rattle.geometry.specs.Limits.{geometryOf}
 use Rattle.log.proofs.Tools.{MadeOf, made-of, outside}
 use Rattle.model.proofs.Keeps.{is-long}
-use Rattle.store.specs.Lent.{lent}
+use Rattle.model.specs.Memory.{lent}
 use Rattle.store.proofs.Making.{make-2, make-3, make-done}
 use native.Mathlib.Omega.{arith}
 use borrow.Author.Needs.{needs}

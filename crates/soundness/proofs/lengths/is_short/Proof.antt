@@ -1,9 +1,9 @@
 -- `is_short`: one law for each return.
-use Rattle.store.proofs.Making.{short-tables, short-log, short-out}
+use Rattle.soundness.proofs.Short.{short-tables, short-log, short-out}
 use native.Mathlib.Omega.{arith}
 use borrow.Author.Needs.{needs}
-use Rattle.store.proofs.call.is_short.Statement.{statement}
-use Rattle.store.proofs.call.is_short.Tie as tie
+use Rattle.soundness.proofs.lengths.is_short.Statement.{statement}
+use Rattle.soundness.proofs.lengths.is_short.Tie as tie
 
 mul-blocks : tie.Need-mul-blocks
 mul-blocks c = search needs
