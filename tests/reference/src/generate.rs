@@ -1,4 +1,4 @@
-//! Scripts made at random from a seed: forks of forks, deletes in the middle of a line, full stores, full logs, full record tables, bad lines.
+//! Scripts made at random from a seed: forks of forks, deletes in the middle of a line, full stores, full logs, full record tables, bad lines, scripts longer than what is read.
 
 use crate::store::{Call, Geometry, Store};
 
@@ -85,33 +85,44 @@ fn spelled(c: Call) -> String {
     }
 }
 
+/// A line with one of its bytes replaced by any byte.
+fn spoiled(d: &mut Dice, line: String) -> Vec<u8> {
+    let mut bytes = line.into_bytes();
+    let at = d.below(bytes.len() as u64) as usize;
+    bytes[at] = d.below(256) as u8;
+    bytes
+}
+
+/// A script; one in twenty is longer than what the runner reads.
 pub fn script(seed: u64) -> Vec<u8> {
     let mut d = Dice::new(seed);
     let mut g = geometry(&mut d);
     let mut store = Store::new(Geometry::new(g).expect("inside the limits"));
-    let mut lines = vec![line_of("store", &g)];
+    let mut lines = vec![line_of("store", &g).into_bytes()];
     let mut grow = true;
-    for _ in 0..40 + d.below(1500) {
+    let count = if d.below(20) == 0 { 12_000 } else { 40 + d.below(1500) };
+    for _ in 0..count {
         if d.below(40) == 0 {
             grow = !grow;
         }
         match d.below(200) {
             0..=1 => lines.push(BAD[d.below(BAD.len() as u64) as usize].into()),
-            2 => lines.push("W 1 0 0".repeat(1 + d.below(20) as usize)),
-            3 => lines.push(line_of("store", &[1, 4, 2, 4, 8, 9])),
+            2 => lines.push("W 1 0 0".repeat(1 + d.below(20) as usize).into_bytes()),
+            3 => lines.push(line_of("store", &[1, 4, 2, 4, 8, 9]).into_bytes()),
+            5 => lines.push(spoiled(&mut d, spelled(Call::Write(1, 0, 0)))),
             4 if d.below(6) == 0 => {
                 g = geometry(&mut d);
                 store = Store::new(Geometry::new(g).expect("inside the limits"));
-                lines.push(line_of("store", &g));
+                lines.push(line_of("store", &g).into_bytes());
             }
             _ => {
                 let c = call(&mut d, &g, &store, grow);
                 let _ = store.call(c);
-                lines.push(spelled(c));
+                lines.push(spelled(c).into_bytes());
             }
         }
     }
-    let mut text = lines.join("\n").into_bytes();
+    let mut text = lines.join(&b'\n');
     if d.below(3) > 0 {
         text.push(b'\n');
     }
