@@ -1,22 +1,29 @@
--- Likeness of logs: the test says what it is to say, it is an equivalence of readable logs, and a compressed log is alike the old one.
-use mathlib.Core.Path.{_≡_, refl, sym, ap, _∙_}
+-- Likeness of logs: the test says what it is to say, it is an equivalence of readable logs, and a compressed log is alike the old one,
+-- so what a compaction leaves in its buffer is too.
+use mathlib.Core.Path.{_≡_, refl, sym, ap, _∙_, subst}
 use mathlib.Core.Logic.{_↔_}
 use mathlib.Core.Bool.{Bool, true, false, _||_, true≢false}
 use mathlib.Core.List.{List, [], _∷_}
-use Prim.Native.Nat.{ℕ, zero, suc, _+_, _≤_, _<_}
+use Prim.Native.Nat.{ℕ, zero, suc, _+_, _*_, _≤_, _<_}
 use native.Mathlib.Omega.{arith}
 use lib.Dec.{eqb}
-use lib.ListN.{getD}
-use borrow.Author.Tests.{eq-eqb, ne-eqb, eqb-true}
+use lib.ListN.{length, getD, take, drop}
+use lib.Seq.{take-at}
+use borrow.Author.Tests.{eq-eqb, ne-eqb, eqb-true, not-false}
+use Rattle.answer.specs.Reply.{Reply, accepted}
+use Rattle.answer.specs.Refusal.{leaves, NoneHolds}
 use Rattle.answer.proofs.Cases.{cases, either, same?}
+use Rattle.answer.proofs.Decided.{decide-accepted}
 use Rattle.geometry.specs.declared.Geometry.{Geometry}
-use Rattle.geometry.specs.Limits.{blocks, Inside}
-use Rattle.log.specs.Word.{bytesOf}
+use Rattle.geometry.specs.Limits.{blocks, fits, Inside}
+use Rattle.geometry.proofs.Made.{fits-inside}
+use Rattle.log.specs.Word.{writeAt, bytesOf}
 use Rattle.log.specs.Marks.{markOf, heldIn, passing, heldBlocks, Table}
 use Rattle.log.specs.Read.{Result, readLog}
 use Rattle.log.specs.Compress.{compressed}
-use Rattle.log.specs.Tool.{readable, marksOf, heldAtEnd, agreeFrom, Alike!, alike?}
+use Rattle.log.specs.Tool.{readable, marksOf, heldAtEnd, agreeFrom, Alike!, alike?, compactWords, compactConditions, compactReply, compactOut}
 use Rattle.log.proofs.MarksFacts.{table-mark}
+use Rattle.log.proofs.Writing.{length-bytes}
 use Rattle.log.proofs.RoundTrip.{read-table, compressed-same}
 
 -- ── the blocks that pass a test, rising ──
@@ -109,3 +116,37 @@ compressed-alike g a i r =
     let m : List ℕ = readLog (g .arenas) (g .per) a .1 in
     let e = compressed-same (g .arenas) (g .per) (i .per-least) (i .blocks-most) a m (ap (λ (t : Bool). (t, m)) r) in
     (r, ap (λ (w : Result). w .0) e, ap (λ (w : Result). heldBlocks (w .1) (blocks g)) (sym e))
+
+-- ── compaction ──
+
+head : List ℕ → ℕ
+head [] = 0
+head (n ∷ l) = n
+
+module _ (g : Geometry) (log out : List ℕ) where
+  -- what an accepted compaction shows: it gives the number of its words, and no condition is true
+  accepts : (l : List ℕ) → compactReply g log out ≡ accepted l → NoneHolds (compactConditions g log out) × (length (compactWords g log) ∷ [] ≡ l)
+  unfolding compactReply
+  accepts l e = decide-accepted (compactConditions g log out) (length (compactWords g log) ∷ []) l e
+
+  -- the words of an accepted compaction are a log alike the old one
+  pub compact-alike : (l : List ℕ) → compactReply g log out ≡ accepted l → Alike! g log (bytesOf (compactWords g log))
+  unfolding compactWords
+  compact-alike l e =
+      let n = accepts l e .0 in
+      compressed-alike g log (fits-inside g (not-false (fits g) (n .0))) (not-false (readable g log) (n .1 .1 .0))
+
+  start-is : (l : List ℕ) → compactReply g log out ≡ accepted l → take (8 * length (compactWords g log)) (compactOut g log out) ≡ bytesOf (compactWords g log)
+  unfolding compactOut writeAt
+  start-is l e =
+      let b = bytesOf (compactWords g log) in
+      ap (λ (k : Reply). take (8 * length (compactWords g log)) (leaves k out (writeAt out 0 b))) e
+      ∙ take-at b (drop (0 + length b) out) (8 * length (compactWords g log)) (length-bytes (compactWords g log))
+
+  -- and it leaves them at the start of the buffer: as many words as it says
+  pub compact-leaves : (n : ℕ) → compactReply g log out ≡ accepted (n ∷ []) → Alike! g log (take (8 * n) (compactOut g log out))
+  unfolding head
+  compact-leaves n e =
+      let k : length (compactWords g log) ≡ n = ap head (accepts (n ∷ []) e .1) in
+      subst (λ (m : ℕ). Alike! g log (take (8 * m) (compactOut g log out))) k
+      (subst (Alike! g log) (sym (start-is (n ∷ []) e)) (compact-alike (n ∷ []) e))

@@ -1,8 +1,8 @@
--- What the two entry points promise, from what their tests showed.
+-- What the three entry points promise, from what their tests showed.
 use mathlib.Core.Path.{_≡_, refl, sym, ap, _∙_, subst}
 use mathlib.Core.Bool.{Bool, true, false, not, cond, _&&_}
-use mathlib.Core.List.{List, _∷_}
-use Prim.Native.Nat.{ℕ, zero, suc, _+_, _*_, _≤_, _<_}
+use mathlib.Core.List.{List, [], _∷_}
+use Prim.Native.Nat.{ℕ, zero, suc, _+_, _*_, _/_, _≤_, _<_}
 use native.Mathlib.Omega.{arith}
 use lib.ListN.{length, take, drop}
 use lib.Seq.{sets, sets-eq, take-at}
@@ -18,9 +18,28 @@ use Rattle.geometry.specs.Limits.{blocks, fits, makingOf, Inside}
 use Rattle.geometry.proofs.Made.{made, not-made, inside-fits}
 use Rattle.log.specs.Marks.{passing, heldIn, heldBlocks}
 use Rattle.log.specs.Read.{Result, readLog}
-use Rattle.log.specs.Tool.{readable, marksOf, heldAtEnd, readReply, readOut, agreeFrom, alike?, judged, verdictOf, compareVerdict}
+use Rattle.log.specs.Word.{writeAt, bytesOf}
+use Rattle.log.specs.Compress.{compressed}
+use Rattle.log.specs.Tool.{
+  readable,
+  marksOf,
+  heldAtEnd,
+  readReply,
+  readOut,
+  agreeFrom,
+  alike?,
+  judged,
+  verdictOf,
+  compareVerdict,
+  compactReplyOf,
+  compactWords,
+  compactReply,
+  compactOut,
+}
 use Rattle.log.specs.declared.tool.Comparison.{Comparison}
 use Rattle.log.specs.declared.tool.Comparison.the-variants as comparison
+use Rattle.log.specs.declared.tool.Compaction.{Compaction}
+use Rattle.log.specs.declared.tool.Compaction.the-variants as compaction
 
 -- ── lists ──
 
@@ -176,3 +195,59 @@ module _ (first second : List ℕ) where
         pub compare-different : same ≡ false → Judged comparison.Different first second six
         unfolding verdictOf
         compare-different t = by-made (Judged comparison.Different first second) m (λ f. sym (said f ∙ ap judged t))
+
+-- ── compressing ──
+
+-- both promises of `compact`: its answer, and what it leaves in the buffer
+abbrev pub Compacted : Compaction → List ℕ → Geometry → List ℕ → List ℕ → Type 0
+Compacted r left g log out = (compactReplyOf r ≡ compactReply g log out) × (left ≡ compactOut g log out)
+
+module _ (log out : List ℕ) (g : Geometry) where
+  abbrev anew : List ℕ
+  anew = writeAt out 0 (bytesOf (compactWords g log))
+
+  leaves-all : (n : ℕ) → compactReply g log out ≡ refused n → Compacted (compaction.Refused n) out g log out
+  unfolding compactOut compactReplyOf
+  leaves-all n e = (sym e, sym (ap (λ (k : Reply). leaves k out anew) e))
+
+  writes : compactReply g log out ≡ accepted (length (compactWords g log) ∷ []) → Compacted (compaction.Words (length (compactWords g log))) anew g log out
+  unfolding compactOut compactReplyOf
+  writes e = (sym e, sym (ap (λ (k : Reply). leaves k out anew) e))
+
+  pub compact-refused-2 : fits g ≡ false → Compacted (compaction.Refused 2) out g log out
+  unfolding compactReply
+  compact-refused-2 f = leaves-all 2 (rw f)
+
+  too-short : length out < 8 * g .words → fits g ≡ true → Compacted (compaction.Refused 3) out g log out
+  unfolding compactReply
+  too-short h f = leaves-all 3 (rw (f, lt-ltb (length out) (8 * g .words) h))
+
+  no-log : 8 * g .words ≤ length out → readable g log ≡ false → fits g ≡ true → Compacted (compaction.Refused 7) out g log out
+  unfolding compactReply
+  no-log h k f = leaves-all 7 (rw (f, le-ltb (length out) (8 * g .words) h, k))
+
+  written : 8 * g .words ≤ length out → readable g log ≡ true → fits g ≡ true → Compacted (compaction.Words (length (compactWords g log))) anew g log out
+  unfolding compactReply
+  written h k f = writes (rw (f, le-ltb (length out) (8 * g .words) h, k))
+
+eighth : (bytes n : ℕ) → bytes ≡ 8 * n → bytes / 8 ≡ n
+eighth bytes n e = omega arith
+
+module _ (log out : List ℕ) {six g : Geometry} (m : MadeOf six g) where
+  pub compact-refused-3 : length out < 8 * g .words → Compacted (compaction.Refused 3) out six log out
+  compact-refused-3 h = by-made (λ k. Compacted (compaction.Refused 3) out k log out) m (too-short log out g h)
+
+  module _ (h : 8 * g .words ≤ length out) {ok : Bool} {marks : List ℕ} (read : _≡_ {A = Result} (ok, marks) (readLog (g .arenas) (g .per) log)) where
+    pub compact-refused-7 : not ok ≡ true → Compacted (compaction.Refused 7) out six log out
+    compact-refused-7 k = by-made (λ k. Compacted (compaction.Refused 7) out k log out) m (no-log log out g h (unreadable-is g log read k))
+
+    words-are : compressed (g .arenas) (g .per) (heldIn marks) ≡ compactWords g log
+    unfolding compactWords
+    words-are = ap (λ (l : List ℕ). compressed (g .arenas) (g .per) (heldIn l)) (marks-are g log read)
+
+    pub compact-done : (bytes : ℕ) (left : List ℕ) → not ok ≡ false → bytes ≡ 8 * length (compressed (g .arenas) (g .per) (heldIn marks))
+        → left ≡ writeAt out 0 (bytesOf (compressed (g .arenas) (g .per) (heldIn marks))) → Compacted (compaction.Words (bytes / 8)) left six log out
+    compact-done bytes left k en el =
+        let n : bytes / 8 ≡ length (compactWords g log) = eighth bytes _ en ∙ ap length words-are in
+        let l : left ≡ anew log out g = el ∙ ap (λ (w : List ℕ). writeAt out 0 (bytesOf w)) words-are in
+        by-made (λ k. Compacted (compaction.Words (bytes / 8)) left k log out) m (λ f. rw (n, l) (written log out g h (readable-is g log read k) f))
