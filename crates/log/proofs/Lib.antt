@@ -11,6 +11,7 @@ pub mod MarksFacts
 pub mod Steps
 pub mod RoundTrip
 pub mod Appending
+pub mod Room
 pub mod AlikeFacts
 pub mod Examples
 pub mod BadCases
