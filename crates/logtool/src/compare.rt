@@ -5,6 +5,7 @@ use crate::args::PAGES;
 use crate::args::RECORDS;
 use crate::args::TURN;
 use crate::args::WORDS;
+use crate::file::MOST;
 use crate::file::read_file;
 use crate::reply::print_line;
 use crate::reply::print_refusal;
@@ -36,12 +37,12 @@ fn first_bad(arenas: usize, per: usize, first: &[u8]) -> usize {
 }
 
 pub fn print_comparison(arenas: usize, per: usize) {
-    let mut space = [0u8; 1048576];
+    let mut space = [0u8; MOST];
     let first = read_file(FILE, &mut space);
     if !first.ok {
         return;
     }
-    let mut more = [0u8; 1048576];
+    let mut more = [0u8; MOST];
     let second = read_file(OTHER, &mut more);
     if !second.ok {
         return;

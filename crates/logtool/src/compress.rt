@@ -7,6 +7,7 @@ use crate::args::PAGES;
 use crate::args::RECORDS;
 use crate::args::TURN;
 use crate::args::WORDS;
+use crate::file::MOST;
 use crate::file::read_file;
 use crate::file::write_file;
 use crate::reply::print_count;
@@ -37,7 +38,7 @@ fn write_words(arenas: usize, per: usize, log: &[u8], out: &mut [u8]) {
 }
 
 pub fn write_compressed(arenas: usize, per: usize) {
-    let mut space = [0u8; 1048576];
+    let mut space = [0u8; MOST];
     let content = read_file(FILE, &mut space);
     if !content.ok {
         return;

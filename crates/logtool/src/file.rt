@@ -5,6 +5,9 @@ ghost use Rattle.io.specs.Counts.{Counts};
 use crate::sentence::fail;
 use crate::sentence::say;
 
+// The longest file that is read, in bytes.
+pub const MOST: usize = 1048576;
+
 // Whether a file was read, and how many bytes it has.
 pub struct Content {
     pub ok: bool,
@@ -49,7 +52,7 @@ fn read_path(path: &[u8], space: &mut [u8]) -> Content
 }
 
 // Reads the file that argument i names into `space`.
-pub fn read_file(i: usize, space: &mut [u8; 1048576]) -> Content
+pub fn read_file(i: usize, space: &mut [u8; MOST]) -> Content
     ensures { λ r. ⌜ Counts (r .length) (now (space .exit)) ⌝ }
 {
     let mut path = io::buffer();
@@ -88,7 +91,8 @@ fn write_new(path: &[u8], bytes: &[u8]) -> bool {
     ok
 }
 
-// Gives a finished file a name that no file has; removes it where it cannot.
+// Gives a finished file a name that no file has; removes it where it cannot. An empty file takes the name first, which
+// fails where there is one already, and the finished file takes its place.
 fn give_name(part: &[u8], path: &[u8]) -> bool {
     let fd = os::create(path);
     if fd < 0 {
@@ -119,7 +123,8 @@ fn add_part(path: &mut [u8], n: usize) -> usize
     n + 5
 }
 
-// Makes the file that argument i names, with these bytes. They go to NAME.part first: under its name the file is whole.
+// Makes the file that argument i names, with these bytes. They go to NAME.part first, so that never a part of them stands
+// under the name.
 pub fn write_file(i: usize, bytes: &[u8]) -> bool {
     let mut path = io::buffer();
     let n = os::arg(i, &mut path);
@@ -127,6 +132,7 @@ pub fn write_file(i: usize, bytes: &[u8]) -> bool {
         fail(b"a file's name");
         return false;
     }
+    // A path has at most 4,095 bytes, five of them for `.part`.
     if 4090 < n {
         say(&path[..n], b"the name is too long");
         return false;

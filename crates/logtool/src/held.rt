@@ -4,6 +4,7 @@ use crate::args::PAGES;
 use crate::args::RECORDS;
 use crate::args::TURN;
 use crate::args::WORDS;
+use crate::file::MOST;
 use crate::file::read_file;
 use crate::reply::print_numbers;
 use crate::reply::print_refusal;
@@ -24,12 +25,13 @@ fn print_blocks(arenas: usize, per: usize, log: &[u8], out: &mut [u32]) {
 }
 
 pub fn print_held(arenas: usize, per: usize) {
-    let mut space = [0u8; 1048576];
+    let mut space = [0u8; MOST];
     let content = read_file(FILE, &mut space);
     if !content.ok {
         return;
     }
     let n = content.length;
+    // Enough for every geometry: 2 × 2,048 + 64 numbers.
     let mut out = [0u32; 4160];
     print_blocks(arenas, per, &space[..n], &mut out);
 }
