@@ -1,0 +1,2 @@
+-- Laws of the loop over a script's lines.
+pub mod Measuring
