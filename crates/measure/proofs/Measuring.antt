@@ -1,14 +1,14 @@
 -- What the loop over the lines keeps: the lengths of its arrays, replies inside their buffer, and what a session keeps.
 use mathlib.Core.Path.{_≡_, refl, sym, ap, _∙_}
-use mathlib.Core.Bool.{true, false, false≢true}
+use mathlib.Core.Bool.{false, false≢true}
 use mathlib.Core.List.{List, _++_}
-use Prim.Native.Nat.{ℕ, _+_, _*_, _-_, _≤_, _<_}
+use Prim.Native.Nat.{ℕ, _+_, _-_, _≤_}
 use native.Mathlib.Omega.{arith}
-use lib.ListN.{length, take, drop, replicate, length-replicate, length-append, length-take, length-drop}
+use lib.ListN.{length, take, drop, replicate, length-replicate, length-append}
 use Rattle.answer.specs.declared.Answer.{Answer}
 use Rattle.answer.specs.declared.Answer.the-variants.{Done, Refused}
 use Rattle.log.specs.Word.{writeAt}
-use Rattle.script.specs.ReplyText.{given, Room}
+use Rattle.script.specs.ReplyText.{Room}
 use Rattle.session.specs.declared.Session.{Session}
 use Rattle.session.specs.Step.{Kept, Few}
 

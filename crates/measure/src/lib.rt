@@ -1,6 +1,5 @@
 // What the benchmarks call: a script served into a lent buffer, and one call through the store's full check.
 // Nothing is promised here beyond safety: the promises are those of `session` and `store`.
-ghost use Prim.Native.Nat.{_≤_};
 use answer::Answer;
 use script::lines::Line;
 use script::lines::line_from;
@@ -50,7 +49,19 @@ pub extern "C" fn measure_call(
     n: u32,
     page: u32,
 ) -> u32 {
-    let answer = read(arenas, per, pages, records, turn, words, tables, log, out, n, page);
+    let answer = read(
+        arenas,
+        per,
+        pages,
+        records,
+        turn,
+        words,
+        tables,
+        log,
+        out,
+        n,
+        page,
+    );
     match answer {
         Answer::Done(_) => 0,
         Answer::Refused(k) => k as u32,

@@ -17,12 +17,12 @@ impl Dice {
         self.0 >> 11
     }
 
-    fn below(&mut self, n: u64) -> u64 {
+    pub fn below(&mut self, n: u64) -> u64 {
         self.next() % n
     }
 }
 
-fn geometry(d: &mut Dice) -> [u64; 6] {
+pub fn geometry(d: &mut Dice) -> [u64; 6] {
     let (arenas, per) = match d.below(8) {
         0 => (1, 1 + d.below(3)),
         1 => (16, 128),
@@ -40,7 +40,7 @@ fn geometry(d: &mut Dice) -> [u64; 6] {
 const BAD: [&str; 14] = ["", "B ", " B", "W 1 0", "W 1 0 0 0", "E 01 0", "S", "Q 1", "b", "store", "store 1 4 2 4 8", "D 12345678", "R 1  0", "T 3"];
 
 /// A record to ask for: mostly one that is in the store, most often a new one.
-fn record(d: &mut Dice, store: &Store) -> u64 {
+pub fn record(d: &mut Dice, store: &Store) -> u64 {
     let numbers = store.numbers();
     if numbers.is_empty() || d.below(25) == 0 {
         return d.below(12);
@@ -51,7 +51,7 @@ fn record(d: &mut Dice, store: &Store) -> u64 {
 }
 
 /// A call, with weights: `grow` leans towards new records and writes, else towards deletes.
-fn call(d: &mut Dice, g: &[u64; 6], store: &Store, grow: bool) -> Call {
+pub fn call(d: &mut Dice, g: &[u64; 6], store: &Store, grow: bool) -> Call {
     let r = record(d, store);
     let page = if d.below(40) == 0 { g[2] + d.below(2) } else { d.below(g[2]) };
     let kind = if d.below(60) == 0 { 3 } else { d.below(3) };
@@ -70,7 +70,7 @@ fn call(d: &mut Dice, g: &[u64; 6], store: &Store, grow: bool) -> Call {
     }
 }
 
-fn spelled(c: Call) -> String {
+pub fn spelled(c: Call) -> String {
     match c {
         Call::Begin => "B".into(),
         Call::Write(r, page, kind) => line_of("W", &[r, page, kind]),
@@ -129,7 +129,7 @@ pub fn script(seed: u64) -> Vec<u8> {
     text
 }
 
-fn line_of(head: &str, numbers: &[u64]) -> String {
+pub fn line_of(head: &str, numbers: &[u64]) -> String {
     let mut s = head.to_string();
     for n in numbers {
         s += &format!(" {n}");

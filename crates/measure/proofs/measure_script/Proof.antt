@@ -1,6 +1,6 @@
 -- `measure_script`: the session is kept from line to line, and each reply fits.
 use mathlib.Core.Path.{_≡_, sym, _∙_}
-use Prim.Native.Nat.{_+_, _-_, _≤_, _<_}
+use Prim.Native.Nat.{_-_, _≤_, _<_}
 use lib.ListN.{length}
 use Rattle.script.proofs.LinesFacts.{part-inside}
 use Rattle.measure.proofs.Measuring.{Running, running, room, written-inside}
