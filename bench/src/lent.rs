@@ -86,10 +86,8 @@ impl Lent {
     /// The sum of all numbers and words, as the compiler likes it.
     #[inline(never)]
     pub fn sum(&self) -> u64 {
-        let tables: u64 = self.tables.iter().map(|&n| n as u64).sum();
-        let out: u64 = self.out.iter().map(|&n| n as u64).sum();
         let log = self.log.chunks_exact(8).map(|w| u64::from_ne_bytes(w.try_into().unwrap()));
-        log.fold(tables + out, u64::wrapping_add)
+        log.fold(total(&self.tables) + total(&self.out), u64::wrapping_add)
     }
 
     /// The same sum, one number at a time.
@@ -123,6 +121,19 @@ impl Lent {
         }
         sum
     }
+}
+
+/// The sum of numbers, sixteen at a time: a shorter loop depends on where it lies in the program.
+fn total(numbers: &[u32]) -> u64 {
+    let parts = numbers.chunks_exact(16);
+    let mut sum = [0u64; 16];
+    let rest: u64 = parts.remainder().iter().map(|&n| n as u64).sum();
+    for part in parts {
+        for (s, &n) in sum.iter_mut().zip(part) {
+            *s += n as u64;
+        }
+    }
+    sum.iter().sum::<u64>() + rest
 }
 
 /// A load that stays one load.

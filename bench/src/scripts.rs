@@ -17,27 +17,41 @@ fn lines(both: &mut Both, kind: &Kind) -> usize {
     count
 }
 
-fn row(name: &str, scripts: usize, lines: usize, total: Times) {
-    let each = total.each(lines);
-    println!("| {name} | {scripts} | {lines} | {:.2} | {:.0} | {:.0} |", total.ratio(), each.proved, each.flat);
-}
-
 fn sum(times: &[Times]) -> Times {
     times.iter().fold(Times::default(), |sum, &t| sum.plus(t))
 }
 
+/// The script without its L lines.
+fn without_lists(text: &[u8]) -> Vec<u8> {
+    let lines: Vec<&[u8]> = text.split(|&b| b == b'\n').filter(|&line| line != b"L").collect();
+    lines.join(&b'\n')
+}
+
+fn row(name: &str, lines: usize, whole: &[Times], without: &[Times]) {
+    let (total, each) = (sum(whole), sum(whole).each(lines));
+    println!(
+        "| {name} | {} | {lines} | {:.2} | {:.2} | {:.0} | {:.0} |",
+        whole.len(), total.ratio(), sum(without).ratio(), each.proved, each.flat
+    );
+}
+
 pub fn report(both: &mut Both) {
-    let kinds = kinds();
-    let lines: Vec<usize> = kinds.iter().map(|k| lines(both, k)).collect();
-    let texts: Vec<&[u8]> = kinds.iter().flat_map(|k| &k.scripts).map(|s| s.as_slice()).collect();
-    let times = both.time(&texts, ROUNDS);
-    println!("## Scripts\n\n| scripts | how many | lines | proved / unproved | proved, ns a line | unproved, ns a line |\n|---|---|---|---|---|---|");
-    let mut rest = times.as_slice();
-    for (kind, &n) in kinds.iter().zip(&lines) {
-        let (own, others) = rest.split_at(kind.scripts.len());
-        row(kind.name, own.len(), n, sum(own));
-        rest = others;
+    let mut kinds = kinds();
+    let counts: Vec<usize> = kinds.iter().map(|k| lines(both, k)).collect();
+    let whole: Vec<Vec<u8>> = kinds.iter().flat_map(|k| k.scripts.clone()).collect();
+    for kind in &mut kinds {
+        kind.scripts = kind.scripts.iter().map(|text| without_lists(text)).collect();
+        lines(both, kind);
     }
-    row("all", times.len(), lines.iter().sum(), sum(&times));
+    let less: Vec<Vec<u8>> = kinds.iter().flat_map(|k| k.scripts.clone()).collect();
+    let (whole, less) = (both.time(&whole, ROUNDS), both.time(&less, ROUNDS));
+    println!("## Scripts\n\n| scripts | how many | lines | proved / unproved | the same without L lines | proved, ns a line | unproved, ns a line |\n|---|---|---|---|---|---|---|");
+    let mut at = 0;
+    for (kind, &n) in kinds.iter().zip(&counts) {
+        let end = at + kind.scripts.len();
+        row(kind.name, n, &whole[at..end], &less[at..end]);
+        at = end;
+    }
+    row("all", counts.iter().sum(), &whole, &less);
     println!("\nThe replies of both are the same, byte for byte.\n");
 }
