@@ -157,7 +157,7 @@ module _ (s : Session) (t log out : List ℕ) (K : Kept s t log out) where
         log = refl;
         out = refl;
         kept = fresh k d;
-        few = omega (arith, number-of k out [] (sym (none k d)) (omega arith) (K .out));
+        few = omega (arith, number-of k out [] (sym (none k d)) (omega (arith, K .out)));
       }
 
 -- the six numbers that the code widens

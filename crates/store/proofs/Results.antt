@@ -1,8 +1,8 @@
--- How many numbers an accepted call gives: at most 4,096, so a result buffer of 4,160 tells their number.
+-- How many numbers an accepted call gives: at most two for each block, so a result buffer that is long enough tells their number.
 use mathlib.Core.Path.{_≡_, refl, sym, ap, _∙_, subst}
 use mathlib.Core.Bool.{Bool, true, false, cond}
 use mathlib.Core.List.{List, [], _∷_, _++_}
-use Prim.Native.Nat.{ℕ, zero, suc, _+_, _*_, _%_, _≤_}
+use Prim.Native.Nat.{ℕ, zero, suc, _+_, _*_, _%_, _≤_, _<_}
 use native.Mathlib.Omega.{arith}
 use lib.Dec.{eqb, ltb}
 use lib.ListN.{length, take, length-take}
@@ -89,35 +89,47 @@ runs-le per t b r (suc n) = go (t b) (eqb (b % per) 0) (runs-le per t (suc b) 0 
 
 -- ── every call ──
 
+-- there is a block
+one-block : (a p : ℕ) → 1 ≤ a → 1 ≤ p → 1 ≤ a * p
+one-block zero p h k = omega arith
+one-block (suc a) p h k = omega arith
+
 module _ (g : Geometry) (inside : Inside g) (T : State) (R : Fine g T) where
-  deleted-le : (r : ℕ) → NoneHolds (conditions g T (Delete r)) → length (frees (T .view) (deleting T r)) ≤ 2048
+  deleted-le : (r : ℕ) → NoneHolds (conditions g T (Delete r)) → length (frees (T .view) (deleting T r)) ≤ blocks g
   deleted-le r n =
-      omega (arith, held-done (T .view) (deleting T r) (R .good) (asks-D g inside T R r (n .0) (n .1 .0)), held-le (T .view), R .blocks, inside .blocks-most)
+      omega (arith, held-done (T .view) (deleting T r) (R .good) (asks-D g inside T R r (n .0) (n .1 .0)), held-le (T .view), R .blocks)
 
-  listed-le : length (freeList g T) ≤ 4096
+  listed-le : length (freeList g T) ≤ 2 * blocks g
   unfolding freeList runs
-  listed-le = omega (arith, runs-le (g .per) (available (T .view)) 0 0 (blocks g), inside .blocks-most)
+  listed-le = omega (arith, runs-le (g .per) (available (T .view)) 0 0 (blocks g))
 
-  pub result-le : (c : Call) → NoneHolds (conditions g T c) → length (result g T c) ≤ 4096
-  result-le Begin n = omega arith
-  result-le (Write r x k) n = omega (arith, erased-one (T .view) (slot T r) (T .view .page (slot T r) x))
-  result-le (Erase r x) n = omega (arith, erased-one (T .view) (slot T r) (T .view .page (slot T r) x))
-  result-le (Seal r) n = omega arith
-  result-le (Fork r) n = omega arith
+  some : 1 ≤ blocks g
+  some = one-block (g .arenas) (g .per) (inside .arenas-least) (inside .per-least)
+
+  pub result-le : (c : Call) → NoneHolds (conditions g T c) → length (result g T c) ≤ 2 * blocks g
+  result-le Begin n = omega (arith, some)
+  result-le (Write r x k) n = omega (arith, erased-one (T .view) (slot T r) (T .view .page (slot T r) x), some)
+  result-le (Erase r x) n = omega (arith, erased-one (T .view) (slot T r) (T .view .page (slot T r) x), some)
+  result-le (Seal r) n = omega (arith, some)
+  result-le (Fork r) n = omega (arith, some)
   result-le (Delete r) n = omega (arith, deleted-le r n)
-  result-le (Read r x) n = omega (arith, page-one (T .view .page (slot T r) x))
+  result-le (Read r x) n = omega (arith, page-one (T .view .page (slot T r) x), some)
   result-le Barrier n = omega arith
-  result-le Compress n = omega arith
-  result-le FreeList n = listed-le
+  result-le Compress n = omega (arith, some)
+  result-le FreeList n = omega (arith, listed-le)
 
-pub accepted-le : (g : Geometry) (M : Memory) (c : Call) (l : List ℕ) → reply g M c ≡ accepted l → length l ≤ 4096
+pub accepted-le : (g : Geometry) (M : Memory) (c : Call) (l : List ℕ) → reply g M c ≡ accepted l → length l ≤ 2 * blocks g
 accepted-le g M c l e =
     let (A, r) = accepted-is g M c l e in
     omega (arith, ap length r, result-le g (A .inside) (stateOf g (M .tables)) (sound-fine g (M .tables) (M .log) (A .sound)) c (A .none))
 
--- the number of a result of at most 4,096 numbers
-pub number-of : (n : ℕ) (out l : List ℕ) → take n out ≡ l → length l ≤ 4096 → 4160 ≤ length out → n ≡ length l
-number-of n out l e h k =
+-- the result buffer of an accepted call is longer than the result
+pub accepted-short : (g : Geometry) (M : Memory) (c : Call) (l : List ℕ) → reply g M c ≡ accepted l → length l < length (M .out)
+accepted-short g M c l e = omega (arith, accepted-le g M c l e, accepted-is g M c l e .0 .long .out)
+
+-- the number of a result that is shorter than the buffer
+pub number-of : (n : ℕ) (out l : List ℕ) → take n out ≡ l → length l < length out → n ≡ length l
+number-of n out l e k =
     cases (lt? n (length out))
     (λ a. omega (arith, ap length e, length-take-le n out (omega arith)))
     (λ a. absurd (let z : ⊥ = omega (arith, ap length (sym (take-all n out a) ∙ e)) in z))
@@ -125,4 +137,7 @@ number-of n out l e h k =
 -- the number that an answer names
 pub done-le : (n : ℕ) (out : List ℕ) (g : Geometry) (M : Memory) (c : Call) → replyOf (Done n) out ≡ reply g M c → 4160 ≤ length out → n ≤ 4096
 unfolding replyOf
-done-le n out g M c e k = let a = accepted-le g M c (take n out) (sym e) in omega (arith, number-of n out (take n out) refl a k)
+done-le n out g M c e k =
+    let i = accepted-is g M c (take n out) (sym e) .0 .inside in
+    let a = accepted-le g M c (take n out) (sym e) in
+    omega (arith, number-of n out (take n out) refl (omega (arith, a, i .blocks-most)), a, i .blocks-most)

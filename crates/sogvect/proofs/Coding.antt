@@ -1,0 +1,118 @@
+-- The code and the count of an answer are those of the reply that it stands for: one law for any reply whose result is shorter than the buffer.
+use mathlib.Core.Path.{_≡_, refl, sym, ap, _∙_}
+use mathlib.Core.List.{List}
+use Prim.Native.Nat.{ℕ, _+_, _*_, _<_}
+use native.Mathlib.Omega.{arith}
+use lib.ListN.{length, take}
+use lib.Seq.{sets, length-sets}
+use borrow.Author.Tests.{ltb-false}
+use Rattle.answer.specs.declared.Answer.{Answer}
+use Rattle.answer.specs.declared.Answer.the-variants.{Done, Refused}
+use Rattle.answer.specs.Reply.{Reply, accepted, refused, replyOf}
+use Rattle.answer.specs.Refusal.{leaves}
+use Rattle.answer.proofs.Decided.{decide-accepted}
+use Rattle.geometry.specs.declared.Geometry.{Geometry}
+use Rattle.geometry.specs.Limits.{blocks}
+use Rattle.log.specs.Marks.{heldIn, heldBlocks}
+use Rattle.log.specs.Tool.{marksOf, heldAtEnd, readConditions, readReply, readOut, Verdict, verdictOf}
+use Rattle.log.specs.declared.tool.Comparison.{Comparison}
+use Rattle.log.specs.declared.tool.Comparison.the-variants as comparison
+use Rattle.log.proofs.Tools.{pass-length}
+use Rattle.model.specs.Memory.{Memory, reply, after}
+use Rattle.model.specs.declared.Call.{Call}
+use Rattle.store.proofs.Results.{accepted-short, number-of}
+use Rattle.store.proofs.Lengths.{out-length}
+use Rattle.sogvect.specs.Coded.{codeOf, countAfter, answerCode, answerCount, verdictCode, alikeAfter}
+
+-- ── the arms of `coded` and `judge` ──
+
+-- the code r and the count n of an answer
+abbrev pub Coded : Answer → ℕ → ℕ → ℕ → Type 0
+Coded a old r n = (r ≡ answerCode a) × (n ≡ answerCount a old)
+
+pub done-coded : (a : Answer) (n old : ℕ) → a ≡ Done n → Coded a old 0 n
+unfolding answerCode answerCount
+done-coded a n old e = (sym (ap answerCode e), sym (ap (λ b. answerCount b old) e))
+
+pub refused-coded : (a : Answer) (k old : ℕ) → a ≡ Refused k → Coded a old k old
+unfolding answerCode answerCount
+refused-coded a k old e = (sym (ap answerCode e), sym (ap (λ b. answerCount b old) e))
+
+-- the code r of a comparison, and the number n that says whether the logs are alike
+abbrev pub Judged : Comparison → ℕ → ℕ → ℕ → Type 0
+Judged c old r n = (r ≡ verdictCode (verdictOf c)) × (n ≡ alikeAfter (verdictOf c) old)
+
+pub alike-judged : (c : Comparison) (old : ℕ) → c ≡ comparison.Alike → Judged c old 0 1
+unfolding verdictOf verdictCode alikeAfter
+alike-judged c old e = (sym (ap (λ d. verdictCode (verdictOf d)) e), sym (ap (λ d. alikeAfter (verdictOf d) old) e))
+
+pub different-judged : (c : Comparison) (old : ℕ) → c ≡ comparison.Different → Judged c old 0 0
+unfolding verdictOf verdictCode alikeAfter
+different-judged c old e = (sym (ap (λ d. verdictCode (verdictOf d)) e), sym (ap (λ d. alikeAfter (verdictOf d) old) e))
+
+pub refused-judged : (c : Comparison) (k old : ℕ) → c ≡ comparison.Refused k → Judged c old k old
+unfolding verdictOf verdictCode alikeAfter
+refused-judged c k old e = (sym (ap (λ d. verdictCode (verdictOf d)) e), sym (ap (λ d. alikeAfter (verdictOf d) old) e))
+
+-- ── any reply ──
+
+pub code-is : (a : Answer) (out : List ℕ) (R : Reply) → replyOf a out ≡ R → answerCode a ≡ codeOf R
+unfolding replyOf answerCode codeOf
+code-is (Done n) out R e = ap codeOf e
+code-is (Refused k) out R e = ap codeOf e
+
+count-is : (a : Answer) (out : List ℕ) (R : Reply) (old : ℕ) → replyOf a out ≡ R → ((l : List ℕ) → R ≡ accepted l → length l < length out) →
+    answerCount a old ≡ countAfter R old
+unfolding replyOf answerCount countAfter
+count-is (Done n) out R old e short =
+    number-of n out (take n out) refl (short (take n out) (sym e)) ∙ ap (λ (r : Reply). countAfter r old) e
+count-is (Refused k) out R old e short = ap (λ (r : Reply). countAfter r old) e
+
+-- the code r and the count n of a reply
+abbrev pub Told : Reply → ℕ → ℕ → ℕ → Type 0
+Told R old r n = (r ≡ codeOf R) × (n ≡ countAfter R old)
+
+told : (a : Answer) (out : List ℕ) (R : Reply) (old r n : ℕ) → replyOf a out ≡ R → ((l : List ℕ) → R ≡ accepted l → length l < length out) →
+    Coded a old r n → Told R old r n
+told a out R old r n e short p = (p .0 ∙ code-is a out R e, p .1 ∙ count-is a out R old e short)
+
+-- ── a call ──
+
+module _ (g : Geometry) (M : Memory) (c : Call) (a : Answer) (t log out : List ℕ) where
+  -- what the store's function of a letter promises is what the exported one promises
+  pub called : (old r n : ℕ) → (replyOf a out ≡ reply g M c) × ((t ≡ after g M c .tables) × ((log ≡ after g M c .log) × (out ≡ after g M c .out))) →
+      Coded a old r n → (r ≡ codeOf (reply g M c)) × ((n ≡ countAfter (reply g M c) old) ×
+      ((t ≡ after g M c .tables) × ((log ≡ after g M c .log) × (out ≡ after g M c .out))))
+  called old r n p q =
+      let h : length out ≡ length (M .out) = ap length (p .1 .1 .1) ∙ out-length g M c in
+      let s = told a out (reply g M c) old r n (p .0) (λ l e. omega (arith, accepted-short g M c l e)) q in
+      (s .0, (s .1, p .1))
+
+-- ── a reading ──
+
+module _ (g : Geometry) (log out : List ℕ) where
+  held-short : (l : List ℕ) → readReply g log out ≡ accepted l → length l < length out
+  unfolding readReply heldAtEnd heldBlocks
+  held-short l e =
+      let d = decide-accepted (readConditions g log out) (heldAtEnd g log) l e in
+      omega (arith, ap length (d .1), pass-length (heldIn (marksOf g log)) 0 (blocks g), ltb-false (length out) (2 * blocks g + 64) (d .0 .1 .0))
+
+  left-length : length (readOut g log out) ≡ length out
+  unfolding readOut
+  left-length = go (readReply g log out)
+    where
+      go : (r : Reply) → length (leaves r out (sets out 0 (heldAtEnd g log))) ≡ length out
+      go (accepted l) = length-sets out 0 (heldAtEnd g log)
+      go (refused n) = refl
+
+  pub was-read : (a : Answer) (out′ : List ℕ) (old r n : ℕ) → (replyOf a out′ ≡ readReply g log out) × (out′ ≡ readOut g log out) →
+      Coded a old r n → (r ≡ codeOf (readReply g log out)) × ((n ≡ countAfter (readReply g log out) old) × (out′ ≡ readOut g log out))
+  was-read a out′ old r n p q =
+      let h : length out′ ≡ length out = ap length (p .1) ∙ left-length in
+      let s = told a out′ (readReply g log out) old r n (p .0) (λ l e. omega (arith, held-short l e)) q in
+      (s .0, (s .1, p .1))
+
+-- ── a comparison ──
+
+pub compared : (c : Comparison) (v : Verdict) (old r n : ℕ) → verdictOf c ≡ v → Judged c old r n → (r ≡ verdictCode v) × (n ≡ alikeAfter v old)
+compared c v old r n e p = (p .0 ∙ ap verdictCode e, p .1 ∙ ap (λ w. alikeAfter w old) e)

@@ -1,0 +1,2 @@
+-- Laws of codes and counts.
+pub mod Coding
