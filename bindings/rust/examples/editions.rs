@@ -1,0 +1,30 @@
+//! Two editions of a book that share a page: what each has, and what a delete frees. Run: cargo run --example editions
+use sogvect::{log_read, Geometry, Memory, Refusal, DATA, LEAF};
+
+fn main() -> Result<(), Refusal> {
+    let g = Geometry { arenas: 2, per: 8, pages: 4, records: 8, turn: 16, words: 64 };
+    let (mut tables, mut log, mut out) = (vec![0; g.tables_len()], vec![0; g.log_len()], vec![0; g.out_len()]);
+    let mut store = Memory { tables: &mut tables, log: &mut log, out: &mut out };
+    store.make(g)?;
+
+    let first = store.begin(g)?;
+    store.write(g, first, 0, DATA)?;
+    store.write(g, first, 1, LEAF)?;
+    let next = store.seal(g, first)?;
+    let other = store.fork(g, first)?;
+    store.write(g, other, 0, DATA)?;
+    store.erase(g, next, 1)?;
+    for (name, record) in [("first", first), ("next", next), ("fork", other)] {
+        let pages: Result<Vec<_>, _> = (0..4).map(|page| store.read(g, record, page)).collect();
+        println!("{name} (record {record}): {:?}", pages?);
+    }
+
+    println!("deleting the forked record: {}", store.delete(g, first).unwrap_err());
+    println!("deleting the fork frees {:?}", store.delete(g, other)?);
+    println!("then the first frees {:?}", store.delete(g, first)?);
+    println!("free now: {:?}", store.free_list(g)?);
+    println!("the log has {} words", store.compress(g)?);
+    let used = 8 * store.tables[9] as usize;
+    println!("and holds {:?}", log_read(g, &store.log[..used], store.out)?);
+    Ok(())
+}

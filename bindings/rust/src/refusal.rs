@@ -1,0 +1,74 @@
+//! Why a call was refused.
+use std::fmt;
+
+/// The number of the reason why a call was refused. A refused call changed nothing.
+///
+/// Where several reasons are true of a call, it is the smallest.
+#[derive(Clone, Copy, Debug, PartialEq, Eq, Hash)]
+pub struct Refusal(u32);
+
+impl Refusal {
+    /// 2: a geometry outside its limits.
+    pub const OUTSIDE_LIMITS: Refusal = Refusal(2);
+    /// 3: memory shorter than the geometry needs.
+    pub const TOO_SHORT: Refusal = Refusal(3);
+    /// 4: tables and log that are not those of a store of this geometry.
+    pub const NOT_SOUND: Refusal = Refusal(4);
+    /// 5: a page not below the page count.
+    pub const NO_PAGE: Refusal = Refusal(5);
+    /// 6: a kind above 2.
+    pub const NO_KIND: Refusal = Refusal(6);
+    /// 7: bytes that are no log.
+    pub const NO_LOG: Refusal = Refusal(7);
+    /// 8: a record that is not in the store.
+    pub const NO_RECORD: Refusal = Refusal(8);
+    /// 9: a write, an erase or a seal of a sealed record, or a fork of an open one.
+    pub const NOT_OPEN: Refusal = Refusal(9);
+    /// 10: a delete of a record with a fork on it.
+    pub const FORKED: Refusal = Refusal(10);
+    /// 11: a full record table.
+    pub const TABLE_FULL: Refusal = Refusal(11);
+    /// 12: no record number is left.
+    pub const NO_NUMBER: Refusal = Refusal(12);
+    /// 13: no block is free.
+    pub const NO_BLOCK: Refusal = Refusal(13);
+    /// 14: too few unused log words; [`crate::Memory::compress`] makes room.
+    pub const LOG_FULL: Refusal = Refusal(14);
+
+    /// The number, as include/sogvect.h has it.
+    pub const fn number(self) -> u32 {
+        self.0
+    }
+
+    /// What a function's code says: 0 is done, any other the number of a refusal.
+    pub(crate) fn check(code: u32) -> Result<(), Refusal> {
+        match code {
+            0 => Ok(()),
+            number => Err(Refusal(number)),
+        }
+    }
+}
+
+impl fmt::Display for Refusal {
+    fn fmt(&self, f: &mut fmt::Formatter<'_>) -> fmt::Result {
+        let reason = match self.0 {
+            2 => "a geometry outside its limits",
+            3 => "memory shorter than the geometry needs",
+            4 => "tables that are not sound",
+            5 => "page not below the page count",
+            6 => "kind above 2",
+            7 => "bytes that are no log",
+            8 => "the record is not in the store",
+            9 => "write, erase or seal of a sealed record, or fork of an open one",
+            10 => "delete of a record with a fork on it",
+            11 => "the record table is full",
+            12 => "no record number is left",
+            13 => "no block is free",
+            14 => "the log is too full: compressing makes room",
+            number => return write!(f, "refused by {number}"),
+        };
+        f.write_str(reason)
+    }
+}
+
+impl std::error::Error for Refusal {}

@@ -1,0 +1,266 @@
+//! Every call on valid memory: the listing of the scope document, longer scripts, and arguments that would show a wrong declaration.
+mod common;
+use common::{bare, every_call, numbers, refused, small, Call, Owned, MARK, MARKS, SMALL};
+use sogvect::{Geometry, Memory, Refusal, Written, DATA};
+
+/// The listing of the scope document, with typed results.
+#[test]
+fn listing() {
+    let g = Geometry { arenas: 1, per: 4, pages: 2, records: 4, turn: 8, words: 10 };
+    let mut m = Owned::least(g);
+    let mut s = m.lend();
+    assert_eq!(s.make(g), Ok(()));
+    assert_eq!(s.begin(g), Ok(1));
+    assert_eq!(s.write(g, 1, 0, DATA), Ok(Written { block: 0, freed: None }));
+    assert_eq!(s.seal(g, 1), Ok(2));
+    assert_eq!(s.write(g, 2, 0, DATA), Ok(Written { block: 1, freed: None }));
+    assert_eq!(s.write(g, 2, 0, DATA), Ok(Written { block: 2, freed: Some(1) }));
+    assert_eq!(s.fork(g, 1), Ok(3));
+    assert_eq!(s.delete(g, 1), Err(Refusal::FORKED));
+    assert_eq!(s.erase(g, 3, 0), Ok(None));
+    assert_eq!(s.delete(g, 3), Ok(&[][..]));
+    assert_eq!(s.delete(g, 1), Ok(&[0][..]));
+    assert_eq!(m.words(), [0x1, 0x4001, 0x8001, 0x4002, 0x2]);
+    let mut s = m.lend();
+    assert_eq!(s.compress(g), Ok(2));
+    assert_eq!(m.words(), [0x8001, 0x3]);
+    let mut s = m.lend();
+    assert_eq!(s.write(g, 2, 1, DATA), Ok(Written { block: 3, freed: None }));
+    assert_eq!(s.free_list(g), Ok(vec![(0, 2)]));
+    assert_eq!(s.delete(g, 9), Err(Refusal::NO_RECORD));
+    assert_eq!(s.write(g, 2, 2, DATA), Err(Refusal::NO_PAGE));
+    assert_eq!(s.read(g, 2, 1), Ok(Some(3)));
+    assert_eq!(s.erase(g, 2, 1), Ok(Some(3)));
+    assert_eq!(s.read(g, 2, 1), Ok(None));
+    assert_eq!(s.barrier(g), Ok(()));
+}
+
+/// A script line as the call it spells, if it spells one.
+fn parsed(line: &str) -> Option<Call> {
+    let mut parts = line.split(' ');
+    let letter = parts.next()?;
+    let n: Vec<u32> = parts.map(|p| p.parse().ok()).collect::<Option<_>>()?;
+    Some(match (letter, n.len()) {
+        ("B", 0) => Call::B,
+        ("W", 3) => Call::W(n[0], n[1], n[2]),
+        ("E", 2) => Call::E(n[0], n[1]),
+        ("S", 1) => Call::S(n[0]),
+        ("F", 1) => Call::F(n[0]),
+        ("D", 1) => Call::D(n[0]),
+        ("R", 2) => Call::R(n[0], n[1]),
+        ("Y", 0) => Call::Y,
+        ("C", 0) => Call::C,
+        ("L", 0) => Call::L,
+        _ => return None,
+    })
+}
+
+fn geometry_of(line: &str) -> Geometry {
+    let n: Vec<usize> = line.split(' ').skip(1).map(|p| p.parse().unwrap()).collect();
+    Geometry { arenas: n[0], per: n[1], pages: n[2], records: n[3], turn: n[4], words: n[5] }
+}
+
+fn spelled(reply: Result<Vec<u32>, Refusal>) -> String {
+    match reply {
+        Ok(numbers) => numbers.iter().fold(String::from("+"), |text, n| format!("{text} {n}")),
+        Err(refusal) => format!("- {}", refusal.number()),
+    }
+}
+
+/// Runs a script on memory for any geometry and compares each reply, and the log behind each line where it is given. Lines that are no call are passed over.
+fn script(text: &str, replies: &str, logs: Option<&str>) {
+    let (mut tables, mut log, mut out) = (vec![MARKS; 33_824], vec![MARK; 65_536], vec![MARKS; 4_160]);
+    let mut store = Memory { tables: &mut tables, log: &mut log, out: &mut out };
+    let mut g = None;
+    let mut logs = logs.map(str::lines);
+    let mut made = 0;
+    for (i, (line, reply)) in text.lines().zip(replies.lines()).enumerate() {
+        let words = logs.as_mut().map(|l| l.next().expect("a log for each line"));
+        if reply == "- 1" {
+            continue;
+        }
+        if line.starts_with("store ") {
+            let asked = geometry_of(line);
+            assert_eq!(spelled(store.make(asked).map(|()| vec![])), reply, "line {i}: {line}");
+            g = if reply == "+" { Some(asked) } else { g };
+        } else {
+            let (g, call) = (g.expect("a store"), parsed(line).expect("a call"));
+            assert_eq!(spelled(numbers(&mut store, g, call)), reply, "line {i}: {line}");
+        }
+        made += 1;
+        if let Some(words) = words {
+            let used = store.log[..8 * store.tables[9] as usize].chunks_exact(8);
+            let found: Vec<String> = used.map(|w| format!("{:x}", u64::from_be_bytes(w.try_into().unwrap()))).collect();
+            assert_eq!(found.join(" "), words, "the log behind line {i}: {line}");
+        }
+    }
+    assert!(made > 90, "only {made} calls were made");
+}
+
+macro_rules! scripts {
+    ($($name:ident $(with $log:literal)?;)*) => {
+        $(#[test]
+        fn $name() {
+            let logs = [$(include_str!(concat!("data/", $log)))?];
+            script(include_str!(concat!("data/", stringify!($name), ".script")), include_str!(concat!("data/", stringify!($name), ".replies")), logs.first().copied());
+        })*
+    };
+}
+
+scripts! {
+    forks with "forks.log";
+    mix with "mix.log";
+    compress with "compress.log";
+    shards;
+    deep;
+    macros;
+}
+
+/// The six numbers reach the store in their order: the header has them, and any two swapped are no longer those of the store.
+#[test]
+fn six_numbers_in_order() {
+    let mut m = small();
+    assert_eq!(m.tables[..6], [2, 3, 5, 6, 7, 20]);
+    let six = |n: [usize; 6]| Geometry { arenas: n[0], per: n[1], pages: n[2], records: n[3], turn: n[4], words: n[5] };
+    let mut long = m.clone();
+    (long.tables.resize(40_000, 0), long.log.resize(70_000, 0), long.out.resize(5_000, 0));
+    for i in 0..6 {
+        for j in 0..i {
+            let mut n = [2, 3, 5, 6, 7, 20];
+            n.swap(i, j);
+            let inside = long.clone().lend().make(six(n)).is_ok();
+            for call in every_call(1, 0) {
+                refused(&mut long, six(n), call, if inside { 4 } else { 2 });
+            }
+        }
+        let mut n = [2, 3, 5, 6, 7, 20];
+        n[i] += 1 << 32;
+        for call in every_call(1, 0) {
+            refused(&mut m, six(n), call, 2);
+        }
+        assert_eq!(m.lend().make(six(n)), Err(Refusal::OUTSIDE_LIMITS));
+    }
+}
+
+/// A call's own numbers reach it in their order and whole: another number in one place is refused for that place.
+#[test]
+fn own_numbers_whole() {
+    let mut m = small();
+    for high in [1 << 8, 1 << 16, 1 << 31] {
+        for call in [Call::W(4 + high, 2, 1), Call::E(4 + high, 2), Call::S(4 + high), Call::F(1 + high), Call::D(4 + high), Call::R(1 + high, 0)] {
+            refused(&mut m, SMALL, call, 8);
+        }
+        for call in [Call::W(4, 2 + high, 1), Call::E(4, 2 + high), Call::R(1, high)] {
+            refused(&mut m, SMALL, call, 5);
+        }
+        refused(&mut m, SMALL, Call::W(4, 2, 1 + high), 6);
+    }
+    refused(&mut m, SMALL, Call::W(2, 4, 1), 9);
+    refused(&mut m, SMALL, Call::R(3, 0), 8);
+    let mut s = m.lend();
+    assert_eq!(s.write(SMALL, 4, 3, 1), Ok(Written { block: 4, freed: None }));
+    assert_eq!(s.read(SMALL, 4, 3), Ok(Some(4)));
+    assert_eq!(s.read(SMALL, 4, 1), Ok(None));
+    assert_eq!(s.erase(SMALL, 4, 3), Ok(Some(4)));
+}
+
+/// The count is written whole, and nothing beside it; the result buffer beyond the result stays.
+#[test]
+fn count_and_buffer() {
+    for call in [Call::B, Call::W(4, 1, 0), Call::E(4, 2), Call::S(4), Call::F(2), Call::D(4), Call::R(4, 2), Call::Y, Call::C, Call::L] {
+        let (mut m, mut other) = (small(), small());
+        m.out.fill(MARKS);
+        let mut counts = [usize::MAX; 3];
+        assert_eq!(bare(&mut m, SMALL, call, &mut counts[1]), 0, "{call:?}");
+        let given = numbers(&mut other.lend(), SMALL, call).unwrap();
+        assert_eq!(counts, [usize::MAX, given.len(), usize::MAX], "{call:?}");
+        assert_eq!(m.out[..given.len()], given[..], "{call:?}");
+        assert!(m.out[given.len()..].iter().all(|x| *x == MARKS), "{call:?} wrote behind its result");
+        assert_eq!((m.tables, m.log), (other.tables, other.log), "{call:?}");
+    }
+}
+
+/// Memory beyond what the geometry needs stays as it is.
+#[test]
+fn beyond_stays() {
+    let mut m = Owned::least(SMALL);
+    let ends = (m.tables.len(), m.log.len(), m.out.len());
+    (m.tables.resize(ends.0 + 50, MARKS), m.log.resize(ends.1 + 50, MARK), m.out.resize(ends.2 + 50, MARKS));
+    m.lend().make(SMALL).unwrap();
+    for call in [Call::B, Call::W(1, 4, 2), Call::S(1), Call::W(2, 4, 2), Call::F(1), Call::D(3), Call::D(1), Call::Y, Call::C, Call::L] {
+        numbers(&mut m.lend(), SMALL, call).unwrap();
+    }
+    assert!(m.tables[ends.0..].iter().chain(&m.out[ends.2..]).all(|x| *x == MARKS));
+    assert!(m.log[ends.1..].iter().all(|x| *x == MARK));
+}
+
+/// Every refusal of a call that has a sound store under it.
+#[test]
+fn refusals_by_state() {
+    let mut m = small();
+    for (call, number) in [
+        (Call::W(1, 0, 0), 9),
+        (Call::E(2, 0), 9),
+        (Call::S(1), 9),
+        (Call::F(4), 9),
+        (Call::D(1), 10),
+        (Call::W(4, 9, 9), 5),
+        (Call::W(4, 0, 9), 6),
+        (Call::W(9, 0, 0), 8),
+    ] {
+        refused(&mut m, SMALL, call, number);
+    }
+    assert_eq!(m.lend().begin(SMALL), Ok(6));
+    assert_eq!(m.lend().begin(SMALL), Ok(7));
+    for (call, number) in [(Call::B, 11), (Call::S(4), 11), (Call::F(2), 11), (Call::F(4), 9), (Call::S(8), 8)] {
+        refused(&mut m, SMALL, call, number);
+    }
+}
+
+/// All blocks given: 13; the log full: 14, until it is compressed; the last number given: 12.
+#[test]
+fn refusals_at_the_end() {
+    let g = Geometry { arenas: 1, per: 2, pages: 3, records: 2, turn: 1, words: 6 };
+    let mut m = Owned::made(g);
+    for call in [Call::B, Call::W(1, 0, 0), Call::W(1, 1, 0)] {
+        numbers(&mut m.lend(), g, call).unwrap();
+    }
+    refused(&mut m, g, Call::W(1, 2, 0), 13);
+    for _ in 0..4 {
+        numbers(&mut m.lend(), g, Call::Y).unwrap();
+    }
+    refused(&mut m, g, Call::Y, 14);
+    refused(&mut m, g, Call::E(1, 0), 14);
+    refused(&mut m, g, Call::D(1), 14);
+    assert_eq!(m.lend().compress(g), Ok(3));
+    assert_eq!(m.lend().erase(g, 1, 0), Ok(Some(0)));
+    m.tables[6] = 999_999;
+    refused(&mut m, g, Call::B, 12);
+    refused(&mut m, g, Call::S(1), 12);
+}
+
+/// Each refusal has its own sentence.
+#[test]
+fn sentences() {
+    let all = [
+        Refusal::OUTSIDE_LIMITS,
+        Refusal::TOO_SHORT,
+        Refusal::NOT_SOUND,
+        Refusal::NO_PAGE,
+        Refusal::NO_KIND,
+        Refusal::NO_LOG,
+        Refusal::NO_RECORD,
+        Refusal::NOT_OPEN,
+        Refusal::FORKED,
+        Refusal::TABLE_FULL,
+        Refusal::NO_NUMBER,
+        Refusal::NO_BLOCK,
+        Refusal::LOG_FULL,
+    ];
+    assert!(all.iter().map(|r| r.number()).eq(2..=14));
+    for (i, r) in all.iter().enumerate() {
+        assert!(!r.to_string().starts_with("refused"), "{}", r.number());
+        assert!(all[..i].iter().all(|other| other.to_string() != r.to_string()), "{}", r.number());
+    }
+    assert_eq!(small().lend().delete(SMALL, 1).unwrap_err().to_string(), "delete of a record with a fork on it");
+}

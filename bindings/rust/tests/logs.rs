@@ -1,0 +1,203 @@
+//! Reading and comparing logs: good ones, bad ones, empty ones and ones of odd lengths.
+mod common;
+use common::{numbers, small, Call, Owned, Random, MARKS, SMALL};
+use sogvect::{log_compare, log_read, raw, Geometry, Refusal};
+
+const BLOCK: u64 = 16_384;
+
+fn bytes(words: &[u64]) -> Vec<u8> {
+    words.iter().flat_map(|w| w.to_be_bytes()).collect()
+}
+
+fn held(words: &[u64]) -> Result<Vec<u32>, Refusal> {
+    log_read(SMALL, &bytes(words), &mut vec![0; SMALL.out_len()]).map(<[u32]>::to_vec)
+}
+
+#[test]
+fn good() {
+    assert_eq!(held(&[]), Ok(vec![]));
+    assert_eq!(held(&[3]), Ok(vec![]));
+    assert_eq!(held(&[1, 3, BLOCK * 4 + 1]), Ok(vec![0, 4]));
+    assert_eq!(held(&[BLOCK * 4 + 1, 1]), Ok(vec![0, 4]));
+    assert_eq!(held(&[4, BLOCK * 3]), Ok(vec![0, 1, 2]));
+    assert_eq!(held(&[4, BLOCK * 3, BLOCK + 2]), Ok(vec![0, 2]));
+    assert_eq!(held(&[BLOCK * 3 + 4, BLOCK * 3, BLOCK * 4 + 5, BLOCK * 2]), Ok(vec![3]));
+}
+
+#[test]
+fn bad() {
+    for words in [
+        &[0][..],
+        &[6],
+        &[BLOCK + 3],
+        &[0x101],
+        &[BLOCK * 6 + 1],
+        &[u64::MAX],
+        &[4],
+        &[4, 0],
+        &[4, 1],
+        &[4, BLOCK * 4],
+        &[BLOCK * 2 + 4, BLOCK * 2],
+        &[1, 1],
+        &[2],
+        &[1, 4, BLOCK],
+        &[5, BLOCK],
+    ] {
+        assert_eq!(held(words), Err(Refusal::NO_LOG), "{words:x?}");
+        let (first, second) = (bytes(words), bytes(&[3]));
+        assert_eq!(log_compare(SMALL, &first, &second), Err(Refusal::NO_LOG), "{words:x?}");
+        assert_eq!(log_compare(SMALL, &second, &first), Err(Refusal::NO_LOG), "{words:x?}");
+    }
+}
+
+#[test]
+fn odd_lengths() {
+    let log = bytes(&[1, 3, 3]);
+    let mut out = vec![0; SMALL.out_len()];
+    for n in 0..=24 {
+        let expected = match n {
+            0 => Ok(&[][..]),
+            8 | 16 | 24 => Ok(&[0][..]),
+            _ => Err(Refusal::NO_LOG),
+        };
+        assert_eq!(log_read(SMALL, &log[..n], &mut out), expected, "{n} bytes");
+        let alike = log_compare(SMALL, &log[..n], &log);
+        assert_eq!(alike, expected.map(|blocks| !blocks.is_empty()), "{n} bytes");
+    }
+}
+
+#[test]
+fn compared() {
+    let alike = |a: &[u64], b: &[u64]| log_compare(SMALL, &bytes(a), &bytes(b));
+    assert_eq!(alike(&[], &[3, 3]), Ok(true));
+    assert_eq!(alike(&[1, BLOCK + 1], &[4, 2 * BLOCK, 3]), Ok(true));
+    assert_eq!(alike(&[1], &[BLOCK + 1]), Ok(false));
+    assert_eq!(alike(&[BLOCK * 5 + 1], &[]), Ok(false));
+    assert_eq!(alike(&[1, 2], &[]), Ok(true));
+}
+
+/// A store's own log reads to its held blocks, before and behind a compression, and the two are alike.
+#[test]
+fn own_log() {
+    let mut m = small();
+    let old = m.used().to_vec();
+    let mut out = vec![0; SMALL.out_len()];
+    let list = m.lend().free_list(SMALL).unwrap();
+    let free: Vec<u32> = list.iter().flat_map(|(first, length)| *first..first + length).collect();
+    let held: Vec<u32> = (0..6).filter(|b| !free.contains(b)).collect();
+    assert_eq!(log_read(SMALL, &old, &mut out), Ok(&held[..]));
+    numbers(&mut m.lend(), SMALL, Call::C).unwrap();
+    assert_ne!(m.used(), old);
+    assert_eq!(log_read(SMALL, m.used(), &mut out), Ok(&held[..]));
+    assert_eq!(log_compare(SMALL, m.used(), &old), Ok(true));
+}
+
+/// The six numbers are checked, each in its place, and the result buffer's length.
+#[test]
+fn geometry_and_buffer() {
+    let log = bytes(&[BLOCK * 5 + 1]);
+    let mut out = vec![MARKS; SMALL.out_len()];
+    let short = SMALL.out_len() - 1;
+    assert_eq!(log_read(SMALL, &log, &mut out[..short]), Err(Refusal::TOO_SHORT));
+    assert!(out.iter().all(|x| *x == MARKS));
+    for i in 0..6 {
+        for x in [0, usize::MAX, 1 << 32] {
+            let mut n = [2, 3, 5, 6, 7, 20];
+            n[i] = x;
+            let g = Geometry { arenas: n[0], per: n[1], pages: n[2], records: n[3], turn: n[4], words: n[5] };
+            assert_eq!(log_read(g, &log, &mut out), Err(Refusal::OUTSIDE_LIMITS), "{g:?}");
+            assert_eq!(log_compare(g, &log, &log), Err(Refusal::OUTSIDE_LIMITS), "{g:?}");
+        }
+    }
+    for (six, inside) in [
+        ([16, 128, 256, 64, 4_096, 8_192], true),
+        ([128, 16, 256, 64, 4_096, 8_192], false),
+        ([16, 256, 128, 64, 4_096, 8_192], false),
+        ([16, 64, 256, 128, 4_096, 8_192], false),
+        ([16, 128, 256, 4_096, 64, 8_192], false),
+        ([16, 128, 256, 64, 8_192, 4_096], false),
+    ] {
+        let g = Geometry { arenas: six[0], per: six[1], pages: six[2], records: six[3], turn: six[4], words: six[5] };
+        let mut out = vec![0; 10_000];
+        assert_eq!(log_read(g, &log, &mut out).is_ok(), inside, "{g:?}");
+        assert_eq!(log_compare(g, &log, &log).is_ok(), inside, "{g:?}");
+    }
+    let other = Geometry { arenas: 3, per: 2, ..SMALL };
+    let run = bytes(&[4, BLOCK * 3]);
+    assert!(log_read(SMALL, &run, &mut out).is_ok());
+    assert_eq!(log_read(other, &run, &mut out), Err(Refusal::NO_LOG));
+}
+
+/// What the bare functions write: the count and the answer whole and nothing beside them, the result and nothing behind it; a refusal writes nothing.
+#[test]
+fn what_is_written() {
+    let g = SMALL;
+    let read = |log: &[u8], out: &mut Vec<u32>, counts: &mut [usize; 3]| {
+        // SAFETY: a shared slice, a vector and a count.
+        unsafe {
+            raw::sogvect_log_read(
+                g.arenas,
+                g.per,
+                g.pages,
+                g.records,
+                g.turn,
+                g.words,
+                log.as_ptr(),
+                log.len(),
+                out.as_mut_ptr(),
+                out.len(),
+                &mut counts[1],
+            )
+        }
+    };
+    let compare = |first: &[u8], second: &[u8], alike: &mut [u32; 3]| {
+        // SAFETY: two shared slices and a number.
+        unsafe {
+            raw::sogvect_log_compare(
+                g.arenas,
+                g.per,
+                g.pages,
+                g.records,
+                g.turn,
+                g.words,
+                first.as_ptr(),
+                first.len(),
+                second.as_ptr(),
+                second.len(),
+                &mut alike[1],
+            )
+        }
+    };
+    let (good, bad) = (bytes(&[BLOCK * 3 + 1, BLOCK * 4 + 1]), bytes(&[1, 1]));
+    let (mut out, mut counts, mut alike) = (vec![MARKS; SMALL.out_len()], [usize::MAX; 3], [MARKS; 3]);
+    assert_eq!(read(&bad, &mut out, &mut counts), 7);
+    assert_eq!(compare(&good, &bad, &mut alike), 7);
+    assert_eq!((counts, alike), ([usize::MAX; 3], [MARKS; 3]));
+    assert!(out.iter().all(|x| *x == MARKS));
+    assert_eq!(read(&good, &mut out, &mut counts), 0);
+    assert_eq!(counts, [usize::MAX, 2, usize::MAX]);
+    assert_eq!(out[..3], [3, 4, MARKS]);
+    assert_eq!(compare(&good, &good[..8], &mut alike), 0);
+    assert_eq!(alike, [MARKS, 0, MARKS]);
+    assert_eq!(compare(&good, &good, &mut alike), 0);
+    assert_eq!(alike, [MARKS, 1, MARKS]);
+}
+
+/// Random bytes are no log, but for the rare ones that both functions take.
+#[test]
+fn random_bytes() {
+    let mut refusals = 0;
+    for seed in 0..500 {
+        let mut r = Random::new(seed);
+        let mut m = Owned::least(SMALL);
+        let log: Vec<u8> = (0..r.below(40)).map(|_| r.below(6) as u8).collect();
+        m.out.fill(MARKS);
+        let read = log_read(SMALL, &log, &mut m.out).map(<[u32]>::to_vec);
+        assert_eq!(log_compare(SMALL, &log, &log), read.as_ref().map(|_| true).map_err(|e| *e));
+        if read == Err(Refusal::NO_LOG) {
+            assert!(m.out.iter().all(|x| *x == MARKS));
+            refusals += 1;
+        }
+    }
+    assert!(refusals > 400, "only {refusals} were refused");
+}

@@ -1,0 +1,203 @@
+//! Memory that is short, damaged or random, and geometries outside their limits: refused by number, and nothing is changed.
+mod common;
+use common::{every_call, numbers, refused, small, Call, Owned, Random, SMALL};
+use sogvect::{Geometry, Refusal};
+
+/// Each piece of memory one element short is refused with 3, by every call and by the making; with that element it is not.
+#[test]
+fn one_short() {
+    for piece in 0..3 {
+        let mut m = small();
+        match piece {
+            0 => drop(m.tables.pop()),
+            1 => drop(m.log.pop()),
+            _ => drop(m.out.pop()),
+        }
+        for call in every_call(4, 2) {
+            refused(&mut m, SMALL, call, 3);
+        }
+        let before = m.clone();
+        assert_eq!(m.lend().make(SMALL), Err(Refusal::TOO_SHORT));
+        assert_eq!(m, before);
+    }
+    assert_eq!(small().lend().make(SMALL), Ok(()));
+    assert!(small().lend().begin(SMALL).is_ok());
+}
+
+#[test]
+fn empty() {
+    let mut m = Owned { tables: vec![], log: vec![], out: vec![] };
+    for call in every_call(1, 0) {
+        refused(&mut m, SMALL, call, 3);
+    }
+    assert_eq!(m.lend().make(SMALL), Err(Refusal::TOO_SHORT));
+}
+
+/// Each number just inside its limits is accepted and just outside is refused with 2, on memory that is long enough for all.
+#[test]
+fn limits() {
+    let inside = Geometry { arenas: 2, per: 3, pages: 5, records: 4, turn: 7, words: 20 };
+    let mut m = Owned { tables: vec![7; 33_824], log: vec![7; 65_536], out: vec![7; 4_160] };
+    let with = |change: fn(&mut Geometry, usize), x: usize| {
+        let mut g = inside;
+        change(&mut g, x);
+        g
+    };
+    let cases: [(fn(&mut Geometry, usize), [usize; 2], [usize; 3]); 6] = [
+        (|g, x| g.arenas = x, [1, 3], [0, 17, usize::MAX]),
+        (|g, x| (g.per, g.words) = (x, 4_096), [1, 1_024], [0, 1_025, usize::MAX]),
+        (|g, x| g.pages = x, [1, 256], [0, 257, usize::MAX]),
+        (|g, x| g.records = x, [1, 64], [0, 65, usize::MAX]),
+        (|g, x| g.turn = x, [1, 4_096], [0, 4_097, usize::MAX]),
+        (|g, x| g.words = x, [14, 8_192], [13, 8_193, usize::MAX]),
+    ];
+    for (i, (change, good, bad)) in cases.into_iter().enumerate() {
+        for x in bad {
+            let g = with(change, x);
+            for call in every_call(1, 0) {
+                refused(&mut m, g, call, 2);
+            }
+            let before = m.clone();
+            assert_eq!(m.lend().make(g), Err(Refusal::OUTSIDE_LIMITS), "{g:?}");
+            assert_eq!(m, before);
+        }
+        for x in good {
+            let mut g = with(change, x);
+            g.words = if i == 1 { 2 * g.blocks() + 2 } else { g.words };
+            assert_eq!(m.lend().make(g), Ok(()), "{g:?}");
+            assert_eq!(m.lend().begin(g), Ok(1), "{g:?}");
+        }
+    }
+    let product = Geometry { arenas: 3, per: 683, pages: 1, records: 1, turn: 1, words: 4_100 };
+    refused(&mut m, product, Call::L, 2);
+    let largest = Geometry { arenas: 16, per: 128, pages: 256, records: 64, turn: 4_096, words: 8_192 };
+    assert_eq!(m.lend().make(largest), Ok(()));
+    assert_eq!(m.lend().free_list(largest).unwrap().len(), 16);
+}
+
+/// Numbers of the small store's tables that the layout does not name.
+fn spare(at: usize) -> bool {
+    let blocks = 32 + 272 * SMALL.records;
+    match at {
+        0..32 => (11..16).contains(&at) || at >= 16 + SMALL.arenas,
+        _ if at < blocks => (5..16).contains(&((at - 32) % 272)) || (at - 32) % 272 >= 16 + SMALL.pages,
+        _ => (at - blocks) % 8 >= 5,
+    }
+}
+
+/// What every call answers on a copy of the memory. Refused ones change nothing, accepted ones leave a sound store.
+fn answers(m: &Owned) -> Vec<Result<Vec<u32>, Refusal>> {
+    let calls = every_call(4, 2).into_iter().chain([1, 2, 5].map(Call::F)).chain([1, 2, 5].map(Call::D));
+    let reads = [1, 2, 4, 5].into_iter().flat_map(|n| (0..5).map(move |page| Call::R(n, page)));
+    calls
+        .chain(reads)
+        .map(|call| {
+            let mut copy = m.clone();
+            let answer = numbers(&mut copy.lend(), SMALL, call);
+            match &answer {
+                Err(_) => assert_eq!(copy, *m, "{call:?} was refused and changed memory"),
+                Ok(_) => assert!(copy.lend().free_list(SMALL).is_ok(), "{call:?} left memory that is not sound"),
+            }
+            answer
+        })
+        .collect()
+}
+
+/// Each number of the tables, changed: every call answers 4, or the change is one that a sound store can have. A spare number changes no answer.
+#[test]
+fn each_number_damaged() {
+    let sound = small();
+    let before = answers(&sound);
+    let list = small().lend().free_list(SMALL).unwrap();
+    let (mut unsound, mut kept) = (0, 0);
+    for at in 0..sound.tables.len() {
+        let old = sound.tables[at];
+        for new in [old ^ 1, old.wrapping_add(1), old.wrapping_sub(1), 0, u32::MAX, old ^ (1 << 31)] {
+            if new == old {
+                continue;
+            }
+            let mut m = sound.clone();
+            m.tables[at] = new;
+            let after = answers(&m);
+            if spare(at) {
+                assert_eq!(after, before, "spare number {at} is {new}");
+                kept += 1;
+            } else if m.clone().lend().free_list(SMALL) == Err(Refusal::NOT_SOUND) {
+                assert!(after.iter().all(|a| *a == Err(Refusal::NOT_SOUND)), "number {at} is {new}");
+                unsound += 1;
+            } else {
+                assert!(!after.contains(&Err(Refusal::NOT_SOUND)), "number {at} is {new}");
+                assert_eq!(m.lend().free_list(SMALL).as_ref(), Ok(&list), "number {at} is {new}");
+                kept += 1;
+            }
+        }
+    }
+    assert!(unsound > 300 && kept > 300, "{unsound} refused, {kept} taken");
+}
+
+/// Each used byte of the log, changed: 4, or a log that holds the same blocks. A byte behind the used ones changes no answer.
+#[test]
+fn each_log_byte_damaged() {
+    let sound = small();
+    let before = answers(&sound);
+    let used = sound.used().len();
+    for at in 0..sound.log.len() {
+        for new in [sound.log[at] ^ 1, sound.log[at] ^ 0x80, 0xff] {
+            let mut m = sound.clone();
+            m.log[at] = new;
+            if at >= used {
+                assert_eq!(answers(&m), before, "unused byte {at} is {new}");
+            } else if m.log != sound.log {
+                assert!(answers(&m).iter().all(|a| *a == Err(Refusal::NOT_SOUND)), "byte {at} is {new}");
+            }
+        }
+    }
+}
+
+/// Random memory: every call answers 4 and changes nothing; the making takes it.
+#[test]
+fn random_memory() {
+    for seed in 0..200 {
+        let mut r = Random::new(seed);
+        let mut m = Owned::least(SMALL);
+        let small_numbers = seed % 2 == 0;
+        m.tables.fill_with(|| if small_numbers { r.below(4) as u32 } else { r.next() as u32 });
+        m.log.fill_with(|| r.next() as u8);
+        m.out.fill_with(|| r.next() as u32);
+        m.tables[..6].copy_from_slice(&[2, 3, 5, 6, 7, 20]);
+        for call in every_call(r.below(5) as u32, r.below(6) as u32) {
+            refused(&mut m, SMALL, call, 4);
+        }
+        let (log, out) = (m.log.clone(), m.out.clone());
+        assert_eq!(m.lend().make(SMALL), Ok(()));
+        assert_eq!((&m.log, &m.out), (&log, &out));
+        assert_eq!(m.lend().free_list(SMALL), Ok(vec![(0, 3), (3, 3)]));
+    }
+}
+
+/// Random calls on a sound store with one number changed before each: what is refused changes nothing, what is accepted leaves a sound store.
+#[test]
+fn random_damage() {
+    let mut r = Random::new(77);
+    let (mut refusals, mut accepted) = (0, 0);
+    for _ in 0..2_000 {
+        let mut m = small();
+        for _ in 0..1 + r.below(3) {
+            let at = r.below(m.tables.len() as u64) as usize;
+            m.tables[at] = r.below(8) as u32;
+        }
+        let call = every_call(1 + r.below(5) as u32, r.below(5) as u32)[r.below(10) as usize];
+        let before = m.clone();
+        match numbers(&mut m.lend(), SMALL, call) {
+            Err(_) => {
+                assert_eq!(m, before, "{call:?}");
+                refusals += 1;
+            }
+            Ok(_) => {
+                assert!(m.lend().free_list(SMALL).is_ok(), "{call:?}");
+                accepted += 1;
+            }
+        }
+    }
+    assert!(refusals > 100 && accepted > 100, "{refusals} refused, {accepted} accepted");
+}

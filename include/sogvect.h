@@ -1,0 +1,167 @@
+/* Sogvect: a snapshot store with forks, deletes in the middle of a line and an allocation log.
+ *
+ * The store keeps records (snapshots). A record maps pages to blocks; it is open (pages may be written) or sealed. Records stand in lines, and a sealed
+ * record may be forked into a new line. The store decides which block a page gets and which blocks a change frees; it never touches the blocks' contents.
+ *
+ * Link with target/staticlib/libsogvect.a (x86-64 Linux; made by `rt staticlib sogvect`). The library allocates nothing and keeps nothing between calls:
+ * a store lives wholly in memory that its owner lends with every call.
+ *
+ * Lent memory, each piece as a pointer and a length counted in elements:
+ *   tables   32-bit numbers, the store's state
+ *   log      bytes, the store's allocation log
+ *   out      32-bit numbers, the result buffer
+ * Tables and log come back to every call as the last call left them. docs/LAYOUT.md describes both. Pointers are aligned for their type and not NULL,
+ * even where a length is 0. The pieces, and `count`, do not overlap. Longer memory is taken, and what lies beyond the needed length is never changed.
+ * Apart from that nothing is trusted: any numbers, any content. Every call first checks all tables and the log.
+ *
+ * Every function returns SOGVECT_DONE (0), or the number of the reason why it refused the call. Where several reasons are true it is the smallest.
+ * A done call sets *count to how many numbers its result has; they stand at the start of `out`, and the rest of `out` is as it was.
+ * A refused call changes nothing: tables, log, out and *count are as they were.
+ *
+ * The six numbers of a geometry come first in every call, and are those that the store was made from:
+ *   arenas   1 to 16
+ *   per      blocks in an arena, 1 to 1,024; arenas x per, all blocks, is at most 2,048
+ *   pages    pages of a record, 1 to 256
+ *   records  records in the store at one time, 1 to 64
+ *   turn     writes after which the next arena is the first choice, 1 to 4,096
+ *   words    words of the log, from 2 x arenas x per + 2 to 8,192
+ * Blocks are numbered from 0 through all arenas, pages from 0, records from 1. A record's number is never given twice.
+ */
+#ifndef SOGVECT_H
+#define SOGVECT_H
+
+#include <stddef.h>
+#include <stdint.h>
+
+#ifdef __cplusplus
+extern "C" {
+#endif
+
+/* Limits of the six numbers. */
+#define SOGVECT_ARENAS_MOST 16
+#define SOGVECT_PER_MOST 1024
+#define SOGVECT_BLOCKS_MOST 2048
+#define SOGVECT_PAGES_MOST 256
+#define SOGVECT_RECORDS_MOST 64
+#define SOGVECT_TURN_MOST 4096
+#define SOGVECT_WORDS_LEAST(blocks) (2 * (size_t)(blocks) + 2)
+#define SOGVECT_WORDS_MOST 8192
+
+/* The last number that a record can have. */
+#define SOGVECT_RECORD_LAST 999999
+
+/* Least lengths of the lent memory; blocks is arenas x per. */
+#define SOGVECT_TABLES_NUMBERS(records, blocks) (32 + 272 * (size_t)(records) + 8 * (size_t)(blocks))
+#define SOGVECT_LOG_BYTES(words) (8 * (size_t)(words))
+#define SOGVECT_OUT_NUMBERS(blocks) (2 * (size_t)(blocks) + 64)
+
+/* Lengths that are enough for every geometry. */
+#define SOGVECT_TABLES_NUMBERS_MOST 33824
+#define SOGVECT_LOG_BYTES_MOST 65536
+#define SOGVECT_OUT_NUMBERS_MOST 4160
+
+/* Bytes of a block: a log names a block by its number times this. */
+#define SOGVECT_BLOCK_BYTES 16384
+
+/* Kinds of a write: they spread over neighbouring arenas. */
+#define SOGVECT_DATA 0
+#define SOGVECT_PIVOT 1
+#define SOGVECT_LEAF 2
+
+/* What a function returns. Every call may be refused with 2, 3 or 4 (sogvect_make never with 4); the others are named at each function. */
+#define SOGVECT_DONE 0
+#define SOGVECT_OUTSIDE_LIMITS 2 /* one of the six numbers is outside its limits */
+#define SOGVECT_TOO_SHORT 3      /* tables, log or out is shorter than the geometry needs */
+#define SOGVECT_NOT_SOUND 4      /* the tables and the log are not those of a store of these six numbers */
+#define SOGVECT_NO_PAGE 5        /* the page is not below the page count */
+#define SOGVECT_NO_KIND 6        /* the kind is above 2 */
+#define SOGVECT_NO_LOG 7         /* the bytes are no log of a store of these six numbers */
+#define SOGVECT_NO_RECORD 8      /* the record is not in the store */
+#define SOGVECT_NOT_OPEN 9       /* write, erase or seal of a sealed record; fork of an open one */
+#define SOGVECT_FORKED 10        /* delete of a record with a fork on it */
+#define SOGVECT_TABLE_FULL 11    /* as many records as there can be at one time */
+#define SOGVECT_NO_NUMBER 12     /* the last record number has been given */
+#define SOGVECT_NO_BLOCK 13      /* no block is free */
+#define SOGVECT_LOG_FULL 14      /* too few unused log words: sogvect_compress makes room */
+
+/* Makes a fresh store on the lent memory, whatever was there before. It reads the lengths of log and out only, and has no result.
+ * Refusals: 2, 3. */
+uint32_t sogvect_make(size_t arenas, size_t per, size_t pages, size_t records, size_t turn, size_t words,
+                      uint32_t *tables, size_t tables_len, const uint8_t *log, size_t log_len, const uint32_t *out, size_t out_len);
+
+/* Begins a line: a new open record with every page empty. Result: its number.
+ * Refusals: 2, 3, 4, 11, 12. */
+uint32_t sogvect_begin(size_t arenas, size_t per, size_t pages, size_t records, size_t turn, size_t words,
+                       uint32_t *tables, size_t tables_len, uint8_t *log, size_t log_len, uint32_t *out, size_t out_len,
+                       size_t *count);
+
+/* Puts a free block on a page of open record n; kind is 0 to 2. Result: the block, and after it the block that was there before if that is free now.
+ * Refusals: 2, 3, 4, 5, 6, 8, 9, 13, 14. */
+uint32_t sogvect_write(size_t arenas, size_t per, size_t pages, size_t records, size_t turn, size_t words,
+                       uint32_t *tables, size_t tables_len, uint8_t *log, size_t log_len, uint32_t *out, size_t out_len,
+                       uint32_t n, uint32_t page, uint32_t kind, size_t *count);
+
+/* Empties a page of open record n. Result: the block that was there if it is free now, else nothing.
+ * Refusals: 2, 3, 4, 5, 8, 9, 14. */
+uint32_t sogvect_erase(size_t arenas, size_t per, size_t pages, size_t records, size_t turn, size_t words,
+                       uint32_t *tables, size_t tables_len, uint8_t *log, size_t log_len, uint32_t *out, size_t out_len,
+                       uint32_t n, uint32_t page, size_t *count);
+
+/* Seals open record n; a new open record with the same pages follows it in its line. Result: the new record's number.
+ * Refusals: 2, 3, 4, 8, 9, 11, 12. */
+uint32_t sogvect_seal(size_t arenas, size_t per, size_t pages, size_t records, size_t turn, size_t words,
+                      uint32_t *tables, size_t tables_len, uint8_t *log, size_t log_len, uint32_t *out, size_t out_len,
+                      uint32_t n, size_t *count);
+
+/* Forks sealed record n: a new line, whose open record has n's pages. Result: the new record's number.
+ * Refusals: 2, 3, 4, 8, 9, 11, 12. */
+uint32_t sogvect_fork(size_t arenas, size_t per, size_t pages, size_t records, size_t turn, size_t words,
+                      uint32_t *tables, size_t tables_len, uint8_t *log, size_t log_len, uint32_t *out, size_t out_len,
+                      uint32_t n, size_t *count);
+
+/* Deletes record n, open or sealed. Result: the blocks that are free now, none to all of them.
+ * Refusals: 2, 3, 4, 8, 10, 14. */
+uint32_t sogvect_delete(size_t arenas, size_t per, size_t pages, size_t records, size_t turn, size_t words,
+                        uint32_t *tables, size_t tables_len, uint8_t *log, size_t log_len, uint32_t *out, size_t out_len,
+                        uint32_t n, size_t *count);
+
+/* Reads a page of record n. Result: the block on it, or nothing.
+ * Refusals: 2, 3, 4, 5, 8. */
+uint32_t sogvect_read(size_t arenas, size_t per, size_t pages, size_t records, size_t turn, size_t words,
+                      uint32_t *tables, size_t tables_len, uint8_t *log, size_t log_len, uint32_t *out, size_t out_len,
+                      uint32_t n, uint32_t page, size_t *count);
+
+/* Adds a barrier to the log. Result: nothing.
+ * Refusals: 2, 3, 4, 14. */
+uint32_t sogvect_barrier(size_t arenas, size_t per, size_t pages, size_t records, size_t turn, size_t words,
+                         uint32_t *tables, size_t tables_len, uint8_t *log, size_t log_len, uint32_t *out, size_t out_len,
+                         size_t *count);
+
+/* Writes the log anew, as short as it can be. Result: how many words it has.
+ * Refusals: 2, 3, 4. */
+uint32_t sogvect_compress(size_t arenas, size_t per, size_t pages, size_t records, size_t turn, size_t words,
+                          uint32_t *tables, size_t tables_len, uint8_t *log, size_t log_len, uint32_t *out, size_t out_len,
+                          size_t *count);
+
+/* Lists the free blocks. Result: a pair of numbers for each run of free blocks, its first block and its length, rising; no run crosses an arena's edge.
+ * Refusals: 2, 3, 4. */
+uint32_t sogvect_free_list(size_t arenas, size_t per, size_t pages, size_t records, size_t turn, size_t words,
+                           uint32_t *tables, size_t tables_len, uint8_t *log, size_t log_len, uint32_t *out, size_t out_len,
+                           size_t *count);
+
+/* Reads a log of any length, of no store or of one whose tables are lost. Result: the blocks that are held at its end, rising.
+ * A store's own log has more bytes than it uses; number 9 of its tables says how many words are used.
+ * Refusals: 2, 3 (out too short), 7. */
+uint32_t sogvect_log_read(size_t arenas, size_t per, size_t pages, size_t records, size_t turn, size_t words,
+                          const uint8_t *log, size_t log_len, uint32_t *out, size_t out_len, size_t *count);
+
+/* Compares two logs of any length: *alike becomes 1 where both hold the same blocks at their end, else 0. The two may overlap.
+ * Refusals: 2, 7 (one of them is no log); *alike is then as it was. */
+uint32_t sogvect_log_compare(size_t arenas, size_t per, size_t pages, size_t records, size_t turn, size_t words,
+                             const uint8_t *first, size_t first_len, const uint8_t *second, size_t second_len, uint32_t *alike);
+
+#ifdef __cplusplus
+}
+#endif
+
+#endif
