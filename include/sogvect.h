@@ -160,6 +160,12 @@ uint32_t sogvect_log_read(size_t arenas, size_t per, size_t pages, size_t record
 uint32_t sogvect_log_compare(size_t arenas, size_t per, size_t pages, size_t records, size_t turn, size_t words,
                              const uint8_t *first, size_t first_len, const uint8_t *second, size_t second_len, uint32_t *alike);
 
+/* Writes a log of any length anew, as short as it can be, at the start of out, which must not overlap it; the bytes beyond stay. *count becomes how
+ * many words it has. out holds at least SOGVECT_LOG_BYTES(words) bytes.
+ * Refusals: 2, 3 (out too short), 7. */
+uint32_t sogvect_log_compact(size_t arenas, size_t per, size_t pages, size_t records, size_t turn, size_t words,
+                             const uint8_t *log, size_t log_len, uint8_t *out, size_t out_len, size_t *count);
+
 #ifdef __cplusplus
 }
 #endif

@@ -95,6 +95,11 @@ static void logs(void) {
     EXPECT(sogvect_log_compare(SIX, none, 7, none, 8, &alike) == SOGVECT_NO_LOG && alike == 9);
     EXPECT(sogvect_log_compare(SIX, none, 0, none, 8, &alike) == SOGVECT_DONE && alike == 1);
     EXPECT(sogvect_log_compare(SIX, none, 8, logged, 8 * (size_t)tables[9], &alike) == SOGVECT_DONE && alike == 0);
+    uint8_t anew[SOGVECT_LOG_BYTES(20)];
+    count = 9;
+    EXPECT(sogvect_log_compact(SIX, none, 0, anew, sizeof anew - 1, &count) == SOGVECT_TOO_SHORT && count == 9);
+    EXPECT(sogvect_log_compact(SIX, none, 0, anew, sizeof anew, &count) == SOGVECT_DONE && count == 1);
+    EXPECT(memcmp(anew, none, sizeof none) == 0);
 }
 
 int main(void) {

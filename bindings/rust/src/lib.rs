@@ -261,3 +261,15 @@ pub fn log_compare(g: Geometry, first: &[u8], second: &[u8]) -> Result<bool, Ref
     };
     Refusal::check(code).map(|()| alike == 1)
 }
+
+/// Writes a log of any length anew, as short as it can be, at the start of `out` (at least [`Geometry::log_len`] bytes). Gives the bytes written.
+///
+/// Refusals: 2, 3, 7.
+pub fn log_compact<'a>(g: Geometry, log: &[u8], out: &'a mut [u8]) -> Result<&'a [u8], Refusal> {
+    let mut count: usize = 0;
+    // SAFETY: the pointers and lengths are those of a shared slice, of an exclusive one, and of a local for the count.
+    let code = unsafe {
+        raw::sogvect_log_compact(g.arenas, g.per, g.pages, g.records, g.turn, g.words, log.as_ptr(), log.len(), out.as_mut_ptr(), out.len(), &mut count)
+    };
+    Refusal::check(code).map(|()| &out[..8 * count])
+}

@@ -95,4 +95,19 @@ extern "C" {
         second_len: usize,
         alike: *mut u32,
     ) -> u32;
+
+    /// A log written anew, compressed.
+    pub fn sogvect_log_compact(
+        arenas: usize,
+        per: usize,
+        pages: usize,
+        records: usize,
+        turn: usize,
+        words: usize,
+        log: *const u8,
+        log_len: usize,
+        out: *mut u8,
+        out_len: usize,
+        count: *mut usize,
+    ) -> u32;
 }

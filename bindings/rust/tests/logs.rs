@@ -1,7 +1,7 @@
-//! Reading and comparing logs: good ones, bad ones, empty ones and ones of odd lengths.
+//! Reading, comparing and compressing logs: good ones, bad ones, empty ones and ones of odd lengths.
 mod common;
-use common::{numbers, small, Call, Owned, Random, MARKS, SMALL};
-use sogvect::{log_compare, log_read, raw, Geometry, Refusal};
+use common::{numbers, small, Call, Owned, Random, MARK, MARKS, SMALL};
+use sogvect::{log_compact, log_compare, log_read, raw, Geometry, Refusal};
 
 const BLOCK: u64 = 16_384;
 
@@ -47,6 +47,9 @@ fn bad() {
         let (first, second) = (bytes(words), bytes(&[3]));
         assert_eq!(log_compare(SMALL, &first, &second), Err(Refusal::NO_LOG), "{words:x?}");
         assert_eq!(log_compare(SMALL, &second, &first), Err(Refusal::NO_LOG), "{words:x?}");
+        let mut out = vec![MARK; SMALL.log_len()];
+        assert_eq!(log_compact(SMALL, &first, &mut out), Err(Refusal::NO_LOG), "{words:x?}");
+        assert!(out.iter().all(|&b| b == MARK), "{words:x?}");
     }
 }
 
@@ -200,4 +203,28 @@ fn random_bytes() {
         }
     }
     assert!(refusals > 400, "only {refusals} were refused");
+}
+
+#[test]
+fn compacted() {
+    let compact = |words: &[u64]| {
+        let mut out = vec![MARK; SMALL.log_len() + 3];
+        let n = log_compact(SMALL, &bytes(words), &mut out).unwrap().len();
+        assert!(out[n..].iter().all(|&b| b == MARK));
+        out.truncate(n);
+        out
+    };
+    assert_eq!(compact(&[]), bytes(&[3]));
+    assert_eq!(compact(&[3, 3]), bytes(&[3]));
+    assert_eq!(compact(&[BLOCK + 1, 1]), bytes(&[4, BLOCK * 2, 3]));
+    assert_eq!(compact(&[4, BLOCK * 3, BLOCK * 3 + 1]), bytes(&[4, BLOCK * 3, BLOCK * 3 + 1, 3]));
+    assert_eq!(compact(&[4, BLOCK * 3, BLOCK + 2]), bytes(&[1, BLOCK * 2 + 1, 3]));
+    let log = bytes(&[1]);
+    for short in [0, 8, SMALL.log_len() - 1] {
+        let mut out = vec![MARK; short];
+        assert_eq!(log_compact(SMALL, &log, &mut out), Err(Refusal::TOO_SHORT));
+        assert!(out.iter().all(|&b| b == MARK));
+    }
+    let outside = Geometry { arenas: 0, ..SMALL };
+    assert_eq!(log_compact(outside, &log, &mut []), Err(Refusal::OUTSIDE_LIMITS));
 }

@@ -14,7 +14,9 @@ use Rattle.answer.proofs.Decided.{decide-accepted}
 use Rattle.geometry.specs.declared.Geometry.{Geometry}
 use Rattle.geometry.specs.Limits.{blocks}
 use Rattle.log.specs.Marks.{heldIn, heldBlocks}
-use Rattle.log.specs.Tool.{marksOf, heldAtEnd, readConditions, readReply, readOut, Verdict, verdictOf}
+use Rattle.log.specs.Tool.{marksOf, heldAtEnd, readConditions, readReply, readOut, Verdict, verdictOf, compactReplyOf}
+use Rattle.log.specs.declared.tool.Compaction.{Compaction}
+use Rattle.log.specs.declared.tool.Compaction.the-variants as compaction
 use Rattle.log.specs.declared.tool.Comparison.{Comparison}
 use Rattle.log.specs.declared.tool.Comparison.the-variants as comparison
 use Rattle.log.proofs.Tools.{pass-length}
@@ -22,7 +24,7 @@ use Rattle.model.specs.Memory.{Memory, reply, after}
 use Rattle.model.specs.declared.Call.{Call}
 use Rattle.store.proofs.Results.{accepted-short, number-of}
 use Rattle.store.proofs.Lengths.{out-length}
-use Rattle.sogvect.specs.Coded.{codeOf, countAfter, answerCode, answerCount, verdictCode, alikeAfter}
+use Rattle.sogvect.specs.Coded.{codeOf, countAfter, answerCode, answerCount, verdictCode, alikeAfter, wordsAfter}
 
 -- ── the arms of `coded` and `judge` ──
 
@@ -116,3 +118,21 @@ module _ (g : Geometry) (log out : List ℕ) where
 
 pub compared : (c : Comparison) (v : Verdict) (old r n : ℕ) → verdictOf c ≡ v → Judged c old r n → (r ≡ verdictCode v) × (n ≡ alikeAfter v old)
 compared c v old r n e p = (p .0 ∙ ap verdictCode e, p .1 ∙ ap (λ w. alikeAfter w old) e)
+
+-- ── a log compressed ──
+
+-- the code r of a compaction, and the number n of its words
+abbrev pub Compacted : Reply → ℕ → ℕ → ℕ → Type 0
+Compacted R old r n = (r ≡ codeOf R) × (n ≡ wordsAfter R old)
+
+pub words-compacted : (c : Compaction) (n old : ℕ) → c ≡ compaction.Words n → Compacted (compactReplyOf c) old 0 n
+unfolding compactReplyOf codeOf wordsAfter
+words-compacted c n old e = (sym (ap (λ d. codeOf (compactReplyOf d)) e), sym (ap (λ d. wordsAfter (compactReplyOf d) old) e))
+
+pub refused-compacted : (c : Compaction) (k old : ℕ) → c ≡ compaction.Refused k → Compacted (compactReplyOf c) old k old
+unfolding compactReplyOf codeOf wordsAfter
+refused-compacted c k old e = (sym (ap (λ d. codeOf (compactReplyOf d)) e), sym (ap (λ d. wordsAfter (compactReplyOf d) old) e))
+
+pub was-compacted : (c : Compaction) (R : Reply) (old r n : ℕ) (out left : List ℕ) → (compactReplyOf c ≡ R) × (out ≡ left) → Compacted (compactReplyOf c) old r n →
+    (r ≡ codeOf R) × ((n ≡ wordsAfter R old) × (out ≡ left))
+was-compacted c R old r n out left e p = (p .0 ∙ ap codeOf (e .0), (p .1 ∙ ap (λ w. wordsAfter w old) (e .0), e .1))

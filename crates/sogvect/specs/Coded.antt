@@ -1,12 +1,16 @@
 -- Replies as a caller in C gets them: a code, 0 where the call was done and else the number of the refusal, and a count of result numbers that a
 -- refusal leaves as it was. A comparison has a code too, and a number that says whether the logs are alike.
+use mathlib.Core.Path.{_≡_}
 use mathlib.Core.Bool.{cond}
 use Prim.Native.Nat.{ℕ}
-use lib.ListN.{length}
+use lib.ListN.{length, getD}
 use Rattle.answer.specs.declared.Answer.{Answer}
 use Rattle.answer.specs.declared.Answer.the-variants.{Done, Refused}
 use Rattle.answer.specs.Reply.{Reply, accepted, refused}
+use Rattle.geometry.specs.declared.Geometry.{Geometry}
 use Rattle.log.specs.Tool.{Verdict, judged, turnedAway}
+use Rattle.model.specs.declared.Call.{Call}
+use Rattle.model.specs.Memory.{Memory, reply, after}
 
 -- ── a call ──
 
@@ -17,6 +21,14 @@ codeOf (refused n) = n
 unfoldable pub countAfter : Reply → ℕ → ℕ
 countAfter (accepted l) old = length l
 countAfter (refused n) old = old
+
+-- the promise of every letter, told once: the call c on lent memory `before`, with the six numbers g, was answered by the code r; the count,
+-- which was `old`, is n; and the memory is `left`
+abbrev pub Answered : Geometry → Memory → Call → ℕ → ℕ → ℕ → Memory → Type 0
+Answered g before c old r n left =
+    (r ≡ codeOf (reply g before c))
+    × ((n ≡ countAfter (reply g before c) old)
+    × ((left .tables ≡ after g before c .tables) × ((left .log ≡ after g before c .log) × (left .out ≡ after g before c .out))))
 
 -- the same of an answer, with no buffer
 unfoldable pub answerCode : Answer → ℕ
@@ -37,3 +49,10 @@ verdictCode (turnedAway n) = n
 unfoldable pub alikeAfter : Verdict → ℕ → ℕ
 alikeAfter (judged t) old = cond t 1 0
 alikeAfter (turnedAway n) old = old
+
+-- ── a log compressed ──
+
+-- the number of its words, which is the one number of the reply
+unfoldable pub wordsAfter : Reply → ℕ → ℕ
+wordsAfter (accepted l) old = getD l 0 0
+wordsAfter (refused n) old = old

@@ -1,10 +1,8 @@
 // One function a letter: the store's call, with its answer as a code and a count.
-ghost use mathlib.Core.Path.{_≡_};
 ghost use Rattle.geometry.specs.Limits.{geometryOf};
-ghost use Rattle.model.specs.Memory.{reply, after};
+ghost use Rattle.model.specs.Memory.{lent};
 ghost use Rattle.model.specs.declared.Call.the-variants.{Begin, Write, Erase, Seal, Fork, Delete, Read, Barrier, Compress, FreeList};
-ghost use Rattle.store.specs.Lent.{lent};
-ghost use Rattle.sogvect.specs.Coded.{codeOf, countAfter};
+ghost use Rattle.sogvect.specs.Coded.{Answered};
 use crate::coded;
 use model::Call;
 use store::call::call;
@@ -23,11 +21,9 @@ pub extern "C" fn sogvect_begin(
     out: &mut [u32],
     count: &mut usize,
 ) -> u32
-    ensures code { λ r. ⌜ r ≡ codeOf (reply (geometryOf arenas per pages records turn words) (lent (now (tables .entry)) (now (log .entry)) (now (out .entry))) Begin) ⌝ }
-    ensures count { λ r. ⌜ now (count .exit) ≡ countAfter (reply (geometryOf arenas per pages records turn words) (lent (now (tables .entry)) (now (log .entry)) (now (out .entry))) Begin) (now (count .entry)) ⌝ }
-    ensures tables { λ r. ⌜ now (tables .exit) ≡ after (geometryOf arenas per pages records turn words) (lent (now (tables .entry)) (now (log .entry)) (now (out .entry))) Begin .tables ⌝ }
-    ensures log { λ r. ⌜ now (log .exit) ≡ after (geometryOf arenas per pages records turn words) (lent (now (tables .entry)) (now (log .entry)) (now (out .entry))) Begin .log ⌝ }
-    ensures out { λ r. ⌜ now (out .exit) ≡ after (geometryOf arenas per pages records turn words) (lent (now (tables .entry)) (now (log .entry)) (now (out .entry))) Begin .out ⌝ }
+    ensures { λ r. ⌜ Answered (geometryOf arenas per pages records turn words)
+        (lent (now (tables .entry)) (now (log .entry)) (now (out .entry))) Begin
+        (now (count .entry)) r (now (count .exit)) (lent (now (tables .exit)) (now (log .exit)) (now (out .exit))) ⌝ }
 {
     let a = call(
         arenas,
@@ -61,11 +57,9 @@ pub extern "C" fn sogvect_write(
     kind: u32,
     count: &mut usize,
 ) -> u32
-    ensures code { λ r. ⌜ r ≡ codeOf (reply (geometryOf arenas per pages records turn words) (lent (now (tables .entry)) (now (log .entry)) (now (out .entry))) (Write n page kind)) ⌝ }
-    ensures count { λ r. ⌜ now (count .exit) ≡ countAfter (reply (geometryOf arenas per pages records turn words) (lent (now (tables .entry)) (now (log .entry)) (now (out .entry))) (Write n page kind)) (now (count .entry)) ⌝ }
-    ensures tables { λ r. ⌜ now (tables .exit) ≡ after (geometryOf arenas per pages records turn words) (lent (now (tables .entry)) (now (log .entry)) (now (out .entry))) (Write n page kind) .tables ⌝ }
-    ensures log { λ r. ⌜ now (log .exit) ≡ after (geometryOf arenas per pages records turn words) (lent (now (tables .entry)) (now (log .entry)) (now (out .entry))) (Write n page kind) .log ⌝ }
-    ensures out { λ r. ⌜ now (out .exit) ≡ after (geometryOf arenas per pages records turn words) (lent (now (tables .entry)) (now (log .entry)) (now (out .entry))) (Write n page kind) .out ⌝ }
+    ensures { λ r. ⌜ Answered (geometryOf arenas per pages records turn words)
+        (lent (now (tables .entry)) (now (log .entry)) (now (out .entry))) (Write n page kind)
+        (now (count .entry)) r (now (count .exit)) (lent (now (tables .exit)) (now (log .exit)) (now (out .exit))) ⌝ }
 {
     let a = call(
         arenas,
@@ -98,11 +92,9 @@ pub extern "C" fn sogvect_erase(
     page: u32,
     count: &mut usize,
 ) -> u32
-    ensures code { λ r. ⌜ r ≡ codeOf (reply (geometryOf arenas per pages records turn words) (lent (now (tables .entry)) (now (log .entry)) (now (out .entry))) (Erase n page)) ⌝ }
-    ensures count { λ r. ⌜ now (count .exit) ≡ countAfter (reply (geometryOf arenas per pages records turn words) (lent (now (tables .entry)) (now (log .entry)) (now (out .entry))) (Erase n page)) (now (count .entry)) ⌝ }
-    ensures tables { λ r. ⌜ now (tables .exit) ≡ after (geometryOf arenas per pages records turn words) (lent (now (tables .entry)) (now (log .entry)) (now (out .entry))) (Erase n page) .tables ⌝ }
-    ensures log { λ r. ⌜ now (log .exit) ≡ after (geometryOf arenas per pages records turn words) (lent (now (tables .entry)) (now (log .entry)) (now (out .entry))) (Erase n page) .log ⌝ }
-    ensures out { λ r. ⌜ now (out .exit) ≡ after (geometryOf arenas per pages records turn words) (lent (now (tables .entry)) (now (log .entry)) (now (out .entry))) (Erase n page) .out ⌝ }
+    ensures { λ r. ⌜ Answered (geometryOf arenas per pages records turn words)
+        (lent (now (tables .entry)) (now (log .entry)) (now (out .entry))) (Erase n page)
+        (now (count .entry)) r (now (count .exit)) (lent (now (tables .exit)) (now (log .exit)) (now (out .exit))) ⌝ }
 {
     let a = call(
         arenas,
@@ -134,11 +126,9 @@ pub extern "C" fn sogvect_seal(
     n: u32,
     count: &mut usize,
 ) -> u32
-    ensures code { λ r. ⌜ r ≡ codeOf (reply (geometryOf arenas per pages records turn words) (lent (now (tables .entry)) (now (log .entry)) (now (out .entry))) (Seal n)) ⌝ }
-    ensures count { λ r. ⌜ now (count .exit) ≡ countAfter (reply (geometryOf arenas per pages records turn words) (lent (now (tables .entry)) (now (log .entry)) (now (out .entry))) (Seal n)) (now (count .entry)) ⌝ }
-    ensures tables { λ r. ⌜ now (tables .exit) ≡ after (geometryOf arenas per pages records turn words) (lent (now (tables .entry)) (now (log .entry)) (now (out .entry))) (Seal n) .tables ⌝ }
-    ensures log { λ r. ⌜ now (log .exit) ≡ after (geometryOf arenas per pages records turn words) (lent (now (tables .entry)) (now (log .entry)) (now (out .entry))) (Seal n) .log ⌝ }
-    ensures out { λ r. ⌜ now (out .exit) ≡ after (geometryOf arenas per pages records turn words) (lent (now (tables .entry)) (now (log .entry)) (now (out .entry))) (Seal n) .out ⌝ }
+    ensures { λ r. ⌜ Answered (geometryOf arenas per pages records turn words)
+        (lent (now (tables .entry)) (now (log .entry)) (now (out .entry))) (Seal n)
+        (now (count .entry)) r (now (count .exit)) (lent (now (tables .exit)) (now (log .exit)) (now (out .exit))) ⌝ }
 {
     let a = call(
         arenas,
@@ -170,11 +160,9 @@ pub extern "C" fn sogvect_fork(
     n: u32,
     count: &mut usize,
 ) -> u32
-    ensures code { λ r. ⌜ r ≡ codeOf (reply (geometryOf arenas per pages records turn words) (lent (now (tables .entry)) (now (log .entry)) (now (out .entry))) (Fork n)) ⌝ }
-    ensures count { λ r. ⌜ now (count .exit) ≡ countAfter (reply (geometryOf arenas per pages records turn words) (lent (now (tables .entry)) (now (log .entry)) (now (out .entry))) (Fork n)) (now (count .entry)) ⌝ }
-    ensures tables { λ r. ⌜ now (tables .exit) ≡ after (geometryOf arenas per pages records turn words) (lent (now (tables .entry)) (now (log .entry)) (now (out .entry))) (Fork n) .tables ⌝ }
-    ensures log { λ r. ⌜ now (log .exit) ≡ after (geometryOf arenas per pages records turn words) (lent (now (tables .entry)) (now (log .entry)) (now (out .entry))) (Fork n) .log ⌝ }
-    ensures out { λ r. ⌜ now (out .exit) ≡ after (geometryOf arenas per pages records turn words) (lent (now (tables .entry)) (now (log .entry)) (now (out .entry))) (Fork n) .out ⌝ }
+    ensures { λ r. ⌜ Answered (geometryOf arenas per pages records turn words)
+        (lent (now (tables .entry)) (now (log .entry)) (now (out .entry))) (Fork n)
+        (now (count .entry)) r (now (count .exit)) (lent (now (tables .exit)) (now (log .exit)) (now (out .exit))) ⌝ }
 {
     let a = call(
         arenas,
@@ -206,11 +194,9 @@ pub extern "C" fn sogvect_delete(
     n: u32,
     count: &mut usize,
 ) -> u32
-    ensures code { λ r. ⌜ r ≡ codeOf (reply (geometryOf arenas per pages records turn words) (lent (now (tables .entry)) (now (log .entry)) (now (out .entry))) (Delete n)) ⌝ }
-    ensures count { λ r. ⌜ now (count .exit) ≡ countAfter (reply (geometryOf arenas per pages records turn words) (lent (now (tables .entry)) (now (log .entry)) (now (out .entry))) (Delete n)) (now (count .entry)) ⌝ }
-    ensures tables { λ r. ⌜ now (tables .exit) ≡ after (geometryOf arenas per pages records turn words) (lent (now (tables .entry)) (now (log .entry)) (now (out .entry))) (Delete n) .tables ⌝ }
-    ensures log { λ r. ⌜ now (log .exit) ≡ after (geometryOf arenas per pages records turn words) (lent (now (tables .entry)) (now (log .entry)) (now (out .entry))) (Delete n) .log ⌝ }
-    ensures out { λ r. ⌜ now (out .exit) ≡ after (geometryOf arenas per pages records turn words) (lent (now (tables .entry)) (now (log .entry)) (now (out .entry))) (Delete n) .out ⌝ }
+    ensures { λ r. ⌜ Answered (geometryOf arenas per pages records turn words)
+        (lent (now (tables .entry)) (now (log .entry)) (now (out .entry))) (Delete n)
+        (now (count .entry)) r (now (count .exit)) (lent (now (tables .exit)) (now (log .exit)) (now (out .exit))) ⌝ }
 {
     let a = call(
         arenas,
@@ -243,11 +229,9 @@ pub extern "C" fn sogvect_read(
     page: u32,
     count: &mut usize,
 ) -> u32
-    ensures code { λ r. ⌜ r ≡ codeOf (reply (geometryOf arenas per pages records turn words) (lent (now (tables .entry)) (now (log .entry)) (now (out .entry))) (Read n page)) ⌝ }
-    ensures count { λ r. ⌜ now (count .exit) ≡ countAfter (reply (geometryOf arenas per pages records turn words) (lent (now (tables .entry)) (now (log .entry)) (now (out .entry))) (Read n page)) (now (count .entry)) ⌝ }
-    ensures tables { λ r. ⌜ now (tables .exit) ≡ after (geometryOf arenas per pages records turn words) (lent (now (tables .entry)) (now (log .entry)) (now (out .entry))) (Read n page) .tables ⌝ }
-    ensures log { λ r. ⌜ now (log .exit) ≡ after (geometryOf arenas per pages records turn words) (lent (now (tables .entry)) (now (log .entry)) (now (out .entry))) (Read n page) .log ⌝ }
-    ensures out { λ r. ⌜ now (out .exit) ≡ after (geometryOf arenas per pages records turn words) (lent (now (tables .entry)) (now (log .entry)) (now (out .entry))) (Read n page) .out ⌝ }
+    ensures { λ r. ⌜ Answered (geometryOf arenas per pages records turn words)
+        (lent (now (tables .entry)) (now (log .entry)) (now (out .entry))) (Read n page)
+        (now (count .entry)) r (now (count .exit)) (lent (now (tables .exit)) (now (log .exit)) (now (out .exit))) ⌝ }
 {
     let a = call(
         arenas,
@@ -278,11 +262,9 @@ pub extern "C" fn sogvect_barrier(
     out: &mut [u32],
     count: &mut usize,
 ) -> u32
-    ensures code { λ r. ⌜ r ≡ codeOf (reply (geometryOf arenas per pages records turn words) (lent (now (tables .entry)) (now (log .entry)) (now (out .entry))) Barrier) ⌝ }
-    ensures count { λ r. ⌜ now (count .exit) ≡ countAfter (reply (geometryOf arenas per pages records turn words) (lent (now (tables .entry)) (now (log .entry)) (now (out .entry))) Barrier) (now (count .entry)) ⌝ }
-    ensures tables { λ r. ⌜ now (tables .exit) ≡ after (geometryOf arenas per pages records turn words) (lent (now (tables .entry)) (now (log .entry)) (now (out .entry))) Barrier .tables ⌝ }
-    ensures log { λ r. ⌜ now (log .exit) ≡ after (geometryOf arenas per pages records turn words) (lent (now (tables .entry)) (now (log .entry)) (now (out .entry))) Barrier .log ⌝ }
-    ensures out { λ r. ⌜ now (out .exit) ≡ after (geometryOf arenas per pages records turn words) (lent (now (tables .entry)) (now (log .entry)) (now (out .entry))) Barrier .out ⌝ }
+    ensures { λ r. ⌜ Answered (geometryOf arenas per pages records turn words)
+        (lent (now (tables .entry)) (now (log .entry)) (now (out .entry))) Barrier
+        (now (count .entry)) r (now (count .exit)) (lent (now (tables .exit)) (now (log .exit)) (now (out .exit))) ⌝ }
 {
     let a = call(
         arenas,
@@ -313,11 +295,9 @@ pub extern "C" fn sogvect_compress(
     out: &mut [u32],
     count: &mut usize,
 ) -> u32
-    ensures code { λ r. ⌜ r ≡ codeOf (reply (geometryOf arenas per pages records turn words) (lent (now (tables .entry)) (now (log .entry)) (now (out .entry))) Compress) ⌝ }
-    ensures count { λ r. ⌜ now (count .exit) ≡ countAfter (reply (geometryOf arenas per pages records turn words) (lent (now (tables .entry)) (now (log .entry)) (now (out .entry))) Compress) (now (count .entry)) ⌝ }
-    ensures tables { λ r. ⌜ now (tables .exit) ≡ after (geometryOf arenas per pages records turn words) (lent (now (tables .entry)) (now (log .entry)) (now (out .entry))) Compress .tables ⌝ }
-    ensures log { λ r. ⌜ now (log .exit) ≡ after (geometryOf arenas per pages records turn words) (lent (now (tables .entry)) (now (log .entry)) (now (out .entry))) Compress .log ⌝ }
-    ensures out { λ r. ⌜ now (out .exit) ≡ after (geometryOf arenas per pages records turn words) (lent (now (tables .entry)) (now (log .entry)) (now (out .entry))) Compress .out ⌝ }
+    ensures { λ r. ⌜ Answered (geometryOf arenas per pages records turn words)
+        (lent (now (tables .entry)) (now (log .entry)) (now (out .entry))) Compress
+        (now (count .entry)) r (now (count .exit)) (lent (now (tables .exit)) (now (log .exit)) (now (out .exit))) ⌝ }
 {
     let a = call(
         arenas,
@@ -348,11 +328,9 @@ pub extern "C" fn sogvect_free_list(
     out: &mut [u32],
     count: &mut usize,
 ) -> u32
-    ensures code { λ r. ⌜ r ≡ codeOf (reply (geometryOf arenas per pages records turn words) (lent (now (tables .entry)) (now (log .entry)) (now (out .entry))) FreeList) ⌝ }
-    ensures count { λ r. ⌜ now (count .exit) ≡ countAfter (reply (geometryOf arenas per pages records turn words) (lent (now (tables .entry)) (now (log .entry)) (now (out .entry))) FreeList) (now (count .entry)) ⌝ }
-    ensures tables { λ r. ⌜ now (tables .exit) ≡ after (geometryOf arenas per pages records turn words) (lent (now (tables .entry)) (now (log .entry)) (now (out .entry))) FreeList .tables ⌝ }
-    ensures log { λ r. ⌜ now (log .exit) ≡ after (geometryOf arenas per pages records turn words) (lent (now (tables .entry)) (now (log .entry)) (now (out .entry))) FreeList .log ⌝ }
-    ensures out { λ r. ⌜ now (out .exit) ≡ after (geometryOf arenas per pages records turn words) (lent (now (tables .entry)) (now (log .entry)) (now (out .entry))) FreeList .out ⌝ }
+    ensures { λ r. ⌜ Answered (geometryOf arenas per pages records turn words)
+        (lent (now (tables .entry)) (now (log .entry)) (now (out .entry))) FreeList
+        (now (count .entry)) r (now (count .exit)) (lent (now (tables .exit)) (now (log .exit)) (now (out .exit))) ⌝ }
 {
     let a = call(
         arenas,

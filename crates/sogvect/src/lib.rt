@@ -2,15 +2,16 @@
 // the refusal; `count` becomes the number of the result's numbers, at the start of `out`. A refusal leaves `count` and all lent memory as they were.
 ghost use mathlib.Core.Path.{_≡_};
 ghost use Rattle.geometry.specs.Limits.{geometryOf};
-ghost use Rattle.log.specs.Tool.{readReply, readOut, verdictOf, compareVerdict};
-ghost use Rattle.model.specs.Memory.{makeReply, makeAfter};
-ghost use Rattle.store.specs.Lent.{lent};
-ghost use Rattle.sogvect.specs.Coded.{codeOf, countAfter, answerCode, answerCount, verdictCode, alikeAfter};
+ghost use Rattle.log.specs.Tool.{readReply, readOut, verdictOf, compareVerdict, compactReplyOf, compactReply, compactOut};
+ghost use Rattle.model.specs.Memory.{makeReply, makeAfter, lent};
+ghost use Rattle.sogvect.specs.Coded.{codeOf, countAfter, answerCode, answerCount, verdictCode, alikeAfter, wordsAfter};
 
 pub mod letters;
 
 use answer::Answer;
+use log::tool::Compaction;
 use log::tool::Comparison;
+use log::tool::compact;
 use log::tool::compare;
 use log::tool::read_held;
 use store::make::make;
@@ -47,6 +48,20 @@ fn judge(c: Comparison, alike: &mut u32) -> u32
             DONE
         }
         Comparison::Refused(k) => k as u32,
+    }
+}
+
+// The code of a compaction; how many words it wrote goes to `count`.
+fn compacted(c: Compaction, count: &mut usize) -> u32
+    ensures code { λ r. ⌜ r ≡ codeOf (compactReplyOf c) ⌝ }
+    ensures count { λ r. ⌜ now (count .exit) ≡ wordsAfter (compactReplyOf c) (now (count .entry)) ⌝ }
+{
+    match c {
+        Compaction::Words(n) => {
+            *count = n;
+            DONE
+        }
+        Compaction::Refused(k) => k as u32,
     }
 }
 
@@ -110,4 +125,25 @@ pub extern "C" fn sogvect_log_compare(
 {
     let c = compare(arenas, per, pages, records, turn, words, first, second);
     judge(c, alike)
+}
+
+// Writes a log of any length anew, compressed, at the start of `out`; `count` becomes the number of its words.
+#[no_mangle]
+pub extern "C" fn sogvect_log_compact(
+    arenas: usize,
+    per: usize,
+    pages: usize,
+    records: usize,
+    turn: usize,
+    words: usize,
+    log: &[u8],
+    out: &mut [u8],
+    count: &mut usize,
+) -> u32
+    ensures code { λ r. ⌜ r ≡ codeOf (compactReply (geometryOf arenas per pages records turn words) (now (log .entry)) (now (out .entry))) ⌝ }
+    ensures count { λ r. ⌜ now (count .exit) ≡ wordsAfter (compactReply (geometryOf arenas per pages records turn words) (now (log .entry)) (now (out .entry))) (now (count .entry)) ⌝ }
+    ensures out { λ r. ⌜ now (out .exit) ≡ compactOut (geometryOf arenas per pages records turn words) (now (log .entry)) (now (out .entry)) ⌝ }
+{
+    let c = compact(arenas, per, pages, records, turn, words, log, out);
+    compacted(c, count)
 }

@@ -1,7 +1,7 @@
 -- `sogvect_delete`: what `call` promises, coded.
 use Rattle.geometry.specs.Limits.{geometryOf}
 use Rattle.model.specs.declared.Call.the-variants.{Delete}
-use Rattle.store.specs.Lent.{lent}
+use Rattle.model.specs.Memory.{lent}
 use Rattle.sogvect.proofs.Coding.{called}
 use native.Mathlib.Omega.{arith}
 use borrow.Author.Needs.{needs}
