@@ -13,8 +13,9 @@ use Rattle.model.specs.View.{View, parent, predNum, baseNum, pageOf}
 use Rattle.log.specs.Marks.{heldIn}
 use Rattle.model.specs.Held.{held}
 use Rattle.model.specs.Memory.{same}
-use Rattle.model.specs.Check.{imp, order?, prev?, base?, two?, page?, dies?, slot?, block?, died?}
+use Rattle.model.specs.Check.{imp, order?, prev?, base?, two?, page?, dies?, block?, died?}
 use Rattle.soundness.specs.Rows.{recordAt, blockAt, kinOf}
+use Rattle.soundness.specs.Light.{lightPage?, lightSlot?}
 use Rattle.soundness.specs.declared.read.Record.{Record}
 use Rattle.soundness.specs.declared.read.Block.{Block}
 use Rattle.soundness.specs.declared.pages.Kin.{Kin}
@@ -60,14 +61,14 @@ module _ (K : View) (s : ℕ) where
         ltb 0 (q .number) && eqb (q .opened) 0 && ltb (q .number) (it .number) ≡ base? K s (K .base s)
     base-some n e = rw (e, h) (base-of (K .base s) (rw h at n))
 
-    pub slot-none : it .number ≡ 0 → true ≡ imp (ltb 0 (K .num s)) (slot? K s)
-    slot-none z = unused (slot? K s) (ap (λ (r : Record). r .number) h) z
+    pub slot-none : it .number ≡ 0 → true ≡ imp (ltb 0 (K .num s)) (lightSlot? K s)
+    slot-none z = unused (lightSlot? K s) (ap (λ (r : Record). r .number) h) z
 
     pub slot-some : {last : ℕ} {others prev base pages : Bool} → (it .number ≡ 0 → ⊥) → last ≡ K .last →
         others ≡ all (K .slots) (λ k. imp (ltb 0 (K .num k)) (two? K s k)) → prev ≡ prev? K s (K .prev s) → base ≡ base? K s (K .base s) →
-        pages ≡ all (K .pages) (λ x. page? K s x (K .page s x) && dies? K s x (pageOf K (K .prev s) x)) →
-        leb (it .number) last && leb (it .line) (it .number) && others && prev && base && pages ≡ imp (ltb 0 (K .num s)) (slot? K s)
-    unfolding slot?
+        pages ≡ all (K .pages) (λ x. lightPage? K s x) →
+        leb (it .number) last && leb (it .line) (it .number) && others && prev && base && pages ≡ imp (ltb 0 (K .num s)) (lightSlot? K s)
+    unfolding lightSlot?
     slot-some n a b c d e = in-use (ap (λ (r : Record). r .number) h) n (rw (a, b, c, d, e, h))
 
   -- ── pages ──
@@ -86,7 +87,7 @@ module _ (K : View) (s : ℕ) where
   dies-of x zero n d = absurd (n refl)
   dies-of x (suc b) n d = let e : suc b - 1 ≡ b = omega arith in rw (ne-eqb (K .page s x) (suc b) d, add-one, e)
 
-  dies-same : (x l : ℕ) → K .page s x ≡ l → true ≡ dies? K s x l
+  pub dies-same : (x l : ℕ) → K .page s x ≡ l → true ≡ dies? K s x l
   unfolding dies? imp
   dies-same x zero e = refl
   dies-same x (suc b) e = rw (eq-eqb (K .page s x) (suc b) e)

@@ -19,7 +19,10 @@ use Rattle.model.specs.Check.{imp, slot?, block?, died?, allIn, once?, sorted?,
 use Rattle.model.specs.Memory.{numbers?, range?, same, logHolds?, sound?}
 use Rattle.soundness.proofs.Loops.{and-first, and-second, and-left, and-right}
 use Rattle.soundness.proofs.Entries.{seen}
+use Rattle.soundness.proofs.Light.{light-exact}
+use Rattle.soundness.specs.Light.{lightSlot?}
 use Rattle.model.proofs.LayoutFacts.{length-sequence}
+use Rattle.model.proofs.ShapeFacts.{view-clamped}
 
 module _ (g : Geometry) (t : List ℕ) where
   pub range-is : {last counter writes used entries : ℕ} {marks : Bool} → last ≡ getD t 6 0 →
@@ -66,6 +69,13 @@ module _ (g : Geometry) (t : List ℕ) where
   abbrev pub slots : Bool
   slots = all (g .records) (λ s. imp (ltb 0 (viewOf g t .num s)) (slot? (viewOf g t) s))
 
+  abbrev pub lights : Bool
+  lights = all (g .records) (λ s. imp (ltb 0 (viewOf g t .num s)) (lightSlot? (viewOf g t) s))
+
+  lights-are : lights ≡ slots
+  unfolding viewOf
+  lights-are = light-exact (viewOf g t) (view-clamped g t)
+
   abbrev pub rows : (ℕ → ℕ) → Bool
   rows f = all (blocks g) (λ b. imp (ltb 0 (viewOf g t .birth b)) (block? (viewOf g t) b) && died? (viewOf g t) b (viewOf g t .dead b) &&
       imp (ltb 0 (viewOf g t .dead b)) (ltb 0 (f b)))
@@ -100,8 +110,8 @@ module _ (g : Geometry) (t : List ℕ) where
     no-good : slots && rows marked && deads && single (λ c. 0) && ordered ≡ false → false ≡ sound? g t log
     no-good h = sym (sound-is ∙ and-second (numbers? g t) (and-second (range? g (stateOf g t)) (and-first _ (good-is ∙ h))))
 
-    pub sound-no-slots : slots ≡ false → false ≡ sound? g t log
-    sound-no-slots h = no-good (rw h)
+    pub sound-no-slots : lights ≡ false → false ≡ sound? g t log
+    sound-no-slots h = no-good (rw (sym lights-are ∙ h))
 
     pub sound-no-order : ordered ≡ false → false ≡ sound? g t log
     sound-no-order h = no-good (and-second (slots && rows marked && deads && single (λ c. 0)) h)
@@ -127,12 +137,12 @@ module _ (g : Geometry) (t : List ℕ) where
             let k : rows marked ≡ false = sym (ap rows marks-are) ∙ h in
             no-good (and-first ordered (and-first (single (λ c. 0)) (and-first deads (and-second slots k))))
 
-        pub sound-yes : {r : Bool} → numbers? g t ≡ true → range? g (stateOf g t) ≡ true → slots ≡ true → deads && single (seen z) ≡ true → ordered ≡ true →
+        pub sound-yes : {r : Bool} → numbers? g t ≡ true → range? g (stateOf g t) ≡ true → lights ≡ true → deads && single (seen z) ≡ true → ordered ≡ true →
             rows m ≡ true → r ≡ logHolds? g (stateOf g t) log → r ≡ sound? g t log
         sound-yes a b c d e f h =
             let d′ : deads && single (λ c. 0) ≡ true = rw empty at d in
             let p : deads ≡ true = and-left deads (single (λ c. 0)) d′ in
             let q : single (λ c. 0) ≡ true = and-right deads (single (λ c. 0)) d′ in
             let k : rows marked ≡ true = sym (ap rows marks-are) ∙ f in
-            let good : good? (viewOf g t) ≡ true = good-is ∙ rw (c, k, p, q, e) refl in
+            let good : good? (viewOf g t) ≡ true = good-is ∙ rw (sym lights-are ∙ c, k, p, q, e) refl in
             h ∙ sym (sound-is ∙ rw (a, b, good) refl)

@@ -1,2 +1,3 @@
 -- What the check reads at a time.
 pub mod Rows
+pub mod Light

@@ -1,13 +1,15 @@
 // The pages of a record: what is on them, and what has left them.
 ghost use mathlib.Core.Path.{_≡_};
-ghost use mathlib.Core.Bool.{Bool, _&&_};
-ghost use Prim.Native.Nat.{ℕ, _<_};
+ghost use mathlib.Core.Bool.{Bool};
+ghost use Prim.Native.Nat.{ℕ, _+_, _≤_, _<_};
+ghost use lib.ListN.{length, getD};
 ghost use Rattle.model.specs.Table.{all};
 ghost use Rattle.model.specs.View.{pageOf};
 ghost use Rattle.model.specs.Check.{page?, dies?};
 ghost use Rattle.model.specs.Layout.{viewOf};
 ghost use Rattle.tables.specs.Ready.{Roomy};
 ghost use Rattle.soundness.specs.Rows.{kinOf};
+ghost use Rattle.soundness.specs.Light.{lightPage?};
 use crate::read::base_number;
 use crate::read::block_at;
 use crate::read::page_behind;
@@ -79,21 +81,59 @@ fn page_dies(g: Geometry, t: &[u32], s: usize, kin: Kin, x: usize) -> bool
     !(kin.root < block.birth) | (block.dead == s + 1)
 }
 
-// All pages of the record in slot s.
+// Whether the rows from a and from b on agree: they do at each place from x up to the one returned.
+fn agree_to(t: &[u32], a: usize, b: usize, x: usize, n: usize) -> usize
+    requires { ⌜ (a + n ≤ length (now t)) × (b + n ≤ length (now t)) × (x ≤ n) ⌝ }
+    ensures range { λ r. ⌜ (x ≤ r) × (r ≤ n) ⌝ }
+    ensures agree { λ r. ⌜ ((y : ℕ) → x ≤ y → y < r → getD (now (t .entry)) (a + y) 0 ≡ getD (now (t .entry)) (b + y) 0) ⌝ }
+{
+    let mut y = x;
+    while y < n {
+        if t[a + y] != t[b + y] {
+            return y;
+        }
+        y += 1;
+    }
+    y
+}
+
+// Where to look next, after page x: the record in slot s shares each page between with the record behind the link.
+fn shared_to(g: Geometry, t: &[u32], s: usize, link: usize, x: usize) -> usize
+    requires { ⌜ Roomy g (now t) × (s < g .records) × (x < g .pages) ⌝ }
+    ensures range { λ r. ⌜ (x < r) × (r ≤ g .pages) ⌝ }
+    ensures shared { λ r. ⌜ ((y : ℕ) → x < y → y < r → viewOf g (now (t .entry)) .page s y ≡ pageOf (viewOf g (now (t .entry))) link y) ⌝ }
+{
+    if link == 0 {
+        return x + 1;
+    }
+    let p = link - 1;
+    if g.records <= p {
+        return x + 1;
+    }
+    agree_to(t, 32 + 272 * s + 16, 32 + 272 * p + 16, x + 1, g.pages)
+}
+
+// All pages of the record in slot s. A page that it shares with its pred needs no look: what is asked of it is asked of the pred's page.
 pub fn pages_fit(g: Geometry, t: &[u32], s: usize) -> bool
     requires { ⌜ Roomy g (now t) × (s < g .records) ⌝ }
-    ensures { λ r. ⌜ r ≡ all (g .pages) (λ x. page? (viewOf g (now (t .entry))) s x (viewOf g (now (t .entry)) .page s x) && dies? (viewOf g (now (t .entry))) s x (pageOf (viewOf g (now (t .entry))) (viewOf g (now (t .entry)) .prev s) x)) ⌝ }
+    ensures { λ r. ⌜ r ≡ all (g .pages) (λ x. lightPage? (viewOf g (now (t .entry))) s x) ⌝ }
 {
     let kin = kin_of(g, t, s);
     let mut x: usize = 0;
     while x < g.pages {
-        if !page_fits(g, t, s, kin, x) {
-            return false;
+        let link = page_link(g, t, s, x);
+        let above = page_behind(g, t, kin.pred, x);
+        if link == above {
+            x = shared_to(g, t, s, kin.pred, x);
+        } else {
+            if !page_fits(g, t, s, kin, x) {
+                return false;
+            }
+            if !page_dies(g, t, s, kin, x) {
+                return false;
+            }
+            x += 1;
         }
-        if !page_dies(g, t, s, kin, x) {
-            return false;
-        }
-        x += 1;
     }
     true
 }

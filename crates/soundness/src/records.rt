@@ -4,9 +4,10 @@ ghost use mathlib.Core.Bool.{Bool};
 ghost use Prim.Native.Nat.{ℕ, _<_};
 ghost use lib.Dec.{ltb};
 ghost use Rattle.model.specs.Table.{all};
-ghost use Rattle.model.specs.Check.{imp, prev?, base?, two?, slot?};
+ghost use Rattle.model.specs.Check.{imp, prev?, base?, two?};
 ghost use Rattle.model.specs.Layout.{viewOf};
 ghost use Rattle.tables.specs.Ready.{Roomy};
+ghost use Rattle.soundness.specs.Light.{lightSlot?};
 use crate::pages::pages_fit;
 use crate::read::header_number;
 use crate::read::record_at;
@@ -74,7 +75,7 @@ fn others_fit(g: Geometry, t: &[u32], s: usize) -> bool
 // The record in slot s, if there is one, and its pages.
 fn record_fits(g: Geometry, t: &[u32], s: usize) -> bool
     requires { ⌜ Roomy g (now t) × (s < g .records) ⌝ }
-    ensures { λ r. ⌜ r ≡ imp (ltb 0 (viewOf g (now (t .entry)) .num s)) (slot? (viewOf g (now (t .entry))) s) ⌝ }
+    ensures { λ r. ⌜ r ≡ imp (ltb 0 (viewOf g (now (t .entry)) .num s)) (lightSlot? (viewOf g (now (t .entry))) s) ⌝ }
 {
     let it = record_at(g, t, s);
     if it.number == 0 {
@@ -91,7 +92,7 @@ fn record_fits(g: Geometry, t: &[u32], s: usize) -> bool
 
 pub fn records_fit(g: Geometry, t: &[u32]) -> bool
     requires { ⌜ Roomy g (now t) ⌝ }
-    ensures { λ r. ⌜ r ≡ all (g .records) (λ s. imp (ltb 0 (viewOf g (now (t .entry)) .num s)) (slot? (viewOf g (now (t .entry))) s)) ⌝ }
+    ensures { λ r. ⌜ r ≡ all (g .records) (λ s. imp (ltb 0 (viewOf g (now (t .entry)) .num s)) (lightSlot? (viewOf g (now (t .entry))) s)) ⌝ }
 {
     let mut s: usize = 0;
     while s < g.records {

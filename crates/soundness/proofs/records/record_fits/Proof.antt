@@ -1,4 +1,4 @@
--- `record_fits`: an empty slot fits; of another each clause of `slot?` was tested.
+-- `record_fits`: an empty slot fits; of another each clause of `lightSlot?` was tested.
 use borrow.Author.Needs.{needs}
 use Rattle.model.specs.Layout.{viewOf}
 use Rattle.soundness.proofs.Clauses.{slot-none, slot-some}
