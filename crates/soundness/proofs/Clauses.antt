@@ -65,7 +65,7 @@ module _ (K : View) (s : ℕ) where
     slot-none z = unused (lightSlot? K s) (ap (λ (r : Record). r .number) h) z
 
     pub slot-some : {last : ℕ} {others prev base pages : Bool} → (it .number ≡ 0 → ⊥) → last ≡ K .last →
-        others ≡ all (K .slots) (λ k. imp (ltb 0 (K .num k)) (two? K s k)) → prev ≡ prev? K s (K .prev s) → base ≡ base? K s (K .base s) →
+        others ≡ all s (λ k. imp (ltb 0 (K .num k)) (two? K s k)) → prev ≡ prev? K s (K .prev s) → base ≡ base? K s (K .base s) →
         pages ≡ all (K .pages) (λ x. lightPage? K s x) →
         leb (it .number) last && leb (it .line) (it .number) && others && prev && base && pages ≡ imp (ltb 0 (K .num s)) (lightSlot? K s)
     unfolding lightSlot?

@@ -1,4 +1,5 @@
--- PAGES THAT A RECORD SHARES WITH ITS PRED NEED NO LOOK: of all records together the light test says what the model's test says.
+-- A page that a record shares with its pred needs no look, and two records need one: of all records together the light test says what the
+-- model's test says.
 use mathlib.Core.Path.{_≡_, refl, sym, ap, _∙_}
 use mathlib.Core.Logic.{_⊎_}
 use mathlib.Core.Bool.{Bool, true, false, _&&_}
@@ -8,19 +9,19 @@ use native.Mathlib.Omega.{arith}
 use lib.Dec.{eqb, ltb, leb}
 use lib.ListN.{getD}
 use borrow.Author.Tests.{eq-eqb, ne-eqb}
-use Rattle.answer.proofs.Cases.{cases, same?}
+use Rattle.answer.proofs.Cases.{cases, same?, lt?}
 use Rattle.geometry.specs.declared.Geometry.{Geometry}
 use Rattle.model.specs.Table.{all, via, firstLink}
 use Rattle.model.specs.View.{View, parent, predNum, pageOf}
 use Rattle.model.specs.Layout.{recordCell, viewOf}
 use Rattle.model.specs.Check.{imp, prev?, base?, two?, page?, dies?, slot?, Clamped}
 use Rattle.model.proofs.TabFacts.{via-is}
-use Rattle.model.proofs.Reflect.{Says, says-eq, says-lt, says-le, says-imp, says-all, _&_}
+use Rattle.model.proofs.Reflect.{Says, says-eq, says-lt, says-le, says-map, says-imp, says-all, _&_}
 use Rattle.soundness.specs.Rows.{kinOf}
 use Rattle.soundness.specs.Light.{lightPage?, lightSlot?}
 use Rattle.soundness.specs.declared.pages.Kin.{Kin}
 use Rattle.soundness.proofs.Cells.{page-in, via-some}
-use Rattle.soundness.proofs.Loops.{all-run, and-left, and-right, and-both}
+use Rattle.soundness.proofs.Loops.{all-run, and-left, and-both}
 use Rattle.soundness.proofs.Clauses.{dies-same}
 
 -- ── the rows that the code compares ──
@@ -118,6 +119,27 @@ module _ (K : View) where
       says-page s x b .passes
       (((((w .0 .0 .0 .0, w .0 .0 .0 .1), omega (arith, w .0 .0 .1)), λ l. e), λ l. absurd (let z : ⊥ = omega (arith, w .0 .0 .1, n) in z)))
 
+-- ── two records ──
+
+module _ (K : View) where
+  says-two : (s t : ℕ) → Says (two? K s t)
+      (((K .num s ≡ K .num t → s ≡ t) × ((0 < K .prev s) × (K .prev s ≡ K .prev t) → s ≡ t)) ×
+      (((K .prev s ≡ 0) × (K .prev t ≡ 0)) × (K .line s ≡ K .line t) → s ≡ t))
+  unfolding two?
+  says-two s t =
+      says-imp (says-eq (K .num s) (K .num t)) (says-eq s t) &
+      says-imp (says-lt 0 (K .prev s) & says-eq (K .prev s) (K .prev t)) (says-eq s t) &
+      says-imp (says-eq (K .prev s) 0 & says-eq (K .prev t) 0 & says-eq (K .line s) (K .line t)) (says-eq s t)
+
+  two-same : (s t : ℕ) → t ≡ s → two? K s t ≡ true
+  two-same s t d = says-two s t .passes ((λ e. sym d, λ e. sym d), λ e. sym d)
+
+  two-turned : (s t : ℕ) → two? K t s ≡ true → two? K s t ≡ true
+  two-turned s t h =
+      let w = says-two t s .holds h in
+      says-two s t .passes
+      ((λ e. sym (w .0 .0 (sym e)), λ q. sym (w .0 .1 (omega (arith, q .0, q .1), sym (q .1)))), λ q. sym (w .1 ((q .0 .1, q .0 .0), sym (q .1))))
+
 -- ── all records ──
 
 itself : (t : Bool) → Says t (t ≡ true)
@@ -129,72 +151,84 @@ alike false true f g = g refl
 alike false false f g = refl
 
 module _ (K : View) where
-  -- each record of the store passes a test
-  abbrev each : (ℕ → Bool) → Bool
-  each f = all (K .slots) (λ s. imp (ltb 0 (K .num s)) (f s))
+  -- each record in the first n slots passes a test
+  abbrev each : ℕ → (ℕ → Bool) → Bool
+  each n f = all n (λ s. imp (ltb 0 (K .num s)) (f s))
 
-  says-each : (f : ℕ → Bool) → Says (each f) ((s : ℕ) → s < K .slots → 0 < K .num s → f s ≡ true)
-  says-each f =
-      says-all (λ s. imp (ltb 0 (K .num s)) (f s)) (λ s. 0 < K .num s → f s ≡ true) (K .slots) (λ s. says-imp (says-lt 0 (K .num s)) (itself (f s)))
+  says-each : (n : ℕ) (f : ℕ → Bool) → Says (each n f) ((s : ℕ) → s < n → 0 < K .num s → f s ≡ true)
+  says-each n f = says-all (λ s. imp (ltb 0 (K .num s)) (f s)) (λ s. 0 < K .num s → f s ≡ true) n (λ s. says-imp (says-lt 0 (K .num s)) (itself (f s)))
 
   says-pages : (f : ℕ → Bool) → Says (all (K .pages) f) ((x : ℕ) → x < K .pages → f x ≡ true)
   says-pages f = says-all f (λ x. f x ≡ true) (K .pages) (λ x. itself (f x))
 
-  -- what is asked of a record before its pred, and before its pages
+  -- a record's number was given, and its line began no later
   front : ℕ → Bool
-  front s = leb (K .num s) (K .last) && leb (K .line s) (K .num s) && all (K .slots) (λ t. imp (ltb 0 (K .num t)) (two? K s t))
+  front s = leb (K .num s) (K .last) && leb (K .line s) (K .num s)
 
-  links : ℕ → Bool
-  links s = front s && prev? K s (K .prev s) && base? K s (K .base s)
+  -- the parts of both tests, of the first n slots and the test f of a page
+  parts : ℕ → ℕ → (ℕ → Bool) → Bool
+  parts s n f = front s && each n (λ t. two? K s t) && prev? K s (K .prev s) && base? K s (K .base s) && all (K .pages) f
 
-  light-is : (s : ℕ) → lightSlot? K s ≡ links s && all (K .pages) (λ x. lightPage? K s x)
-  unfolding lightSlot? links front
+  record Parts (s n : ℕ) (f : ℕ → Bool) : Type 0 where
+    fine : front s ≡ true
+    pairs : (t : ℕ) → t < n → 0 < K .num t → two? K s t ≡ true
+    prev : prev? K s (K .prev s) ≡ true
+    base : base? K s (K .base s) ≡ true
+    page : (x : ℕ) → x < K .pages → f x ≡ true
+
+  says-parts : (s n : ℕ) (f : ℕ → Bool) → Says (parts s n f) (Parts s n f)
+  unfolding parts
+  says-parts s n f =
+      says-map
+      (λ q. record { fine = q .0 .0 .0 .0; pairs = q .0 .0 .0 .1; prev = q .0 .0 .1; base = q .0 .1; page = q .1 })
+      (λ o. ((((o .fine, o .pairs), o .prev), o .base), o .page))
+      (itself (front s) & says-each n (λ t. two? K s t) & itself (prev? K s (K .prev s)) & itself (base? K s (K .base s)) & says-pages f)
+
+  light-is : (s : ℕ) → lightSlot? K s ≡ parts s s (λ x. lightPage? K s x)
+  unfolding lightSlot? parts front
   light-is s = refl
 
-  slot-is : (s : ℕ) → slot? K s ≡ links s && all (K .pages) (full K s)
-  unfolding slot? links front full
+  slot-is : (s : ℕ) → slot? K s ≡ parts s (K .slots) (full K s)
+  unfolding slot? parts front full
   slot-is s = refl
 
   -- a record that passes the model's test passes the light one
-  slot-light : (s : ℕ) → slot? K s ≡ true → lightSlot? K s ≡ true
-  slot-light s h =
-      let h′ : links s && all (K .pages) (full K s) ≡ true = sym (slot-is s) ∙ h in
-      let f = says-pages (full K s) .holds (and-right (links s) (all (K .pages) (full K s)) h′) in
+  slot-light : (s : ℕ) → s < K .slots → slot? K s ≡ true → lightSlot? K s ≡ true
+  slot-light s l h =
+      let w = says-parts s (K .slots) (full K s) .holds (sym (slot-is s) ∙ h) in
       light-is s ∙
-      and-both (links s) (all (K .pages) (λ x. lightPage? K s x)) (and-left (links s) (all (K .pages) (full K s)) h′)
-      (says-pages (λ x. lightPage? K s x) .passes
-      (λ x m. cases (shared? K s x) (λ e. light-shared K s x e) (λ n. light-else K s x n ∙ f x m)))
+      says-parts s s (λ x. lightPage? K s x) .passes
+      (record {
+        fine = w .fine;
+        pairs = λ t m k. w .pairs t (omega arith) k;
+        prev = w .prev;
+        base = w .base;
+        page = λ x m. cases (shared? K s x) (λ e. light-shared K s x e) (λ n. light-else K s x n ∙ w .page x m);
+      })
 
-  module _ (C : Clamped K) (h : each (λ s. lightSlot? K s) ≡ true) where
-    module _ (s : ℕ) (live : 0 < K .num s) where
-      parts : links s && all (K .pages) (λ x. lightPage? K s x) ≡ true
-      parts = sym (light-is s) ∙ says-each (λ s. lightSlot? K s) .holds h s (C .slots s live) live
+  module _ (C : Clamped K) (h : each (K .slots) (λ s. lightSlot? K s) ≡ true) where
+    lit : (s : ℕ) → 0 < K .num s → Parts s s (λ x. lightPage? K s x)
+    lit s live =
+        says-parts s s (λ x. lightPage? K s x) .holds (sym (light-is s) ∙ says-each (K .slots) (λ s. lightSlot? K s) .holds h s (C .slots s live) live)
 
-      linked : links s ≡ true
-      linked = and-left (links s) (all (K .pages) (λ x. lightPage? K s x)) parts
-
-      lit : (x : ℕ) → x < K .pages → lightPage? K s x ≡ true
-      lit = says-pages (λ x. lightPage? K s x) .holds (and-right (links s) (all (K .pages) (λ x. lightPage? K s x)) parts)
-
-      pred-older : (p : ℕ) → parent K s ≡ suc p → (0 < K .num p) × (K .num p < K .num s)
-      unfolding links
-      pred-older p e =
-          older K s (K .prev s) (K .base s) p
-          (and-right (front s) (prev? K s (K .prev s)) (and-left (front s && prev? K s (K .prev s)) (base? K s (K .base s)) linked))
-          (and-right (front s && prev? K s (K .prev s)) (base? K s (K .base s)) linked) e
+    -- of two slots the later one was paired with the other
+    paired : (s t : ℕ) → 0 < K .num s → 0 < K .num t → two? K s t ≡ true
+    paired s t live k =
+        cases (lt? t s) (λ l. lit s live .pairs t l k)
+        (λ l. cases (same? t s) (two-same K s t) (λ d. two-turned K s t (lit t k .pairs s (omega arith) live)))
 
     -- a page of s passes if those of each older record do
     module _ (s x : ℕ) (live : 0 < K .num s) (m : x < K .pages) (before : (p : ℕ) → 0 < K .num p → K .num p < K .num s → page? K p x (K .page p x) ≡ true) where
       own-page : (Shared K s x → ⊥) → page? K s x (K .page s x) ≡ true
       unfolding full
-      own-page d = and-left (page? K s x (K .page s x)) (dies? K s x (pageOf K (K .prev s) x)) (sym (light-else K s x d) ∙ lit s live x m)
+      own-page d = and-left (page? K s x (K .page s x)) (dies? K s x (pageOf K (K .prev s) x)) (sym (light-else K s x d) ∙ lit s live .page x m)
 
       shared-page : (v : ℕ) → K .page s x ≡ v → Shared K s x → page? K s x v ≡ true
       unfolding Shared page? via
       shared-page zero d e = refl
       shared-page (suc b) d e =
           let (p, ep, gp) = via-is (λ s. K .page s x) (parent K s) b (sym e ∙ d) in
-          let o = pred-older s live p ep in
+          let o = older K s (K .prev s) (K .base s) p (lit s live .prev) (lit s live .base) ep in
           let k : page? K p x (suc b) ≡ true = ap (page? K p x) (sym gp) ∙ before p (o .0) (o .1) in
           inherits K s p x b (o .1) (ap (via (K .num)) ep) (sym e ∙ d) k
 
@@ -206,19 +240,23 @@ module _ (K : View) where
     paged zero s x l live m = absurd (let z : ⊥ = omega arith in z)
     paged (suc n) s x l live m = any-page s x live m (λ p h k. paged n p x (omega arith) h m)
 
-    light-slot : (s : ℕ) → 0 < K .num s → slot? K s ≡ true
+    whole : (s x : ℕ) → 0 < K .num s → x < K .pages → full K s x ≡ true
     unfolding full
+    whole s x live m =
+        cases (shared? K s x)
+        (λ e. and-both (page? K s x (K .page s x)) (dies? K s x (pageOf K (K .prev s) x)) (paged (suc (K .num s)) s x (omega arith) live m) (shared-dies K s x e))
+        (λ d. sym (light-else K s x d) ∙ lit s live .page x m)
+
+    light-slot : (s : ℕ) → 0 < K .num s → slot? K s ≡ true
     light-slot s live =
+        let w = lit s live in
         slot-is s ∙
-        and-both (links s) (all (K .pages) (full K s)) (linked s live)
-        (says-pages (full K s) .passes (λ x m. cases (shared? K s x) (whole x m) (λ d. sym (light-else K s x d) ∙ lit s live x m)))
-      where
-        whole : (x : ℕ) → x < K .pages → Shared K s x → full K s x ≡ true
-        whole x m e = and-both (page? K s x (K .page s x)) (dies? K s x (pageOf K (K .prev s) x)) (paged (suc (K .num s)) s x (omega arith) live m) (shared-dies K s x e)
+        says-parts s (K .slots) (full K s) .passes
+        (record { fine = w .fine; pairs = λ t m k. paired s t live k; prev = w .prev; base = w .base; page = λ x m. whole s x live m })
 
   -- THE LIGHT TEST IS EXACT
   pub light-exact : Clamped K → all (K .slots) (λ s. imp (ltb 0 (K .num s)) (lightSlot? K s)) ≡ all (K .slots) (λ s. imp (ltb 0 (K .num s)) (slot? K s))
   light-exact C =
-      alike (each (λ s. lightSlot? K s)) (each (λ s. slot? K s))
-      (λ h. says-each (λ s. slot? K s) .passes (λ s l live. light-slot C h s live))
-      (λ h. says-each (λ s. lightSlot? K s) .passes (λ s l live. slot-light s (says-each (λ s. slot? K s) .holds h s l live)))
+      alike (each (K .slots) (λ s. lightSlot? K s)) (each (K .slots) (λ s. slot? K s))
+      (λ h. says-each (K .slots) (λ s. slot? K s) .passes (λ s l live. light-slot C h s live))
+      (λ h. says-each (K .slots) (λ s. lightSlot? K s) .passes (λ s l live. slot-light s l (says-each (K .slots) (λ s. slot? K s) .holds h s l live)))

@@ -81,7 +81,7 @@ fn page_dies(g: Geometry, t: &[u32], s: usize, kin: Kin, x: usize) -> bool
     !(kin.root < block.birth) | (block.dead == s + 1)
 }
 
-// Whether the rows from a and from b on agree: they do at each place from x up to the one returned.
+// How far two rows agree: the numbers from a and from b on are the same at each place from x up to the one returned.
 fn agree_to(t: &[u32], a: usize, b: usize, x: usize, n: usize) -> usize
     requires { ⌜ (a + n ≤ length (now t)) × (b + n ≤ length (now t)) × (x ≤ n) ⌝ }
     ensures range { λ r. ⌜ (x ≤ r) × (r ≤ n) ⌝ }
@@ -97,7 +97,7 @@ fn agree_to(t: &[u32], a: usize, b: usize, x: usize, n: usize) -> usize
     y
 }
 
-// Where to look next, after page x: the record in slot s shares each page between with the record behind the link.
+// The page to look at next, after page x: the record in slot s shares each page between them with the record behind the link.
 fn shared_to(g: Geometry, t: &[u32], s: usize, link: usize, x: usize) -> usize
     requires { ⌜ Roomy g (now t) × (s < g .records) × (x < g .pages) ⌝ }
     ensures range { λ r. ⌜ (x < r) × (r ≤ g .pages) ⌝ }
@@ -113,7 +113,7 @@ fn shared_to(g: Geometry, t: &[u32], s: usize, link: usize, x: usize) -> usize
     agree_to(t, 32 + 272 * s + 16, 32 + 272 * p + 16, x + 1, g.pages)
 }
 
-// All pages of the record in slot s. A page that it shares with its pred needs no look: what is asked of it is asked of the pred's page.
+// All pages of the record in slot s. A page that it shares with its pred needs no look: what would be asked of it is asked of the pred's page.
 pub fn pages_fit(g: Geometry, t: &[u32], s: usize) -> bool
     requires { ⌜ Roomy g (now t) × (s < g .records) ⌝ }
     ensures { λ r. ⌜ r ≡ all (g .pages) (λ x. lightPage? (viewOf g (now (t .entry))) s x) ⌝ }

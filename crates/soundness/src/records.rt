@@ -58,12 +58,13 @@ fn two_fit(g: Geometry, t: &[u32], s: usize, k: usize) -> bool
     !(0 < b.number) | (number & next & first)
 }
 
+// The slots before s are enough: two records are compared once, from the later slot.
 fn others_fit(g: Geometry, t: &[u32], s: usize) -> bool
     requires { ⌜ Roomy g (now t) ⌝ }
-    ensures { λ r. ⌜ r ≡ all (g .records) (λ k. imp (ltb 0 (viewOf g (now (t .entry)) .num k)) (two? (viewOf g (now (t .entry))) s k)) ⌝ }
+    ensures { λ r. ⌜ r ≡ all s (λ k. imp (ltb 0 (viewOf g (now (t .entry)) .num k)) (two? (viewOf g (now (t .entry))) s k)) ⌝ }
 {
     let mut k: usize = 0;
-    while k < g.records {
+    while k < s {
         if !two_fit(g, t, s, k) {
             return false;
         }

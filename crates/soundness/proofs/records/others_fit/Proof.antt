@@ -13,10 +13,10 @@ use Rattle.soundness.proofs.records.others_fit.Statement.{statement}
 use Rattle.soundness.proofs.records.others_fit.Tie as tie
 
 abbrev Inv-loop : tie.InvT-loop
-Inv-loop g t s k₀ k = (k ≤ g .records) × (all k (λ k. imp (ltb 0 (viewOf g t .num k)) (two? (viewOf g t) s k)) ≡ true)
+Inv-loop g t s k₀ k = (k ≤ s) × (all k (λ k. imp (ltb 0 (viewOf g t .num k)) (two? (viewOf g t) s k)) ≡ true)
 
 abbrev μ-loop : tie.MeasureT-loop
-μ-loop g t s k₀ k = g .records - k
+μ-loop g t s k₀ k = s - k
 
 loop-holds : tie.Need-loop-holds Inv-loop μ-loop
 loop-holds c = (omega arith, all-none _)
@@ -25,7 +25,7 @@ two-fit-requires : tie.Need-two-fit-requires Inv-loop μ-loop
 two-fit-requires c κs = search needs
 
 returns : tie.Need-returns Inv-loop μ-loop
-returns c = all-stop _ _ _ (c .before .before .if1 .taken) (c .before .two-fit .ensures) (c .if2 .taken)
+returns c = all-stop _ _ _ (c .before .before .loop-test .taken) (c .before .two-fit .ensures) (c .if1 .taken)
 
 add-k : tie.Need-add-k Inv-loop μ-loop
 add-k c = search needs
@@ -34,10 +34,10 @@ loop-less : tie.Need-loop-less Inv-loop μ-loop
 loop-less c = omega arith
 
 loop-again : tie.Need-loop-again Inv-loop μ-loop
-loop-again c = (omega arith, all-step _ _ (c .before .before .before .before .loop .inv .1) (c .before .two-fit .ensures) (c .if2 .left))
+loop-again c = (omega arith, all-step _ _ (c .before .before .before .loop .inv .1) (c .before .two-fit .ensures) (c .if1 .left))
 
 returns-2 : tie.Need-returns-2 Inv-loop μ-loop
-returns-2 c = all-end _ _ _ (c .before .before .loop .inv .0) (c .if1 .left) (c .before .before .loop .inv .1)
+returns-2 c = all-end _ _ _ (c .before .loop .inv .0) (c .loop-test .left) (c .before .loop .inv .1)
 
 pub others-fit-spec : {M : Type 1} → statement M
 others-fit-spec =
