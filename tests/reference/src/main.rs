@@ -1,8 +1,11 @@
 //! An implementation of the scope document written from the paper, to compare the proved runner with.
 //!   reference run                       replies to the script on standard input
 //!   reference script SEED               a script made from a seed
+//!   reference damaged                   what the program `damaged` must print
 //!   reference compare RUNNER FROM TO    runs the scripts of the seeds through RUNNER and compares byte for byte
+mod damaged;
 mod generate;
+mod layout;
 mod script;
 mod store;
 
@@ -45,9 +48,10 @@ fn main() {
             std::io::stdout().write_all(&script::run(&text)).unwrap();
         }
         ["script", seed] => std::io::stdout().write_all(&generate::script(seed.parse().unwrap())).unwrap(),
+        ["damaged"] => print!("{}", damaged::printed()),
         ["compare", runner, from, to] => compare(runner, from.parse().unwrap(), to.parse().unwrap()),
         _ => {
-            eprintln!("usage: reference run | script SEED | compare RUNNER FROM TO");
+            eprintln!("usage: reference run | script SEED | damaged | compare RUNNER FROM TO");
             exit(2);
         }
     }

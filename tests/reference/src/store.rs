@@ -47,32 +47,32 @@ pub enum Call {
     FreeList,
 }
 
-struct Record {
-    open: bool,
-    pages: Vec<Option<u64>>,
+pub struct Record {
+    pub open: bool,
+    pub pages: Vec<Option<u64>>,
     /// shards: by birth, first in first
-    dead: BTreeMap<u64, Vec<u64>>,
+    pub dead: BTreeMap<u64, Vec<u64>>,
 }
 
-struct Line {
-    base: u64,
-    records: Vec<u64>,
+pub struct Line {
+    pub base: u64,
+    pub records: Vec<u64>,
 }
 
 pub struct Store {
     pub g: Geometry,
-    last: u64,
-    records: BTreeMap<u64, Record>,
-    lines: Vec<Line>,
+    pub last: u64,
+    pub records: BTreeMap<u64, Record>,
+    pub lines: Vec<Line>,
     /// of a held block: the number of the record that was open when it was given
-    births: BTreeMap<u64, u64>,
-    marks: Vec<u64>,
-    counter: u64,
-    writes: u64,
+    pub births: BTreeMap<u64, u64>,
+    pub marks: Vec<u64>,
+    pub counter: u64,
+    pub writes: u64,
     pub log: Vec<u64>,
 }
 
-type Reply = Result<Vec<u64>, u32>;
+pub type Reply = Result<Vec<u64>, u32>;
 
 impl Store {
     pub fn new(g: Geometry) -> Store {
@@ -94,11 +94,11 @@ impl Store {
         self.records.keys().copied().collect()
     }
 
-    fn line_of(&self, r: u64) -> usize {
+    pub fn line_of(&self, r: u64) -> usize {
         self.lines.iter().position(|l| l.records.contains(&r)).expect("a record stands in a line")
     }
 
-    fn pred(&self, r: u64) -> u64 {
+    pub fn pred(&self, r: u64) -> u64 {
         let line = &self.lines[self.line_of(r)];
         let at = line.records.iter().position(|&x| x == r).unwrap();
         if at == 0 { line.base } else { line.records[at - 1] }

@@ -1,0 +1,147 @@
+// One call of the store, asked by four bytes: its letter, then record, page and kind as digits.
+ghost use Prim.Native.Nat.{_≤_};
+use answer::Answer;
+use model::Call;
+use store::letters;
+
+// The six numbers of a call.
+pub struct Six {
+    pub arenas: usize,
+    pub per: usize,
+    pub pages: usize,
+    pub records: usize,
+    pub turn: usize,
+    pub words: usize,
+}
+
+// How much of each piece of memory is lent.
+pub struct Sizes {
+    pub tables: usize,
+    pub log: usize,
+    pub out: usize,
+}
+
+pub struct Ask {
+    pub letter: u8,
+    pub n: u32,
+    pub page: u32,
+    pub kind: u32,
+}
+
+// A digit's number; a question mark is the largest number.
+fn digit(b: u8) -> u32 {
+    if b == b'?' {
+        return 4294967295;
+    }
+    (b & 15) as u32
+}
+
+pub fn ask_of(letter: u8, n: u8, page: u8, kind: u8) -> Ask {
+    Ask {
+        letter,
+        n: digit(n),
+        page: digit(page),
+        kind: digit(kind),
+    }
+}
+
+// The k-th of 32 asks, counted round.
+pub fn ask_at(asks: &[u8; 128], k: usize) -> Ask {
+    let at = 4 * (k % 32);
+    ask_of(asks[at], asks[at + 1], asks[at + 2], asks[at + 3])
+}
+
+fn call_of(ask: Ask) -> Call {
+    let letter = ask.letter;
+    match letter {
+        b'B' => Call::Begin,
+        b'W' => Call::Write(ask.n, ask.page, ask.kind),
+        b'E' => Call::Erase(ask.n, ask.page),
+        b'S' => Call::Seal(ask.n),
+        b'F' => Call::Fork(ask.n),
+        b'D' => Call::Delete(ask.n),
+        b'R' => Call::Read(ask.n, ask.page),
+        b'Y' => Call::Barrier,
+        b'C' => Call::Compress,
+        _ => Call::FreeList,
+    }
+}
+
+// The calls that name a page.
+fn by_page(s: Six, t: &mut [u32], l: &mut [u8], out: &mut [u32], ask: Ask) -> Answer {
+    let letter = ask.letter;
+    match letter {
+        b'W' => letters::write(
+            s.arenas, s.per, s.pages, s.records, s.turn, s.words, t, l, out, ask.n, ask.page,
+            ask.kind,
+        ),
+        b'E' => letters::erase(
+            s.arenas, s.per, s.pages, s.records, s.turn, s.words, t, l, out, ask.n, ask.page,
+        ),
+        _ => letters::read(
+            s.arenas, s.per, s.pages, s.records, s.turn, s.words, t, l, out, ask.n, ask.page,
+        ),
+    }
+}
+
+// The calls that name a record alone.
+fn by_record(s: Six, t: &mut [u32], l: &mut [u8], out: &mut [u32], ask: Ask) -> Answer {
+    let letter = ask.letter;
+    match letter {
+        b'S' => letters::seal(
+            s.arenas, s.per, s.pages, s.records, s.turn, s.words, t, l, out, ask.n,
+        ),
+        b'F' => letters::fork(
+            s.arenas, s.per, s.pages, s.records, s.turn, s.words, t, l, out, ask.n,
+        ),
+        _ => letters::delete(
+            s.arenas, s.per, s.pages, s.records, s.turn, s.words, t, l, out, ask.n,
+        ),
+    }
+}
+
+// The calls that name nothing.
+fn by_letter(s: Six, t: &mut [u32], l: &mut [u8], out: &mut [u32], letter: u8) -> Answer {
+    match letter {
+        b'B' => letters::begin(s.arenas, s.per, s.pages, s.records, s.turn, s.words, t, l, out),
+        b'Y' => letters::barrier(s.arenas, s.per, s.pages, s.records, s.turn, s.words, t, l, out),
+        b'C' => letters::compress(s.arenas, s.per, s.pages, s.records, s.turn, s.words, t, l, out),
+        _ => letters::free_list(s.arenas, s.per, s.pages, s.records, s.turn, s.words, t, l, out),
+    }
+}
+
+// The function of the letter.
+fn lettered(s: Six, t: &mut [u32], l: &mut [u8], out: &mut [u32], ask: Ask) -> Answer {
+    let letter = ask.letter;
+    match letter {
+        b'W' | b'E' | b'R' => by_page(s, t, l, out, ask),
+        b'S' | b'F' | b'D' => by_record(s, t, l, out, ask),
+        _ => by_letter(s, t, l, out, letter),
+    }
+}
+
+// Makes the call on the parts that are lent, by the function of its letter or by the one for any call.
+pub fn perform(
+    s: Six,
+    size: Sizes,
+    tables: &mut [u32; 2048],
+    log: &mut [u8; 256],
+    result: &mut [u32; 128],
+    ask: Ask,
+    any: bool,
+) -> Answer
+    requires { ⌜ (size .tables ≤ 2048) × (size .log ≤ 256) × (size .out ≤ 128) ⌝ }
+{
+    let a = size.tables;
+    let b = size.log;
+    let c = size.out;
+    let t = &mut tables[..a];
+    let l = &mut log[..b];
+    let out = &mut result[..c];
+    if any {
+        return store::call::call(
+            s.arenas, s.per, s.pages, s.records, s.turn, s.words, t, l, out, call_of(ask),
+        );
+    }
+    lettered(s, t, l, out, ask)
+}

@@ -1,0 +1,360 @@
+//! What the program `damaged` must print: its stores, its damage and its calls, with the replies of this implementation.
+use crate::layout::{call, log_needed, made, result_needed, tables_needed, Memory};
+use crate::store::{Call, Geometry, Reply};
+use std::fmt::Write;
+
+const TABLES: usize = 2048;
+const LOG: usize = 256;
+const RESULT: usize = 128;
+
+struct Report {
+    text: String,
+    last: Option<(u64, Reply)>,
+    cases: u64,
+    counts: [u64; 16],
+    sums: [u64; 2],
+    random: u64,
+}
+
+impl Report {
+    fn line(&mut self, line: &str) {
+        self.flush();
+        writeln!(self.text, "{line}").unwrap();
+    }
+
+    fn flush(&mut self) {
+        let Some((times, reply)) = self.last.take() else { return };
+        if times > 1 {
+            write!(self.text, "{times} x ").unwrap();
+        }
+        match reply {
+            Err(n) => write!(self.text, "- {n}").unwrap(),
+            Ok(numbers) => {
+                self.text.push('+');
+                for n in numbers {
+                    write!(self.text, " {n}").unwrap();
+                }
+            }
+        }
+        self.text.push('\n');
+    }
+
+    fn add(&mut self, reply: Reply) {
+        self.cases += 1;
+        self.counts[reply.as_ref().err().copied().unwrap_or(0) as usize] += 1;
+        match &mut self.last {
+            Some((times, last)) if *last == reply => *times += 1,
+            _ => {
+                self.flush();
+                self.last = Some((1, reply));
+            }
+        }
+    }
+
+    fn fold(&mut self, x: u64) {
+        self.sums[0] = self.sums[0].wrapping_add(x);
+        self.sums[1] = self.sums[1].wrapping_add(self.sums[0]);
+    }
+
+    fn next(&mut self) -> u64 {
+        self.random = self.random * 48271 % 2147483647;
+        self.random
+    }
+
+    fn small(&mut self) -> usize {
+        (self.next() % 8) as usize
+    }
+}
+
+/// A store with its memory, and the calls to ask of it.
+struct Subject {
+    six: [u64; 6],
+    lent: [usize; 3],
+    sound: Memory,
+    asks: Vec<Call>,
+}
+
+fn digit(b: u8) -> u64 {
+    if b == b'?' { u32::MAX as u64 } else { (b - b'0') as u64 }
+}
+
+fn asks_of(text: &str) -> Vec<Call> {
+    text.as_bytes().chunks(4).map(|a| call_of(a[0], digit(a[1]), digit(a[2]), digit(a[3]))).collect()
+}
+
+fn call_of(letter: u8, n: u64, page: u64, kind: u64) -> Call {
+    match letter {
+        b'B' => Call::Begin,
+        b'W' => Call::Write(n, page, kind),
+        b'E' => Call::Erase(n, page),
+        b'S' => Call::Seal(n),
+        b'F' => Call::Fork(n),
+        b'D' => Call::Delete(n),
+        b'R' => Call::Read(n, page),
+        b'Y' => Call::Barrier,
+        b'C' => Call::Compress,
+        _ => Call::FreeList,
+    }
+}
+
+impl Subject {
+    fn made(six: [u64; 6], script: &str, asks: &str, report: &mut Report) -> Subject {
+        let g = Geometry::new(six).expect("inside the limits");
+        let lent = [tables_needed(&g), log_needed(&g), result_needed(&g)];
+        let mut memory = Memory { tables: vec![7; TABLES], log: vec![9; LOG] };
+        group(report, "store");
+        made(&g, &six, &mut memory);
+        report.add(Ok(vec![]));
+        for c in asks_of(script) {
+            let reply = call(&six, &mut memory, lent, c);
+            report.add(reply);
+        }
+        Subject { six, lent, sound: memory, asks: asks_of(asks) }
+    }
+
+    fn ask_of(&self, report: &mut Report, six: &[u64; 6], lent: [usize; 3], memory: &Memory, k: usize) {
+        step(report, six, lent, &mut memory.clone(), self.asks[k % 32]);
+    }
+
+    fn ask(&self, report: &mut Report, memory: &Memory, k: usize) {
+        self.ask_of(report, &self.six, self.lent, memory, k);
+    }
+
+    /// Asks nothing where nothing is damaged.
+    fn ask_damaged(&self, report: &mut Report, memory: &Memory, k: usize) {
+        if *memory != self.sound {
+            self.ask(report, memory, k);
+        }
+    }
+
+    fn numbers(&self, report: &mut Report) {
+        for way in 0..7 {
+            for i in 0..self.lent[0] {
+                let mut m = self.sound.clone();
+                let x = m.tables[i];
+                m.tables[i] = [x.wrapping_add(1), x.wrapping_sub(1), 0, 1, 2, 3, u32::MAX][way];
+                self.ask_damaged(report, &m, i / 16 + 5 * way);
+            }
+        }
+    }
+
+    fn bytes(&self, report: &mut Report) {
+        for way in 0..4 {
+            for i in 0..self.lent[1] {
+                let mut m = self.sound.clone();
+                let x = m.log[i];
+                m.log[i] = [x.wrapping_add(1), x ^ 128, 0, 255][way];
+                self.ask_damaged(report, &m, i / 4 + 5 * way);
+            }
+        }
+    }
+
+    fn exchanged(&self, report: &mut Report, apart: usize) {
+        for i in 0..self.lent[0] - apart {
+            let mut m = self.sound.clone();
+            m.tables.swap(i, i + apart);
+            self.ask_damaged(report, &m, i / 16);
+        }
+    }
+
+    fn words(&self, report: &mut Report) {
+        for i in 0..self.lent[1] / 8 {
+            for j in i + 1..self.lent[1] / 8 {
+                let mut m = self.sound.clone();
+                for k in 0..8 {
+                    m.log.swap(8 * i + k, 8 * j + k);
+                }
+                self.ask(report, &m, i + j);
+            }
+        }
+    }
+
+    fn last(&self, report: &mut Report) {
+        for n in 999_998..=1_000_000 {
+            let mut m = self.sound.clone();
+            m.tables[6] = n;
+            for k in 0..32 {
+                self.ask(report, &m, k);
+            }
+        }
+    }
+
+    /// Calls for another geometry; where `agreed`, the header says the same.
+    fn foreign(&self, report: &mut Report, lent: [usize; 3], agreed: bool) {
+        for which in 0..6 {
+            for way in 0..4 {
+                let mut six = self.six;
+                six[which] = [six[which] + 1, six[which] - 1, 0, u64::MAX][way];
+                let mut m = self.sound.clone();
+                if agreed {
+                    m.tables[which] = six[which] as u32;
+                }
+                for k in (0..32).step_by(3) {
+                    self.ask_of(report, &six, lent, &m, k);
+                }
+            }
+        }
+    }
+
+    fn lengths(&self, report: &mut Report) {
+        for which in 0..3 {
+            let need = self.lent[which];
+            for length in [need - 1, need / 2, 1, 0, need, need + 1, [TABLES, LOG, RESULT][which]] {
+                let mut lent = self.lent;
+                lent[which] = length;
+                for k in 0..32 {
+                    self.ask_of(report, &self.six, lent, &self.sound, k);
+                }
+            }
+        }
+    }
+
+    fn place(&self, report: &mut Report) -> usize {
+        let row = 32 + 272 * report.small();
+        let at = report.small();
+        match report.small() {
+            0 => (report.next() % 32) as usize,
+            1 | 2 => row + at,
+            3 | 4 => row + 16 + at / 2,
+            _ => 32 + 272 * self.six[3] as usize + 8 * report.small() + at,
+        }
+    }
+
+    fn few(&self, report: &mut Report) {
+        for i in 0..400 {
+            let m = self.few_changed(report, &self.sound);
+            self.ask(report, &m, i);
+        }
+    }
+
+    fn few_changed(&self, report: &mut Report, memory: &Memory) -> Memory {
+        let mut m = memory.clone();
+        for _ in 0..1 + report.small() / 2 {
+            let at = self.place(report);
+            m.tables[at] = report.small() as u32;
+        }
+        m
+    }
+
+    fn history(&self, report: &mut Report) {
+        let mut m = self.sound.clone();
+        for _ in 0..600 {
+            let c = any_call(report, m.tables[6]);
+            let mut damaged = self.few_changed(report, &m);
+            step(report, &self.six, self.lent, &mut damaged, c);
+            step(report, &self.six, self.lent, &mut m, c);
+        }
+    }
+
+    fn tables_at_random(&self, report: &mut Report) {
+        for i in 0..160 {
+            let mut m = Memory { tables: self.sound.tables.clone(), log: vec![0; LOG] };
+            for at in 6..TABLES {
+                m.tables[at] = if report.next() & (1023 >> (i % 8)) == 0 { report.small() as u32 } else { 0 };
+            }
+            self.ask(report, &m, i);
+        }
+    }
+
+    fn log_at_random(&self, report: &mut Report) {
+        for i in 0..200 {
+            let mut m = self.sound.clone();
+            for _ in 0..1 + report.small() / 2 {
+                let at = (report.next() % 256) as usize;
+                m.log[at] = report.small() as u8;
+            }
+            self.ask(report, &m, i);
+        }
+    }
+
+    fn all(&self, report: &mut Report) {
+        self.group(report, "numbers", |r| self.numbers(r));
+        self.group(report, "bytes", |r| self.bytes(r));
+        self.group(report, "pairs", |r| self.exchanged(r, 8));
+        self.group(report, "pairs", |r| self.exchanged(r, 272));
+        self.group(report, "words", |r| self.words(r));
+        self.group(report, "last", |r| self.last(r));
+        let whole = [TABLES, LOG, RESULT];
+        self.group(report, "foreign", |r| self.foreign(r, self.lent, false));
+        self.group(report, "foreign", |r| self.foreign(r, whole, false));
+        self.group(report, "agreed", |r| self.foreign(r, whole, true));
+        self.group(report, "lengths", |r| self.lengths(r));
+        self.group(report, "few", |r| self.few(r));
+        self.group(report, "tables", |r| self.tables_at_random(r));
+        self.group(report, "log", |r| self.log_at_random(r));
+        self.group(report, "history", |r| self.history(r));
+    }
+
+    fn group(&self, report: &mut Report, name: &str, cases: impl Fn(&mut Report)) {
+        group(report, name);
+        cases(report);
+        let [a, b] = report.sums;
+        report.line(&format!("memory {a} {b}"));
+    }
+}
+
+/// A call: its reply, and what an accepted one leaves, go to the report.
+fn step(report: &mut Report, six: &[u64; 6], lent: [usize; 3], memory: &mut Memory, c: Call) {
+    let reply = call(six, memory, lent, c);
+    if let Ok(given) = &reply {
+        for &x in &memory.tables {
+            report.fold(x as u64);
+        }
+        for &x in &memory.log {
+            report.fold(x as u64);
+        }
+        for i in 0..RESULT {
+            report.fold(given.get(i).copied().unwrap_or(1000 + i as u64));
+        }
+    }
+    report.add(reply);
+}
+
+fn any_call(report: &mut Report, last: u32) -> Call {
+    let letter = b"WWWWSSFDDERYCLBE"[(report.next() % 16) as usize];
+    let n = last.wrapping_sub(report.small() as u32) as u64;
+    let page = (report.small() / 2) as u64;
+    let kind = (report.small() / 2) as u64;
+    call_of(letter, n, page, kind)
+}
+
+fn group(report: &mut Report, name: &str) {
+    report.line(name);
+    report.sums = [0, 0];
+}
+
+/// The calls asked of each store, 32 each.
+const SUBJECTS: [([u64; 6], &str, &str); 3] = [
+    (
+        [2, 4, 3, 7, 2, 24],
+        "B000W100W111W122S100W200Y000S200W311W302S300E420E410D200F100W500S500W601F500E710",
+        "B000W400W612W721W100W730W703W?00E400E600E610E720E200S400R3?0S700S100F100F300F500F400D100D300D400D600D700D500R310R710Y000C000L000",
+    ),
+    (
+        [1, 4, 2, 4, 8, 10],
+        "B000W100S100W200W200F100D100",
+        "B000W200W210W220W300W311W100W203W?00E300E200E210E100E900S200S300S100S800F100F200F700D100D200D300D900R200R110R2?0R400Y000C000L000",
+    ),
+    (
+        [1, 2, 2, 2, 1, 6],
+        "B000W100S100W200Y000Y000Y000Y000",
+        "B000W200W210W100W220W203W900E200E210E100E2?0E900S200S100S900F100F200F900D100D200D900R200R100R110R120R900Y000C000L000D?00R210S?00",
+    ),
+];
+
+pub fn printed() -> String {
+    let mut report = Report { text: String::new(), last: None, cases: 0, counts: [0; 16], sums: [0, 0], random: 1 };
+    for (six, script, asks) in SUBJECTS {
+        let subject = Subject::made(six, script, asks, &mut report);
+        subject.all(&mut report);
+    }
+    let (cases, counts) = (report.cases, report.counts);
+    report.line(&format!("cases {cases}"));
+    report.line(&format!("accepted {}", counts[0]));
+    for (k, &count) in counts.iter().enumerate().skip(1) {
+        if count != 0 {
+            report.line(&format!("refused {k} {count}"));
+        }
+    }
+    report.text
+}
