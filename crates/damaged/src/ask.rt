@@ -1,7 +1,9 @@
 // One call of the store, asked by four bytes: its letter, then record, page and kind as digits.
 ghost use Prim.Native.Nat.{_≤_};
+ghost use lib.ListN.{length};
 use answer::Answer;
 use model::Call;
+use store::call::call;
 use store::letters;
 
 // The six numbers of a call.
@@ -28,12 +30,16 @@ pub struct Ask {
     pub kind: u32,
 }
 
+fn wide(b: u8) -> u32 {
+    b as u32
+}
+
 // A digit's number; a question mark is the largest number.
 fn digit(b: u8) -> u32 {
     if b == b'?' {
         return 4294967295;
     }
-    (b & 15) as u32
+    wide(b & 15)
 }
 
 pub fn ask_of(letter: u8, n: u8, page: u8, kind: u8) -> Ask {
@@ -65,6 +71,22 @@ fn call_of(ask: Ask) -> Call {
         b'C' => Call::Compress,
         _ => Call::FreeList,
     }
+}
+
+// The function for any call.
+fn called(s: Six, t: &mut [u32], l: &mut [u8], out: &mut [u32], ask: Ask) -> Answer {
+    call(
+        s.arenas,
+        s.per,
+        s.pages,
+        s.records,
+        s.turn,
+        s.words,
+        t,
+        l,
+        out,
+        call_of(ask),
+    )
 }
 
 // The calls that name a page.
@@ -124,24 +146,19 @@ fn lettered(s: Six, t: &mut [u32], l: &mut [u8], out: &mut [u32], ask: Ask) -> A
 pub fn perform(
     s: Six,
     size: Sizes,
-    tables: &mut [u32; 2048],
-    log: &mut [u8; 256],
-    result: &mut [u32; 128],
+    t: &mut [u32],
+    l: &mut [u8],
+    out: &mut [u32],
     ask: Ask,
     any: bool,
 ) -> Answer
-    requires { ⌜ (size .tables ≤ 2048) × (size .log ≤ 256) × (size .out ≤ 128) ⌝ }
+    requires { ⌜ (size .tables ≤ length (now t)) × (size .log ≤ length (now l)) × (size .out ≤ length (now out)) ⌝ }
 {
     let a = size.tables;
     let b = size.log;
     let c = size.out;
-    let t = &mut tables[..a];
-    let l = &mut log[..b];
-    let out = &mut result[..c];
     if any {
-        return store::call::call(
-            s.arenas, s.per, s.pages, s.records, s.turn, s.words, t, l, out, call_of(ask),
-        );
+        return called(s, &mut t[..a], &mut l[..b], &mut out[..c], ask);
     }
-    lettered(s, t, l, out, ask)
+    lettered(s, &mut t[..a], &mut l[..b], &mut out[..c], ask)
 }

@@ -53,22 +53,42 @@ fn is_blank(out: &[u32; 128]) -> bool {
     true
 }
 
+fn wide(x: u32) -> u64 {
+    x as u64
+}
+
+fn wide_byte(x: u8) -> u64 {
+    x as u64
+}
+
 // The memory that an accepted call leaves goes into the sums.
 fn fold_all(report: &mut [u64; 160], t: &[u32; 2048], l: &[u8; 256], out: &[u32; 128]) {
+    fold_numbers(report, t);
+    fold_bytes(report, l);
+    fold_result(report, out);
+}
+
+fn fold_numbers(report: &mut [u64; 160], t: &[u32; 2048]) {
     let mut i: usize = 0;
     while i < 2048 {
-        fold(report, t[i] as u64);
+        fold(report, wide(t[i]));
         i += 1;
     }
-    let mut j: usize = 0;
-    while j < 256 {
-        fold(report, l[j] as u64);
-        j += 1;
+}
+
+fn fold_bytes(report: &mut [u64; 160], l: &[u8; 256]) {
+    let mut i: usize = 0;
+    while i < 256 {
+        fold(report, wide_byte(l[i]));
+        i += 1;
     }
-    let mut k: usize = 0;
-    while k < 128 {
-        fold(report, out[k] as u64);
-        k += 1;
+}
+
+fn fold_result(report: &mut [u64; 160], out: &[u32; 128]) {
+    let mut i: usize = 0;
+    while i < 128 {
+        fold(report, wide(out[i]));
+        i += 1;
     }
 }
 

@@ -8,6 +8,7 @@ use crate::case::case;
 use crate::report::heading;
 use crate::report::sums;
 use std::num::wrapping_add_u32;
+use std::num::wrapping_add_u8;
 use std::num::wrapping_add_usize;
 use std::num::wrapping_sub_u32;
 use std::num::wrapping_sub_usize;
@@ -46,6 +47,25 @@ fn number(
     case(six, size, &t, log, ask, report);
 }
 
+fn each_number(
+    six: Six,
+    size: Sizes,
+    tables: &[u32; 2048],
+    log: &[u8; 256],
+    asks: &[u8; 128],
+    way: usize,
+    report: &mut [u64; 160],
+)
+    requires { ⌜ (size .tables ≤ 2048) × (size .log ≤ 256) × (size .out ≤ 128) × (way ≤ 7) ⌝ }
+{
+    let mut i: usize = 0;
+    while i < size.tables {
+        let ask = ask_at(asks, i / 16 + 5 * way);
+        number(six, size, tables, log, i, another(tables[i], way), ask, report);
+        i += 1;
+    }
+}
+
 // Each number of the tables becomes another one.
 pub fn numbers(
     six: Six,
@@ -60,21 +80,16 @@ pub fn numbers(
     heading(report, b"numbers");
     let mut way: usize = 0;
     while way < 7 {
-        let mut i: usize = 0;
-        while i < size.tables {
-            let ask = ask_at(asks, i / 16 + 5 * way);
-            number(six, size, tables, log, i, another(tables[i], way), ask, report);
-            i += 1;
-        }
+        each_number(six, size, tables, log, asks, way, report);
         way += 1;
     }
     sums(report);
 }
 
-// What a byte becomes.
+// What a byte becomes, way by way.
 fn another_byte(x: u8, way: usize) -> u8 {
     match way {
-        0 => std::num::wrapping_add_u8(x, 1),
+        0 => wrapping_add_u8(x, 1),
         1 => x ^ 128,
         2 => 0,
         _ => 255,
@@ -102,6 +117,25 @@ fn byte(
     case(six, size, tables, &l, ask, report);
 }
 
+fn each_byte(
+    six: Six,
+    size: Sizes,
+    tables: &[u32; 2048],
+    log: &[u8; 256],
+    asks: &[u8; 128],
+    way: usize,
+    report: &mut [u64; 160],
+)
+    requires { ⌜ (size .tables ≤ 2048) × (size .log ≤ 256) × (size .out ≤ 128) × (way ≤ 4) ⌝ }
+{
+    let mut i: usize = 0;
+    while i < size.log {
+        let ask = ask_at(asks, i / 4 + 5 * way);
+        byte(six, size, tables, log, i, another_byte(log[i], way), ask, report);
+        i += 1;
+    }
+}
+
 // Each byte of the log becomes another one.
 pub fn bytes(
     six: Six,
@@ -116,12 +150,7 @@ pub fn bytes(
     heading(report, b"bytes");
     let mut way: usize = 0;
     while way < 4 {
-        let mut i: usize = 0;
-        while i < size.log {
-            let ask = ask_at(asks, i / 4 + 5 * way);
-            byte(six, size, tables, log, i, another_byte(log[i], way), ask, report);
-            i += 1;
-        }
+        each_byte(six, size, tables, log, asks, way, report);
         way += 1;
     }
     sums(report);
@@ -150,7 +179,7 @@ fn exchange(
 }
 
 // Any two numbers of the tables that stand `apart` are exchanged.
-pub fn exchanged(
+pub fn pairs(
     six: Six,
     size: Sizes,
     tables: &[u32; 2048],
@@ -171,7 +200,7 @@ pub fn exchanged(
     sums(report);
 }
 
-// Log word i takes the place of log word j and the other way round.
+// The log with word i in the place of word j and the other way round.
 fn words_swapped(log: &[u8; 256], i: usize, j: usize) -> [u8; 256]
     requires { ⌜ (i + 1 ≤ 32) × (j + 1 ≤ 32) ⌝ }
 {
@@ -183,6 +212,41 @@ fn words_swapped(log: &[u8; 256], i: usize, j: usize) -> [u8; 256]
         k += 1;
     }
     l
+}
+
+fn swap(
+    six: Six,
+    size: Sizes,
+    tables: &[u32; 2048],
+    log: &[u8; 256],
+    i: usize,
+    j: usize,
+    ask: Ask,
+    report: &mut [u64; 160],
+)
+    requires { ⌜ (size .tables ≤ 2048) × (size .log ≤ 256) × (size .out ≤ 128) × (i + 1 ≤ 32) × (j + 1 ≤ 32) ⌝ }
+{
+    let l = words_swapped(log, i, j);
+    case(six, size, tables, &l, ask, report);
+}
+
+// Word i and each later one are exchanged.
+fn swaps(
+    six: Six,
+    size: Sizes,
+    tables: &[u32; 2048],
+    log: &[u8; 256],
+    asks: &[u8; 128],
+    i: usize,
+    report: &mut [u64; 160],
+)
+    requires { ⌜ (size .tables ≤ 2048) × (size .log ≤ 256) × (size .out ≤ 128) × (i + 1 ≤ 32) ⌝ }
+{
+    let mut j: usize = i + 1;
+    while j < size.log / 8 {
+        swap(six, size, tables, log, i, j, ask_at(asks, i + j), report);
+        j += 1;
+    }
 }
 
 // Any two words of the log are exchanged.
@@ -199,15 +263,45 @@ pub fn words(
     heading(report, b"words");
     let mut i: usize = 0;
     while i < size.log / 8 {
-        let mut j: usize = i + 1;
-        while j < size.log / 8 {
-            let l = words_swapped(log, i, j);
-            case(six, size, tables, &l, ask_at(asks, i + j), report);
-            j += 1;
-        }
+        swaps(six, size, tables, log, asks, i, report);
         i += 1;
     }
     sums(report);
+}
+
+// The calls asked, every one or each third.
+fn each_ask(
+    six: Six,
+    size: Sizes,
+    tables: &[u32; 2048],
+    log: &[u8; 256],
+    asks: &[u8; 128],
+    by: usize,
+    report: &mut [u64; 160],
+)
+    requires { ⌜ (size .tables ≤ 2048) × (size .log ≤ 256) × (size .out ≤ 128) × (1 ≤ by) × (by ≤ 3) ⌝ }
+{
+    let mut k: usize = 0;
+    while k < 32 {
+        case(six, size, tables, log, ask_at(asks, k), report);
+        k += by;
+    }
+}
+
+fn last_at(
+    six: Six,
+    size: Sizes,
+    tables: &[u32; 2048],
+    log: &[u8; 256],
+    asks: &[u8; 128],
+    n: u32,
+    report: &mut [u64; 160],
+)
+    requires { ⌜ (size .tables ≤ 2048) × (size .log ≤ 256) × (size .out ≤ 128) ⌝ }
+{
+    let mut t = *tables;
+    t[6] = n;
+    each_ask(six, size, &t, log, asks, 1, report);
 }
 
 // The last record number becomes one of the largest, or one more.
@@ -222,17 +316,9 @@ pub fn last(
     requires { ⌜ (size .tables ≤ 2048) × (size .log ≤ 256) × (size .out ≤ 128) ⌝ }
 {
     heading(report, b"last");
-    let mut t = *tables;
-    let mut n: u32 = 999998;
-    while n < 1000001 {
-        t[6] = n;
-        let mut k: usize = 0;
-        while k < 32 {
-            case(six, size, &t, log, ask_at(asks, k), report);
-            k += 1;
-        }
-        n += 1;
-    }
+    last_at(six, size, tables, log, asks, 999998, report);
+    last_at(six, size, tables, log, asks, 999999, report);
+    last_at(six, size, tables, log, asks, 1000000, report);
     sums(report);
 }
 
@@ -259,47 +345,80 @@ fn six_with(six: Six, which: usize, way: usize) -> Six {
     s
 }
 
-// The number of the six that `which` names.
-fn number_of(six: Six, which: usize) -> usize {
+// The number of the six that `which` names, as the tables hold it.
+fn number_of(six: Six, which: usize) -> u32 {
     match which {
-        0 => six.arenas,
-        1 => six.per,
-        2 => six.pages,
-        3 => six.records,
-        4 => six.turn,
-        _ => six.words,
+        0 => narrow(six.arenas),
+        1 => narrow(six.per),
+        2 => narrow(six.pages),
+        3 => narrow(six.records),
+        4 => narrow(six.turn),
+        _ => narrow(six.words),
     }
 }
 
-// Calls for another geometry than the store's; where `agreed`, the header says the same.
+fn narrow(x: usize) -> u32 {
+    if x < 4294967296 {
+        return x as u32;
+    }
+    4294967295
+}
+
+// The header says the number of the call too.
+fn agree(
+    six: Six,
+    size: Sizes,
+    tables: &[u32; 2048],
+    log: &[u8; 256],
+    asks: &[u8; 128],
+    which: usize,
+    report: &mut [u64; 160],
+)
+    requires { ⌜ (size .tables ≤ 2048) × (size .log ≤ 256) × (size .out ≤ 128) × (which + 1 ≤ 2048) ⌝ }
+{
+    let mut t = *tables;
+    t[which] = number_of(six, which);
+    each_ask(six, size, &t, log, asks, 3, report);
+}
+
+// Calls for another geometry than the store's.
 pub fn foreign(
     six: Six,
     size: Sizes,
     tables: &[u32; 2048],
     log: &[u8; 256],
     asks: &[u8; 128],
-    agreed: bool,
     report: &mut [u64; 160],
 )
     requires { ⌜ (size .tables ≤ 2048) × (size .log ≤ 256) × (size .out ≤ 128) ⌝ }
 {
-    let mut which: usize = 0;
-    while which < 6 {
-        let mut way: usize = 0;
-        while way < 4 {
-            let call = six_with(six, which, way);
-            let mut t = *tables;
-            if agreed {
-                t[which] = (number_of(call, which) & 4294967295) as u32;
-            }
-            let mut k: usize = 0;
-            while k < 32 {
-                case(call, size, &t, log, ask_at(asks, k), report);
-                k += 3;
-            }
-            way += 1;
-        }
-        which += 1;
+    heading(report, b"foreign");
+    let mut c: usize = 0;
+    while c < 24 {
+        let call = six_with(six, c / 4, c % 4);
+        each_ask(call, size, tables, log, asks, 3, report);
+        c += 1;
+    }
+    sums(report);
+}
+
+// Calls for another geometry, with the same in the header.
+pub fn agreed(
+    six: Six,
+    size: Sizes,
+    tables: &[u32; 2048],
+    log: &[u8; 256],
+    asks: &[u8; 128],
+    report: &mut [u64; 160],
+)
+    requires { ⌜ (size .tables ≤ 2048) × (size .log ≤ 256) × (size .out ≤ 128) ⌝ }
+{
+    heading(report, b"agreed");
+    let mut c: usize = 0;
+    while c < 24 {
+        let call = six_with(six, c / 4, c % 4);
+        agree(call, size, tables, log, asks, c / 4, report);
+        c += 1;
     }
     sums(report);
 }
@@ -358,19 +477,11 @@ pub fn lengths(
     requires { ⌜ (1 ≤ size .tables) × (1 ≤ size .log) × (1 ≤ size .out) × (size .tables + 1 ≤ 2048) × (size .log + 1 ≤ 256) × (size .out + 1 ≤ 128) ⌝ }
 {
     heading(report, b"lengths");
-    let mut which: usize = 0;
-    while which < 3 {
-        let mut way: usize = 0;
-        while way < 7 {
-            let lent = sizes_with(size, which, way);
-            let mut k: usize = 0;
-            while k < 32 {
-                case(six, lent, tables, log, ask_at(asks, k), report);
-                k += 1;
-            }
-            way += 1;
-        }
-        which += 1;
+    let mut c: usize = 0;
+    while c < 21 {
+        let lent = sizes_with(size, c / 7, c % 7);
+        each_ask(six, lent, tables, log, asks, 1, report);
+        c += 1;
     }
     sums(report);
 }

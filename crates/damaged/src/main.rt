@@ -10,7 +10,8 @@ mod report;
 use ask::Six;
 use ask::Sizes;
 use ask::ask_of;
-use ask::perform;
+use case::step;
+use store::make::make;
 
 // Makes the calls of a script, four bytes each, on a store.
 fn run(
@@ -23,13 +24,11 @@ fn run(
 )
     requires { ⌜ (size .tables ≤ 2048) × (size .log ≤ 256) × (size .out ≤ 128) ⌝ }
 {
-    let mut out = [0u32; 128];
     let mut at: usize = 0;
-    while at + 3 < script.len() {
-        let ask = ask_of(script[at], script[at + 1], script[at + 2], script[at + 3]);
-        let answer = perform(six, size, tables, log, &mut out, ask, false);
-        report::add(report, answer, &out);
-        at += 4;
+    while at < script.len() / 4 {
+        let ask = ask_of(script[4 * at], script[4 * at + 1], script[4 * at + 2], script[4 * at + 3]);
+        step(six, size, tables, log, ask, report);
+        at += 1;
     }
 }
 
@@ -46,8 +45,8 @@ fn one_by_one(
 {
     damage::numbers(six, size, tables, log, asks, report);
     damage::bytes(six, size, tables, log, asks, report);
-    damage::exchanged(six, size, tables, log, asks, 8, report);
-    damage::exchanged(six, size, tables, log, asks, 272, report);
+    damage::pairs(six, size, tables, log, asks, 8, report);
+    damage::pairs(six, size, tables, log, asks, 272, report);
     damage::words(six, size, tables, log, asks, report);
     damage::last(six, size, tables, log, asks, report);
 }
@@ -67,12 +66,9 @@ fn by_the_call(
         log: 256,
         out: 128,
     };
-    report::heading(report, b"foreign");
-    damage::foreign(six, size, tables, log, asks, false, report);
-    report::heading(report, b"foreign");
-    damage::foreign(six, all, tables, log, asks, false, report);
-    report::heading(report, b"agreed");
-    damage::foreign(six, all, tables, log, asks, true, report);
+    damage::foreign(six, size, tables, log, asks, report);
+    damage::foreign(six, all, tables, log, asks, report);
+    damage::agreed(six, all, tables, log, asks, report);
     damage::lengths(six, size, tables, log, asks, report);
 }
 
@@ -94,7 +90,7 @@ fn at_random(
 }
 
 // A store made by a script, then all the damage. The block rows begin at number `rows` of the tables.
-fn store(
+fn subject(
     six: Six,
     size: Sizes,
     rows: usize,
@@ -109,8 +105,15 @@ fn store(
     let out = [0u32; 128];
     report::heading(report, b"store");
     let a = size.tables;
-    let answer = store::make::make(
-        six.arenas, six.per, six.pages, six.records, six.turn, six.words, &mut tables[..a], &log,
+    let answer = make(
+        six.arenas,
+        six.per,
+        six.pages,
+        six.records,
+        six.turn,
+        six.words,
+        &mut tables[..a],
+        &log,
         &out,
     );
     report::add(report, answer, &out);
@@ -135,7 +138,7 @@ fn main() {
     let mut report = [0u64; 160];
     report[6] = 1;
     // Six records in three lines, five blocks on deadlists, a third of the log words used.
-    store(
+    subject(
         six(2, 4, 3, 7, 2, 24),
         Sizes {
             tables: 2000,
@@ -148,7 +151,7 @@ fn main() {
         &mut report,
     );
     // The left half of the listing of document 01; the right half is among the calls asked.
-    store(
+    subject(
         six(1, 4, 2, 4, 8, 10),
         Sizes {
             tables: 1152,
@@ -161,7 +164,7 @@ fn main() {
         &mut report,
     );
     // All blocks held, all records in use, the log full.
-    store(
+    subject(
         six(1, 2, 2, 2, 1, 6),
         Sizes {
             tables: 592,

@@ -55,6 +55,21 @@ fn few_changed(tables: &[u32; 2048], rows: usize, report: &mut [u64; 160]) -> [u
     t
 }
 
+fn few_case(
+    six: Six,
+    size: Sizes,
+    tables: &[u32; 2048],
+    log: &[u8; 256],
+    ask: Ask,
+    rows: usize,
+    report: &mut [u64; 160],
+)
+    requires { ⌜ (size .tables ≤ 2048) × (size .log ≤ 256) × (size .out ≤ 128) × (rows + 64 ≤ 2048) ⌝ }
+{
+    let t = few_changed(tables, rows, report);
+    case(six, size, &t, log, ask, report);
+}
+
 // The store's tables with one to four numbers changed.
 pub fn few(
     six: Six,
@@ -70,29 +85,47 @@ pub fn few(
     heading(report, b"few");
     let mut i: usize = 0;
     while i < 400 {
-        let t = few_changed(tables, rows, report);
-        case(six, size, &t, log, ask_at(asks, i), report);
+        few_case(six, size, tables, log, ask_at(asks, i), rows, report);
         i += 1;
     }
     sums(report);
 }
 
-// The store's header behind the six numbers and all rows hold small numbers, the more the smaller the mask is.
-fn scattered(tables: &[u32; 2048], mask: u64, report: &mut [u64; 160]) -> [u32; 2048] {
+// A small number, the more often the smaller the mask is; else 0.
+fn scattered(mask: u64, report: &mut [u64; 160]) -> u32 {
+    if next(report) & mask == 0 {
+        return small(report) as u32;
+    }
+    0
+}
+
+// Tables with scattered small numbers behind the six numbers of the header.
+fn tables_scattered(tables: &[u32; 2048], mask: u64, report: &mut [u64; 160]) -> [u32; 2048] {
     let mut t = *tables;
     let mut i: usize = 6;
     while i < 2048 {
-        if next(report) & mask == 0 {
-            t[i] = small(report) as u32;
-        } else {
-            t[i] = 0;
-        }
+        t[i] = scattered(mask, report);
         i += 1;
     }
     t
 }
 
-// Tables of small numbers behind the six numbers, with an empty log.
+fn scattered_case(
+    six: Six,
+    size: Sizes,
+    tables: &[u32; 2048],
+    ask: Ask,
+    mask: u64,
+    report: &mut [u64; 160],
+)
+    requires { ⌜ (size .tables ≤ 2048) × (size .log ≤ 256) × (size .out ≤ 128) ⌝ }
+{
+    let t = tables_scattered(tables, mask, report);
+    let log = [0u8; 256];
+    case(six, size, &t, &log, ask, report);
+}
+
+// Tables of scattered small numbers with an empty log.
 pub fn tables_at_random(
     six: Six,
     size: Sizes,
@@ -103,11 +136,10 @@ pub fn tables_at_random(
     requires { ⌜ (size .tables ≤ 2048) × (size .log ≤ 256) × (size .out ≤ 128) ⌝ }
 {
     heading(report, b"tables");
-    let log = [0u8; 256];
     let mut i: usize = 0;
     while i < 160 {
-        let t = scattered(tables, 1023 >> (i % 8), report);
-        case(six, size, &t, &log, ask_at(asks, i), report);
+        let mask = 1023 >> (i % 8);
+        scattered_case(six, size, tables, ask_at(asks, i), mask, report);
         i += 1;
     }
     sums(report);
@@ -126,6 +158,20 @@ fn bytes_changed(log: &[u8; 256], report: &mut [u64; 160]) -> [u8; 256] {
     l
 }
 
+fn bytes_case(
+    six: Six,
+    size: Sizes,
+    tables: &[u32; 2048],
+    log: &[u8; 256],
+    ask: Ask,
+    report: &mut [u64; 160],
+)
+    requires { ⌜ (size .tables ≤ 2048) × (size .log ≤ 256) × (size .out ≤ 128) ⌝ }
+{
+    let l = bytes_changed(log, report);
+    case(six, size, tables, &l, ask, report);
+}
+
 // The store's log with one to four bytes changed.
 pub fn log_at_random(
     six: Six,
@@ -140,8 +186,7 @@ pub fn log_at_random(
     heading(report, b"log");
     let mut i: usize = 0;
     while i < 200 {
-        let l = bytes_changed(log, report);
-        case(six, size, tables, &l, ask_at(asks, i), report);
+        bytes_case(six, size, tables, log, ask_at(asks, i), report);
         i += 1;
     }
     sums(report);
@@ -162,7 +207,40 @@ fn any_ask(last: u32, report: &mut [u64; 160]) -> Ask {
     }
 }
 
-// Calls in a row, each followed by one on tables with numbers changed.
+// A call on tables with numbers changed, then on the store itself.
+fn turn(
+    six: Six,
+    size: Sizes,
+    t: &mut [u32; 2048],
+    l: &mut [u8; 256],
+    rows: usize,
+    report: &mut [u64; 160],
+)
+    requires { ⌜ (size .tables ≤ 2048) × (size .log ≤ 256) × (size .out ≤ 128) × (rows + 64 ≤ 2048) ⌝ }
+{
+    let ask = any_ask(t[6], report);
+    few_case(six, size, t, l, ask, rows, report);
+    step(six, size, t, l, ask, report);
+}
+
+fn turns(
+    six: Six,
+    size: Sizes,
+    t: &mut [u32; 2048],
+    l: &mut [u8; 256],
+    rows: usize,
+    report: &mut [u64; 160],
+)
+    requires { ⌜ (size .tables ≤ 2048) × (size .log ≤ 256) × (size .out ≤ 128) × (rows + 64 ≤ 2048) ⌝ }
+{
+    let mut i: usize = 0;
+    while i < 600 {
+        turn(six, size, t, l, rows, report);
+        i += 1;
+    }
+}
+
+// Calls in a row, each asked of damaged tables first.
 pub fn history(
     six: Six,
     size: Sizes,
@@ -176,13 +254,6 @@ pub fn history(
     heading(report, b"history");
     let mut t = *tables;
     let mut l = *log;
-    let mut i: usize = 0;
-    while i < 600 {
-        let asked = any_ask(t[6], report);
-        let damaged = few_changed(&t, rows, report);
-        case(six, size, &damaged, &l, asked, report);
-        step(six, size, &mut t, &mut l, asked, report);
-        i += 1;
-    }
+    turns(six, size, &mut t, &mut l, rows, report);
     sums(report);
 }

@@ -2,12 +2,17 @@
 //
 // Its numbers: 0 how often the last reply came in a row, 1 its refusal (0 for an accepted call), 2 how many numbers it gave,
 // 3 the cases, 4 and 5 the sums, 6 the state of the random numbers, 16 to 31 the cases of each refusal, 32 to 159 the last reply's numbers.
+ghost use Prim.Native.Nat.{_+_, _≤_};
 use answer::Answer;
 use libc::STDOUT_FILENO;
 use std::num::wrapping_add_u64;
 
 fn text(bytes: &[u8]) {
     io::write_all(STDOUT_FILENO, bytes);
+}
+
+fn wide(x: u32) -> u64 {
+    x as u64
 }
 
 fn spaced(n: u64) {
@@ -44,6 +49,13 @@ pub fn flush(report: &mut [u64; 160]) {
     report[0] = 0;
 }
 
+// Prints n where i is below the count.
+fn spaced_below(i: usize, count: u64, n: u64) {
+    if (i as u64) < count {
+        spaced(n);
+    }
+}
+
 fn reply(report: &[u64; 160]) {
     if report[1] != 0 {
         text(b"-");
@@ -54,9 +66,7 @@ fn reply(report: &[u64; 160]) {
     text(b"+");
     let mut i: usize = 0;
     while i < 128 {
-        if (i as u64) < report[2] {
-            spaced(report[32 + i]);
-        }
+        spaced_below(i, report[2], report[32 + i]);
         i += 1;
     }
     text(b"\n");
@@ -83,6 +93,16 @@ pub fn changed(report: &mut [u64; 160]) {
     text(b"changed\n");
 }
 
+// Whether the i-th of the numbers given is another than the last reply's.
+fn is_other(report: &[u64; 160], i: usize, count: usize, out: &[u32; 128]) -> bool
+    requires { ⌜ i + 1 ≤ 128 ⌝ }
+{
+    if i < count {
+        return report[32 + i] != wide(out[i]);
+    }
+    false
+}
+
 fn is_last(report: &[u64; 160], refusal: u64, count: usize, out: &[u32; 128]) -> bool {
     if report[0] == 0 {
         return false;
@@ -95,10 +115,8 @@ fn is_last(report: &[u64; 160], refusal: u64, count: usize, out: &[u32; 128]) ->
     }
     let mut i: usize = 0;
     while i < 128 {
-        if i < count {
-            if report[32 + i] != out[i] as u64 {
-                return false;
-            }
+        if is_other(report, i, count, out) {
+            return false;
         }
         i += 1;
     }
@@ -111,7 +129,7 @@ fn keep(report: &mut [u64; 160], refusal: u64, count: usize, out: &[u32; 128]) {
     report[2] = count as u64;
     let mut i: usize = 0;
     while i < 128 {
-        report[32 + i] = out[i] as u64;
+        report[32 + i] = wide(out[i]);
         i += 1;
     }
 }
@@ -136,6 +154,16 @@ pub fn add(report: &mut [u64; 160], answer: Answer, out: &[u32; 128]) {
     }
 }
 
+fn refused(k: usize, times: u64) {
+    if times == 0 {
+        return;
+    }
+    text(b"refused");
+    spaced(k as u64);
+    spaced(times);
+    text(b"\n");
+}
+
 // The cases, and how many were accepted and refused by each number.
 pub fn totals(report: &mut [u64; 160]) {
     flush(report);
@@ -143,12 +171,7 @@ pub fn totals(report: &mut [u64; 160]) {
     counted(b"accepted", report[16]);
     let mut k: usize = 1;
     while k < 16 {
-        if report[16 + k] != 0 {
-            text(b"refused");
-            spaced(k as u64);
-            spaced(report[16 + k]);
-            text(b"\n");
-        }
+        refused(k, report[16 + k]);
         k += 1;
     }
 }
