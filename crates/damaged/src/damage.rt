@@ -7,8 +7,8 @@ use crate::ask::ask_at;
 use crate::case::case;
 use crate::report::heading;
 use crate::report::sums;
-use std::num::wrapping_add_u32;
 use std::num::wrapping_add_u8;
+use std::num::wrapping_add_u32;
 use std::num::wrapping_add_usize;
 use std::num::wrapping_sub_u32;
 use std::num::wrapping_sub_usize;
@@ -61,7 +61,16 @@ fn each_number(
     let mut i: usize = 0;
     while i < size.tables {
         let ask = ask_at(asks, i / 16 + 5 * way);
-        number(six, size, tables, log, i, another(tables[i], way), ask, report);
+        number(
+            six,
+            size,
+            tables,
+            log,
+            i,
+            another(tables[i], way),
+            ask,
+            report,
+        );
         i += 1;
     }
 }
@@ -131,7 +140,16 @@ fn each_byte(
     let mut i: usize = 0;
     while i < size.log {
         let ask = ask_at(asks, i / 4 + 5 * way);
-        byte(six, size, tables, log, i, another_byte(log[i], way), ask, report);
+        byte(
+            six,
+            size,
+            tables,
+            log,
+            i,
+            another_byte(log[i], way),
+            ask,
+            report,
+        );
         i += 1;
     }
 }
@@ -200,18 +218,17 @@ pub fn pairs(
     sums(report);
 }
 
-// The log with word i in the place of word j and the other way round.
-fn words_swapped(log: &[u8; 256], i: usize, j: usize) -> [u8; 256]
+// Word i of the log takes the place of word j and the other way round.
+fn swap_words(l: &mut [u8; 256], i: usize, j: usize)
     requires { ⌜ (i + 1 ≤ 32) × (j + 1 ≤ 32) ⌝ }
 {
-    let mut l = *log;
     let mut k: usize = 0;
     while k < 8 {
-        l[8 * i + k] = log[8 * j + k];
-        l[8 * j + k] = log[8 * i + k];
+        let x = l[8 * i + k];
+        l[8 * i + k] = l[8 * j + k];
+        l[8 * j + k] = x;
         k += 1;
     }
-    l
 }
 
 fn swap(
@@ -226,7 +243,8 @@ fn swap(
 )
     requires { ⌜ (size .tables ≤ 2048) × (size .log ≤ 256) × (size .out ≤ 128) × (i + 1 ≤ 32) × (j + 1 ≤ 32) ⌝ }
 {
-    let l = words_swapped(log, i, j);
+    let mut l = *log;
+    swap_words(&mut l, i, j);
     case(six, size, tables, &l, ask, report);
 }
 

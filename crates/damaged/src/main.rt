@@ -1,6 +1,8 @@
 // Feeds damaged memory to the entry points of the store and prints the replies. Three stores are made by calls; each case damages
 // the memory of one of them in one way, makes one call on it and compares what a refusal leaves with what was lent.
 ghost use Prim.Native.Nat.{_+_, _≤_};
+ghost use lib.ListN.{length};
+
 mod ask;
 mod case;
 mod damage;
@@ -26,7 +28,12 @@ fn run(
 {
     let mut at: usize = 0;
     while at < script.len() / 4 {
-        let ask = ask_of(script[4 * at], script[4 * at + 1], script[4 * at + 2], script[4 * at + 3]);
+        let ask = ask_of(
+            script[4 * at],
+            script[4 * at + 1],
+            script[4 * at + 2],
+            script[4 * at + 3],
+        );
         step(six, size, tables, log, ask, report);
         at += 1;
     }
@@ -89,6 +96,41 @@ fn at_random(
     random::history(six, size, tables, log, rows, report);
 }
 
+// The making of a store.
+fn making(six: Six, n: usize, t: &mut [u32], l: &[u8], report: &mut [u64; 160])
+    requires { ⌜ n ≤ length (now t) ⌝ }
+{
+    let out = [0u32; 128];
+    let answer = make(
+        six.arenas,
+        six.per,
+        six.pages,
+        six.records,
+        six.turn,
+        six.words,
+        &mut t[..n],
+        l,
+        &out,
+    );
+    report::add(report, answer, &out);
+}
+
+fn all(
+    six: Six,
+    size: Sizes,
+    tables: &[u32; 2048],
+    log: &[u8; 256],
+    asks: &[u8; 128],
+    rows: usize,
+    report: &mut [u64; 160],
+)
+    requires { ⌜ (1 ≤ size .tables) × (1 ≤ size .log) × (1 ≤ size .out) × (size .tables + 1 ≤ 2048) × (size .log + 1 ≤ 256) × (size .out + 1 ≤ 128) × (rows + 64 ≤ 2048) ⌝ }
+{
+    one_by_one(six, size, tables, log, asks, report);
+    by_the_call(six, size, tables, log, asks, report);
+    at_random(six, size, tables, log, asks, rows, report);
+}
+
 // A store made by a script, then all the damage. The block rows begin at number `rows` of the tables.
 fn subject(
     six: Six,
@@ -102,25 +144,10 @@ fn subject(
 {
     let mut tables = [7u32; 2048];
     let mut log = [9u8; 256];
-    let out = [0u32; 128];
     report::heading(report, b"store");
-    let a = size.tables;
-    let answer = make(
-        six.arenas,
-        six.per,
-        six.pages,
-        six.records,
-        six.turn,
-        six.words,
-        &mut tables[..a],
-        &log,
-        &out,
-    );
-    report::add(report, answer, &out);
+    making(six, size.tables, &mut tables, &log, report);
     run(six, size, script, &mut tables, &mut log, report);
-    one_by_one(six, size, &tables, &log, asks, report);
-    by_the_call(six, size, &tables, &log, asks, report);
-    at_random(six, size, &tables, &log, asks, rows, report);
+    all(six, size, &tables, &log, asks, rows, report);
 }
 
 fn six(arenas: usize, per: usize, pages: usize, records: usize, turn: usize, words: usize) -> Six {

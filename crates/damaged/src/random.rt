@@ -40,11 +40,10 @@ fn place(report: &mut [u64; 160], rows: usize) -> usize
     }
 }
 
-// The tables with one to four numbers changed.
-fn few_changed(tables: &[u32; 2048], rows: usize, report: &mut [u64; 160]) -> [u32; 2048]
+// One to four numbers of the tables become small ones.
+fn change_few(t: &mut [u32; 2048], rows: usize, report: &mut [u64; 160])
     requires { ⌜ rows + 64 ≤ 2048 ⌝ }
 {
-    let mut t = *tables;
     let changes = 1 + small(report) / 2;
     let mut j: usize = 0;
     while j < changes {
@@ -52,7 +51,6 @@ fn few_changed(tables: &[u32; 2048], rows: usize, report: &mut [u64; 160]) -> [u
         t[at] = small(report) as u32;
         j += 1;
     }
-    t
 }
 
 fn few_case(
@@ -66,7 +64,8 @@ fn few_case(
 )
     requires { ⌜ (size .tables ≤ 2048) × (size .log ≤ 256) × (size .out ≤ 128) × (rows + 64 ≤ 2048) ⌝ }
 {
-    let t = few_changed(tables, rows, report);
+    let mut t = *tables;
+    change_few(&mut t, rows, report);
     case(six, size, &t, log, ask, report);
 }
 
@@ -99,15 +98,13 @@ fn scattered(mask: u64, report: &mut [u64; 160]) -> u32 {
     0
 }
 
-// Tables with scattered small numbers behind the six numbers of the header.
-fn tables_scattered(tables: &[u32; 2048], mask: u64, report: &mut [u64; 160]) -> [u32; 2048] {
-    let mut t = *tables;
+// Scattered small numbers behind the six numbers of the header.
+fn scatter(t: &mut [u32; 2048], mask: u64, report: &mut [u64; 160]) {
     let mut i: usize = 6;
     while i < 2048 {
         t[i] = scattered(mask, report);
         i += 1;
     }
-    t
 }
 
 fn scattered_case(
@@ -120,7 +117,8 @@ fn scattered_case(
 )
     requires { ⌜ (size .tables ≤ 2048) × (size .log ≤ 256) × (size .out ≤ 128) ⌝ }
 {
-    let t = tables_scattered(tables, mask, report);
+    let mut t = *tables;
+    scatter(&mut t, mask, report);
     let log = [0u8; 256];
     case(six, size, &t, &log, ask, report);
 }
@@ -145,9 +143,8 @@ pub fn tables_at_random(
     sums(report);
 }
 
-// The log with one to four bytes changed.
-fn bytes_changed(log: &[u8; 256], report: &mut [u64; 160]) -> [u8; 256] {
-    let mut l = *log;
+// One to four bytes of the log become small ones.
+fn change_bytes(l: &mut [u8; 256], report: &mut [u64; 160]) {
     let changes = 1 + small(report) / 2;
     let mut j: usize = 0;
     while j < changes {
@@ -155,7 +152,6 @@ fn bytes_changed(log: &[u8; 256], report: &mut [u64; 160]) -> [u8; 256] {
         l[at] = small(report) as u8;
         j += 1;
     }
-    l
 }
 
 fn bytes_case(
@@ -168,7 +164,8 @@ fn bytes_case(
 )
     requires { ⌜ (size .tables ≤ 2048) × (size .log ≤ 256) × (size .out ≤ 128) ⌝ }
 {
-    let l = bytes_changed(log, report);
+    let mut l = *log;
+    change_bytes(&mut l, report);
     case(six, size, tables, &l, ask, report);
 }
 
