@@ -89,24 +89,28 @@ fn called(s: Six, t: &mut [u32], l: &mut [u8], out: &mut [u32], ask: Ask) -> Ans
     )
 }
 
-// The calls that name a page.
-fn by_page(s: Six, t: &mut [u32], l: &mut [u8], out: &mut [u32], ask: Ask) -> Answer {
+// W.
+fn written(s: Six, t: &mut [u32], l: &mut [u8], out: &mut [u32], ask: Ask) -> Answer {
+    letters::write(
+        s.arenas,
+        s.per,
+        s.pages,
+        s.records,
+        s.turn,
+        s.words,
+        t,
+        l,
+        out,
+        ask.n,
+        ask.page,
+        ask.kind,
+    )
+}
+
+// E and R.
+fn paged(s: Six, t: &mut [u32], l: &mut [u8], out: &mut [u32], ask: Ask) -> Answer {
     let letter = ask.letter;
     match letter {
-        b'W' => letters::write(
-            s.arenas,
-            s.per,
-            s.pages,
-            s.records,
-            s.turn,
-            s.words,
-            t,
-            l,
-            out,
-            ask.n,
-            ask.page,
-            ask.kind,
-        ),
         b'E' => letters::erase(
             s.arenas,
             s.per,
@@ -136,8 +140,8 @@ fn by_page(s: Six, t: &mut [u32], l: &mut [u8], out: &mut [u32], ask: Ask) -> An
     }
 }
 
-// The calls that name a record alone.
-fn by_record(s: Six, t: &mut [u32], l: &mut [u8], out: &mut [u32], ask: Ask) -> Answer {
+// S and F.
+fn lined(s: Six, t: &mut [u32], l: &mut [u8], out: &mut [u32], ask: Ask) -> Answer {
     let letter = ask.letter;
     match letter {
         b'S' => letters::seal(
@@ -152,19 +156,7 @@ fn by_record(s: Six, t: &mut [u32], l: &mut [u8], out: &mut [u32], ask: Ask) -> 
             out,
             ask.n,
         ),
-        b'F' => letters::fork(
-            s.arenas,
-            s.per,
-            s.pages,
-            s.records,
-            s.turn,
-            s.words,
-            t,
-            l,
-            out,
-            ask.n,
-        ),
-        _ => letters::delete(
+        _ => letters::fork(
             s.arenas,
             s.per,
             s.pages,
@@ -179,20 +171,26 @@ fn by_record(s: Six, t: &mut [u32], l: &mut [u8], out: &mut [u32], ask: Ask) -> 
     }
 }
 
-// The calls that name nothing.
-fn by_letter(s: Six, t: &mut [u32], l: &mut [u8], out: &mut [u32], letter: u8) -> Answer {
+// D.
+fn deleted(s: Six, t: &mut [u32], l: &mut [u8], out: &mut [u32], ask: Ask) -> Answer {
+    letters::delete(
+        s.arenas,
+        s.per,
+        s.pages,
+        s.records,
+        s.turn,
+        s.words,
+        t,
+        l,
+        out,
+        ask.n,
+    )
+}
+
+// Y and C.
+fn logged(s: Six, t: &mut [u32], l: &mut [u8], out: &mut [u32], ask: Ask) -> Answer {
+    let letter = ask.letter;
     match letter {
-        b'B' => letters::begin(
-            s.arenas,
-            s.per,
-            s.pages,
-            s.records,
-            s.turn,
-            s.words,
-            t,
-            l,
-            out,
-        ),
         b'Y' => letters::barrier(
             s.arenas,
             s.per,
@@ -204,7 +202,25 @@ fn by_letter(s: Six, t: &mut [u32], l: &mut [u8], out: &mut [u32], letter: u8) -
             l,
             out,
         ),
-        b'C' => letters::compress(
+        _ => letters::compress(
+            s.arenas,
+            s.per,
+            s.pages,
+            s.records,
+            s.turn,
+            s.words,
+            t,
+            l,
+            out,
+        ),
+    }
+}
+
+// B and L.
+fn bare(s: Six, t: &mut [u32], l: &mut [u8], out: &mut [u32], ask: Ask) -> Answer {
+    let letter = ask.letter;
+    match letter {
+        b'B' => letters::begin(
             s.arenas,
             s.per,
             s.pages,
@@ -233,9 +249,12 @@ fn by_letter(s: Six, t: &mut [u32], l: &mut [u8], out: &mut [u32], letter: u8) -
 fn lettered(s: Six, t: &mut [u32], l: &mut [u8], out: &mut [u32], ask: Ask) -> Answer {
     let letter = ask.letter;
     match letter {
-        b'W' | b'E' | b'R' => by_page(s, t, l, out, ask),
-        b'S' | b'F' | b'D' => by_record(s, t, l, out, ask),
-        _ => by_letter(s, t, l, out, letter),
+        b'W' => written(s, t, l, out, ask),
+        b'E' | b'R' => paged(s, t, l, out, ask),
+        b'S' | b'F' => lined(s, t, l, out, ask),
+        b'D' => deleted(s, t, l, out, ask),
+        b'Y' | b'C' => logged(s, t, l, out, ask),
+        _ => bare(s, t, l, out, ask),
     }
 }
 

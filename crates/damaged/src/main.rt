@@ -161,10 +161,8 @@ fn six(arenas: usize, per: usize, pages: usize, records: usize, turn: usize, wor
     }
 }
 
-fn main() {
-    let mut report = [0u64; 160];
-    report[6] = 1;
-    // Six records in three lines, five blocks on deadlists, a third of the log words used.
+// Six records in three lines, five blocks on deadlists, a third of the log words used.
+fn lines(report: &mut [u64; 160]) {
     subject(
         six(2, 4, 3, 7, 2, 24),
         Sizes {
@@ -175,9 +173,12 @@ fn main() {
         1936,
         b"B000W100W111W122S100W200Y000S200W311W302S300E420E410D200F100W500S500W601F500E710",
         b"B000W400W612W721W100W730W703W?00E400E600E610E720E200S400R3?0S700S100F100F300F500F400D100D300D400D600D700D500R310R710Y000C000L000",
-        &mut report,
+        report,
     );
-    // The left half of the listing of document 01; the right half is among the calls asked.
+}
+
+// The left half of the listing of document 01; the right half is among the calls asked.
+fn listing(report: &mut [u64; 160]) {
     subject(
         six(1, 4, 2, 4, 8, 10),
         Sizes {
@@ -188,9 +189,12 @@ fn main() {
         1120,
         b"B000W100S100W200W200F100D100",
         b"B000W200W210W220W300W311W100W203W?00E300E200E210E100E900S200S300S100S800F100F200F700D100D200D300D900R200R110R2?0R400Y000C000L000",
-        &mut report,
+        report,
     );
-    // All blocks held, all records in use, the log full.
+}
+
+// All blocks held, all records in use, the log full.
+fn full(report: &mut [u64; 160]) {
     subject(
         six(1, 2, 2, 2, 1, 6),
         Sizes {
@@ -201,7 +205,15 @@ fn main() {
         576,
         b"B000W100S100W200Y000Y000Y000Y000",
         b"B000W200W210W100W220W203W900E200E210E100E2?0E900S200S100S900F100F200F900D100D200D900R200R100R110R120R900Y000C000L000D?00R210S?00",
-        &mut report,
+        report,
     );
+}
+
+fn main() {
+    let mut report = [0u64; 160];
+    report[6] = 1;
+    lines(&mut report);
+    listing(&mut report);
+    full(&mut report);
     report::totals(&mut report);
 }
