@@ -4,6 +4,7 @@ pub mod Loops
 pub mod Arith
 pub mod Reading
 pub mod Writing
+pub mod Walking
 pub mod Compressing
 pub mod Tools
 pub mod RunsFacts
