@@ -1,43 +1,15 @@
--- The pairs that a listing of runs still has to write, by what stands at the next block, and where its loop stands.
+-- The pairs that a listing of runs still has to write, and where its loops stand.
 use mathlib.Core.Path.{_≡_, refl, sym, ap, _∙_, subst}
-use mathlib.Core.Bool.{Bool, true, false}
-use Prim.Native.Nat.{ℕ, zero, suc, _+_, _-_, _*_, _%_, _≤_, _<_}
-use native.Mathlib.Numerals.{add-one}
+use mathlib.Core.Bool.{Bool}
+use Prim.Native.Nat.{ℕ, zero, suc, _+_, _-_, _*_, _≤_, _<_}
 use native.Mathlib.Nat.{add-zero}
 use native.Mathlib.Omega.{arith}
 use mathlib.Core.List.{List, [], _∷_, _++_, append-nil}
-use borrow.Author.Tests.{eq-eqb, ne-eqb}
 use lib.ListN.{length, set, length-append}
 use lib.Seq.{sets, length-sets}
 use Rattle.log.specs.Runs.{Run, ending, runsFrom}
+use Rattle.log.proofs.Walking.{runs-none}
 use Rattle.model.specs.Calls.{pairs}
-
--- ── the runs that are left, by what stands at b ──
-
-module _ (per : ℕ) (t : ℕ → Bool) (b r n : ℕ) where
-  pub runs-end : n ≤ b → runsFrom per t b r (n - b) ≡ ending b r ++ []
-  unfolding runsFrom
-  runs-end h =
-      let e : n - b ≡ 0 = omega arith in
-      rw e (sym (append-nil (ending b r)))
-
-  pub runs-fails : b < n → t b ≡ false → runsFrom per t b r (n - b) ≡ ending b r ++ runsFrom per t (b + 1) 0 (n - (b + 1))
-  unfolding runsFrom
-  runs-fails h f =
-      let e : n - b ≡ suc (n - (b + 1)) = omega arith in
-      rw (e, f, add-one b)
-
-  pub runs-edge : b < n → t b ≡ true → b % per ≡ 0 → runsFrom per t b r (n - b) ≡ ending b r ++ runsFrom per t (b + 1) 1 (n - (b + 1))
-  unfolding runsFrom
-  runs-edge h f z =
-      let e : n - b ≡ suc (n - (b + 1)) = omega arith in
-      rw (e, f, eq-eqb (b % per) 0 z, add-one b)
-
-  pub runs-keep : b < n → t b ≡ true → (b % per ≡ 0 → ⊥) → runsFrom per t b r (n - b) ≡ runsFrom per t (b + 1) (r + 1) (n - (b + 1))
-  unfolding runsFrom
-  runs-keep h f z =
-      let e : n - b ≡ suc (n - (b + 1)) = omega arith in
-      rw (e, f, ne-eqb (b % per) 0 z, add-one b, add-one r)
 
 -- ── pairs, and their writing ──
 
@@ -63,47 +35,38 @@ sets-sets : (l v w : List ℕ) (i j : ℕ) → j ≡ i + length v → sets (sets
 sets-sets l [] w i j e = ap (λ k. sets l k w) (e ∙ add-zero i)
 sets-sets l (x ∷ v) w i j e = sets-sets (set l i x) v w (suc i) j (omega arith)
 
--- ── where the listing stands: the pairs that are left would complete it ──
+-- ── where the listing stands: the pairs that are left would complete it from `start` on ──
 
-module _ (out₀ : List ℕ) (per : ℕ) (t : ℕ → Bool) (n : ℕ) (all : List ℕ) where
-  -- the pairs for the blocks from b on, where r blocks of the same arena stand right before b and have no pair yet
-  abbrev left : ℕ → ℕ → List ℕ
-  left b r = pairs (runsFrom per t b r (n - b))
+-- the pairs for the blocks from b on, where r blocks of the same arena stand right before b and have no pair yet
+abbrev pub pairsFrom : ℕ → (ℕ → Bool) → ℕ → ℕ → ℕ → List ℕ
+pairsFrom per t b r n = pairs (runsFrom per t b r n)
 
+module _ (out₀ : List ℕ) (start per : ℕ) (t : ℕ → Bool) (n : ℕ) (all : List ℕ) where
   pub record Stands (out : List ℕ) (at r b : ℕ) : Type 0 where
     pub inside : b ≤ n
     pub behind : r ≤ b
     pub room : at + 2 * r ≤ 2 * b
     pub same : length out ≡ length out₀
-    pub count : at + length (left b r) ≡ length all
-    pub numbers : sets out at (left b r) ≡ sets out₀ 0 all
+    pub count : at + length (pairsFrom per t b r (n - b)) ≡ start + length all
+    pub numbers : sets out at (pairsFrom per t b r (n - b)) ≡ sets out₀ start all
 
-  -- writing the pair of the run, with the runs v left behind it
-  emit : (out out′ : List ℕ) (at at′ r b : ℕ) (v : List Run) → Stands out at r b → runsFrom per t b r (n - b) ≡ ending b r ++ v
-      → at′ ≡ at + length (pairs (ending b r)) → out′ ≡ sets out at (pairs (ending b r))
-      → (length out′ ≡ length out₀) × (at′ + length (pairs v) ≡ length all) × (sets out′ at′ (pairs v) ≡ sets out₀ 0 all)
-  emit out out′ at at′ r b v s e ea eo =
+  -- writing the pair of the run, after which no block right before b′ is left
+  pub turn-emit : (out out′ : List ℕ) (at at′ r b b′ : ℕ) → Stands out at r b → b ≤ b′ → b′ ≤ n
+      → runsFrom per t b r (n - b) ≡ ending b r ++ runsFrom per t b′ 0 (n - b′)
+      → at′ ≡ at + length (pairs (ending b r)) → out′ ≡ sets out at (pairs (ending b r)) → Stands out′ at′ 0 b′
+  turn-emit out out′ at at′ r b b′ s l k e ea eo =
       let p : List ℕ = pairs (ending b r) in
-      let is : left b r ≡ p ++ pairs v = ap pairs e ∙ pairs-append (ending b r) v in
-      let cnt : at + length (p ++ pairs v) ≡ length all = subst (λ (l : List ℕ). at + length l ≡ length all) is (s .count) in
-      let la : length (p ++ pairs v) ≡ length p + length (pairs v) = length-append p (pairs v) in (
-        ap length eo ∙ length-sets out at p ∙ s .same,
-        omega arith,
-        ap (λ (l : List ℕ). sets l at′ (pairs v)) eo ∙ sets-sets out p (pairs v) at at′ ea ∙ ap (sets out at) (sym is) ∙ s .numbers,
-      )
-
-  pub turn-emit : (out out′ : List ℕ) (at at′ r r′ b : ℕ) → Stands out at r b → b < n → r′ ≤ 1
-      → runsFrom per t b r (n - b) ≡ ending b r ++ runsFrom per t (b + 1) r′ (n - (b + 1))
-      → at′ ≡ at + length (pairs (ending b r)) → out′ ≡ sets out at (pairs (ending b r)) → Stands out′ at′ r′ (b + 1)
-  turn-emit out out′ at at′ r r′ b s l k e ea eo =
-      let w = emit out out′ at at′ r b (runsFrom per t (b + 1) r′ (n - (b + 1))) s e ea eo in
+      let v : List ℕ = pairsFrom per t b′ 0 (n - b′) in
+      let is : pairsFrom per t b r (n - b) ≡ p ++ v = ap pairs e ∙ pairs-append (ending b r) (runsFrom per t b′ 0 (n - b′)) in
+      let cnt : at + length (p ++ v) ≡ start + length all = subst (λ (l : List ℕ). at + length l ≡ start + length all) is (s .count) in
+      let la : length (p ++ v) ≡ length p + length v = length-append p v in
       record {
-        inside = omega arith;
+        inside = k;
         behind = omega arith;
         room = omega (arith, s .room, ending-length b r);
-        same = w .0;
-        count = w .1;
-        numbers = w .2;
+        same = ap length eo ∙ length-sets out at p ∙ s .same;
+        count = omega arith;
+        numbers = ap (λ (l : List ℕ). sets l at′ v) eo ∙ sets-sets out p v at at′ ea ∙ ap (sets out at) (sym is) ∙ s .numbers;
       }
 
   pub turn-keep : (out : List ℕ) (at r b : ℕ) → Stands out at r b → b < n
@@ -114,15 +77,29 @@ module _ (out₀ : List ℕ) (per : ℕ) (t : ℕ → Bool) (n : ℕ) (all : Lis
         behind = omega (arith, s .behind);
         room = omega (arith, s .room);
         same = s .same;
-        count = subst (λ (x : List Run). at + length (pairs x) ≡ length all) e (s .count);
+        count = subst (λ (x : List Run). at + length (pairs x) ≡ start + length all) e (s .count);
         numbers = ap (λ (x : List Run). sets out at (pairs x)) (sym e) ∙ s .numbers;
       }
 
-  -- the last run: all is written, at most two numbers a block
-  pub last-turn : (out out′ : List ℕ) (at at′ r b : ℕ) → Stands out at r b → n ≤ b
-      → at′ ≡ at + length (pairs (ending b r)) → out′ ≡ sets out at (pairs (ending b r))
-      → (at′ ≡ length all) × (out′ ≡ sets out₀ 0 all) × (length all ≤ 2 * n)
+  -- behind the last block all is written, at most two numbers a block
+  pub last-turn : (out : List ℕ) (at b : ℕ) → Stands out at 0 b → n ≤ b → (at ≡ start + length all) × (out ≡ sets out₀ start all) × (at ≤ 2 * n)
   unfolding pairs
-  last-turn out out′ at at′ r b s l ea eo =
-      let w = emit out out′ at at′ r b [] s (runs-end per t b r n l) ea eo in
-      (omega (arith, w .1), w .2, omega (arith, w .1, s .room, s .inside, ending-length b r))
+  last-turn out at b s l =
+      let e : pairsFrom per t b 0 (n - b) ≡ [] = ap pairs (runs-none per t b n l) in
+      let c : at + length (pairsFrom per t b 0 (n - b)) ≡ start + length all = s .count in
+      let z : length (pairsFrom per t b 0 (n - b)) ≡ 0 = ap length e in
+      (omega arith, ap (sets out at) (sym e) ∙ s .numbers, omega (arith, s .room, s .inside))
+
+-- what completes a listing from a later start on completes it from the earlier one
+pub through : (out₀ out₁ out₂ : List ℕ) (start per : ℕ) (t : ℕ → Bool) (n : ℕ) (all : List ℕ) (at₁ b₁ at₂ r b : ℕ)
+    → Stands out₀ start per t n all out₁ at₁ 0 b₁
+    → Stands out₁ at₁ per t n (pairsFrom per t b₁ 0 (n - b₁)) out₂ at₂ r b → Stands out₀ start per t n all out₂ at₂ r b
+through out₀ out₁ out₂ start per t n all at₁ b₁ at₂ r b s u =
+    record {
+      inside = u .inside;
+      behind = u .behind;
+      room = u .room;
+      same = u .same ∙ s .same;
+      count = u .count ∙ s .count;
+      numbers = u .numbers ∙ s .numbers;
+    }

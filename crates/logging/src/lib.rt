@@ -89,23 +89,24 @@ pub fn free_list(g: Geometry, t: &[u32], out: &mut [u32]) -> Answer
     ensures reply { λ r. ⌜ replyOf r (now (out .exit)) ≡ replied g (now (t .entry)) FreeList ⌝ }
     ensures out { λ r. ⌜ now (out .exit) ≡ outLeft g (now (t .entry)) (now (out .entry)) FreeList ⌝ }
 {
-    let blocks = g.arenas * g.per;
     let mut at: usize = 0;
-    let mut run: usize = 0;
     let mut b: usize = 0;
-    while b < blocks {
-        if t[32 + 272 * g.records + 8 * b] != 0 {
-            at = put_pair(out, at, b, run);
-            run = 0;
-            b += 1;
-        } else if b % g.per == 0 {
-            at = put_pair(out, at, b, run);
-            run = 1;
-            b += 1;
-        } else {
-            run += 1;
-            b += 1;
+    let mut arena: usize = 0;
+    while arena < g.arenas {
+        let edge = b + g.per;
+        let mut run: usize = 0;
+        while b < edge {
+            if t[32 + 272 * g.records + 8 * b] != 0 {
+                at = put_pair(out, at, b, run);
+                run = 0;
+                b += 1;
+            } else {
+                run += 1;
+                b += 1;
+            }
         }
+        at = put_pair(out, at, b, run);
+        arena += 1;
     }
-    Answer::Done(put_pair(out, at, b, run))
+    Answer::Done(at)
 }
