@@ -4,6 +4,7 @@ use mathlib.Core.Bool.{true, false, not}
 use mathlib.Core.List.{List}
 use Prim.Native.Nat.{ℕ, _+_, _*_, _<_}
 use native.Mathlib.Nat.{add-zero}
+use lib.Dec.{eqb}
 use lib.ListN.{getD}
 use borrow.Author.Tests.{eq-eqb, ne-eqb, lt-ltb}
 use Rattle.geometry.specs.declared.Geometry.{Geometry}
@@ -20,13 +21,9 @@ module _ (g : Geometry) (t : List ℕ) (b : ℕ) (h : b < blocks g) where
   unfolding stateOf viewOf field
   birth-is = rw (lt-ltb b (blocks g) h, add-zero (32 + 272 * g .records + 8 * b))
 
-  pub not-held : birth ≡ 0 → held (stateOf g t .view) b ≡ false
+  pub held-is : held (stateOf g t .view) b ≡ not (eqb birth 0)
   unfolding held
-  not-held e = ap not (eq-eqb (stateOf g t .view .birth b) 0 (birth-is ∙ e))
-
-  pub is-held : (birth ≡ 0 → ⊥) → held (stateOf g t .view) b ≡ true
-  unfolding held
-  is-held n = ap not (ne-eqb (stateOf g t .view .birth b) 0 (λ e. n (sym birth-is ∙ e)))
+  held-is = ap (λ (x : ℕ). not (eqb x 0)) birth-is
 
   pub is-free : birth ≡ 0 → available (stateOf g t .view) b ≡ true
   unfolding available

@@ -12,20 +12,15 @@ use Rattle.log.specs.Marks.{markOf, heldIn, marksFor}
 use Rattle.log.specs.Runs.{runsFrom, runs}
 use Rattle.log.specs.Compress.{runsWords}
 use Rattle.log.specs.Compress as log
-use Rattle.log.proofs.MarksFacts.{marks-skip, marks-held, held-by-mark}
+use Rattle.log.proofs.MarksFacts.{marks-held, held-by-mark}
 use Rattle.model.specs.Held.{held}
 use Rattle.model.specs.State.{State}
 use Rattle.model.specs.Calls.{compressed}
 
--- ── one mark more ──
-
-module _ (t : ℕ → Bool) (m : List ℕ) (b : ℕ) (e : m ≡ marksFor t b) where
-  pub mark-none : t b ≡ false → m ≡ marksFor t (b + 1)
-  mark-none f = e ∙ marks-skip t b f ∙ ap (marksFor t) (sym (add-one b))
-
-  pub mark-one : t b ≡ true → set m b 1 ≡ marksFor t (b + 1)
-  unfolding marksFor
-  mark-one f = ap (λ (l : List ℕ). set l b 1) e ∙ ap (λ (x : Bool). set (marksFor t b) b (markOf x)) (sym f) ∙ ap (marksFor t) (sym (add-one b))
+-- one mark more
+pub mark-next : (t : ℕ → Bool) (m : List ℕ) (b x : ℕ) → m ≡ marksFor t b → x ≡ markOf (t b) → set m b x ≡ marksFor t (b + 1)
+unfolding marksFor
+mark-next t m b x e f = ap (λ (l : List ℕ). set l b x) e ∙ ap (set (marksFor t b) b) f ∙ ap (marksFor t) (sym (add-one b))
 
 -- ── the compressed log ──
 

@@ -2,11 +2,13 @@
 ghost use mathlib.Core.Path.{_≡_};
 ghost use mathlib.Core.List.{List};
 ghost use Prim.Native.Nat.{ℕ, _+_, _*_, _≤_};
+ghost use mathlib.Core.Bool.{not};
+ghost use lib.Dec.{eqb};
 ghost use lib.ListN.{length};
 ghost use lib.Seq.{sets};
 ghost use Rattle.answer.specs.Reply.{replyOf};
 ghost use Rattle.geometry.specs.Limits.{blocks};
-ghost use Rattle.log.specs.Marks.{marksFor};
+ghost use Rattle.log.specs.Marks.{markOf, marksFor};
 ghost use Rattle.log.specs.Runs.{ending};
 ghost use Rattle.model.specs.Held.{held};
 ghost use Rattle.model.specs.Layout.{stateOf};
@@ -36,6 +38,13 @@ pub fn barrier(g: Geometry, t: &mut [u32], log: &mut [u8]) -> Answer
     Answer::Done(0)
 }
 
+// The mark of a block by its birth.
+fn mark_by(birth: u32) -> u8
+    ensures { λ r. ⌜ r ≡ markOf (not (eqb birth 0)) ⌝ }
+{
+    if birth == 0 { 0 } else { 1 }
+}
+
 // A mark for each block: 1 is held, 0 is free.
 fn marks_of(t: &[u32], g: Geometry) -> [u8; 2048]
     requires { ⌜ Roomy g (now t) ⌝ }
@@ -45,12 +54,8 @@ fn marks_of(t: &[u32], g: Geometry) -> [u8; 2048]
     let blocks = g.arenas * g.per;
     let mut b: usize = 0;
     while b < blocks {
-        if t[32 + 272 * g.records + 8 * b] == 0 {
-            b += 1;
-        } else {
-            marks[b] = 1;
-            b += 1;
-        }
+        marks[b] = mark_by(t[32 + 272 * g.records + 8 * b]);
+        b += 1;
     }
     marks
 }
