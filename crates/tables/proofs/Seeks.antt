@@ -1,7 +1,7 @@
 -- A search of slots as a loop goes through them: what is left of it has the result of the whole.
 use mathlib.Core.Path.{_≡_, refl, sym, _∙_}
 use mathlib.Core.Bool.{Bool, true, false, _&&_}
-use Prim.Native.Nat.{ℕ, suc, _+_, _-_, _≤_, _<_}
+use Prim.Native.Nat.{ℕ, zero, suc, _+_, _-_, _≤_, _<_}
 use native.Mathlib.Omega.{arith}
 use native.Mathlib.Numerals.{add-one}
 use lib.Dec.{eqb, ltb}
@@ -13,6 +13,14 @@ use Rattle.model.specs.Table.{seek}
 use Rattle.model.specs.Actions.{slotOf, vacant, follower, forked}
 use Rattle.model.specs.Layout.{recordCell, viewOf}
 use Rattle.tables.proofs.Fields
+
+and-false : (x : Bool) → (x && false) ≡ false
+and-false true = refl
+and-false false = refl
+
+and-true : (x : Bool) → x ≡ (x && true)
+and-true true = refl
+and-true false = refl
 
 pub seek-start : (c : ℕ → Bool) (R : ℕ) → seek c 0 (R - 0) ≡ seek c 0 R
 seek-start c R = let e : R - 0 ≡ R = omega arith in rw e
@@ -49,10 +57,6 @@ module _ (g : Geometry) (t : List ℕ) where
   -- the same test of the tables' own numbers
   abbrev pub cellHas : ℕ → ℕ → ℕ → Bool
   cellHas f v n = ltb 0 (getD t (Fields.numCell n) 0) && eqb (getD t (recordCell n f) 0) v
-
-  -- the number of a record, as number 0 of its row
-  pub num-row : (s : ℕ) → s < g .records → viewOf g t .num s ≡ getD t (recordCell s 0) 0
-  num-row s h = rw Fields.num-cell (Fields.num-is g t s h)
 
   pub slot-start : (n : ℕ) → seek (has (viewOf g t .num) n) 0 (g .records - 0) ≡ slotOf (viewOf g t) n
   unfolding slotOf
@@ -94,11 +98,42 @@ module _ (g : Geometry) (t : List ℕ) where
     pub empty-next : (getD t (Fields.numCell s) 0 ≡ 0 → ⊥) → seek empty (s + 1) (g .records - (s + 1)) ≡ z
     empty-next n = seek-next empty s (g .records) z left h (ne-eqb (viewOf g t .num s) 0 (λ e. n (sym (Fields.num-is g t s h) ∙ e)))
 
+-- ── the record of number n is in slot s ──
+
+none-numbered : (x : ℕ) → (ltb 0 x && eqb x 0) ≡ false
+none-numbered zero = refl
+none-numbered (suc x) = rw (ne-eqb (suc x) 0 (λ e. absurd (let z : ⊥ = omega arith in z))) (and-false (ltb 0 (suc x)))
+
+seek-none : (c : ℕ → Bool) (s n : ℕ) → ((i : ℕ) → c i ≡ false) → seek c s n ≡ 0
+unfolding seek
+seek-none c s zero f = refl
+seek-none c s (suc n) f = rw (seek, f s) (seek-none c (suc s) n f)
+
+module _ (g : Geometry) (t : List ℕ) where
+  -- no record has the number 0
+  pub slot-zero : (n : ℕ) → n ≡ 0 → 0 ≡ slotOf (viewOf g t) n
+  unfolding slotOf
+  slot-zero n e =
+      rw e (sym (seek-none (has g t (viewOf g t .num) 0) 0 (viewOf g t .slots) (λ i. none-numbered (viewOf g t .num i))))
+
+  module _ (n s z : ℕ) (left : seek (has g t (viewOf g t .num) n) s (g .records - s) ≡ z) (h : s < g .records) where
+    pub number-here : (n ≡ 0 → ⊥) → getD t (Fields.numCell s) 0 ≡ n → s + 1 ≡ z
+    number-here d e =
+        let i : viewOf g t .num s ≡ n = Fields.num-is g t s h ∙ e in
+        seek-here (has g t (viewOf g t .num) n) s (g .records) z left h
+        (rw (i, lt-ltb 0 n (omega arith)) (eq-eqb n n refl))
+
+    pub number-next : (getD t (Fields.numCell s) 0 ≡ n → ⊥) → seek (has g t (viewOf g t .num) n) (s + 1) (g .records - (s + 1)) ≡ z
+    number-next d =
+        seek-next (has g t (viewOf g t .num) n) s (g .records) z left h
+        (rw (ne-eqb (viewOf g t .num s) n (λ e. d (sym (Fields.num-is g t s h) ∙ e))) (and-false (ltb 0 (viewOf g t .num s))))
+
 -- the number of a slot, as `row_has` tells it
 module _ (t : List ℕ) (s f v : ℕ) where
-  pub row-empty : getD t (Fields.numCell s) 0 ≡ 0 → false ≡ (ltb 0 (getD t (Fields.numCell s) 0) && eqb (getD t (recordCell s f) 0) v)
-  row-empty e = rw e
+  pub row-other : (r : ℕ) → r ≡ getD t (recordCell s f) 0 → (r ≡ v → ⊥)
+      → false ≡ (ltb 0 (getD t (Fields.numCell s) 0) && eqb (getD t (recordCell s f) 0) v)
+  row-other r e d = rw (ne-eqb (getD t (recordCell s f) 0) v (λ i. d (e ∙ i))) (sym (and-false (ltb 0 (getD t (Fields.numCell s) 0))))
 
-  pub row-used : (r : ℕ) → (getD t (Fields.numCell s) 0 ≡ 0 → ⊥) → r ≡ getD t (recordCell s f) 0 →
-      eqb r v ≡ (ltb 0 (getD t (Fields.numCell s) 0) && eqb (getD t (recordCell s f) 0) v)
-  row-used r n e = rw (lt-ltb 0 (getD t (Fields.numCell s) 0) (omega arith), e)
+  pub row-same : (r : ℕ) → r ≡ getD t (recordCell s f) 0 → r ≡ v
+      → ltb 0 (getD t (Fields.numCell s) 0) ≡ (ltb 0 (getD t (Fields.numCell s) 0) && eqb (getD t (recordCell s f) 0) v)
+  row-same r e d = rw (eq-eqb (getD t (recordCell s f) 0) v (sym e ∙ d)) (and-true (ltb 0 (getD t (Fields.numCell s) 0)))

@@ -16,26 +16,29 @@ pub fn wide(x: u32) -> usize
     x as usize
 }
 
-// Whether a record is in slot s and number f of its row is v.
+// Whether a record is in slot s and number f of its row is v. Few slots have such a number: that is tested first.
 fn row_has(t: &[u32], g: Geometry, s: usize, f: usize, v: usize) -> bool
     requires { ⌜ Roomy g (now t) × (s < g .records) × (f < 272) ⌝ }
     ensures { λ r. ⌜ r ≡ (ltb 0 (getD (now (t .entry)) (32 + 272 * s) 0) && eqb (getD (now (t .entry)) (recordCell s f) 0) v) ⌝ }
 {
-    if t[32 + 272 * s] == 0 {
+    if wide(t[32 + 272 * s + f]) != v {
         return false;
     }
-    wide(t[32 + 272 * s + f]) == v
+    0 < t[32 + 272 * s]
 }
 
-// The slot of the record of number n.
+// The slot of the record of number n. No record has the number 0.
 pub fn slot_of(t: &[u32], g: Geometry, n: u32) -> usize
     requires { ⌜ Roomy g (now t) ⌝ }
     ensures is { λ r. ⌜ r ≡ slotOf (viewOf g (now (t .entry))) n ⌝ }
     ensures range { λ r. ⌜ r ≤ g .records ⌝ }
 {
+    if n == 0 {
+        return 0;
+    }
     let mut s: usize = 0;
     while s < g.records {
-        if row_has(t, g, s, 0, wide(n)) {
+        if t[32 + 272 * s] == n {
             return s + 1;
         }
         s += 1;

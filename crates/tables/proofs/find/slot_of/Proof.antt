@@ -16,20 +16,31 @@ Inv-loop t g n s₀ s = (s ≤ g .records) × (seek (Seeks.has g t (viewOf g t .
 abbrev μ-loop : tie.MeasureT-loop
 μ-loop t g n s₀ s = g .records - s
 
+returns : tie.Need-returns Inv-loop μ-loop
+returns c = (Seeks.slot-zero _ _ _ (c .if1 .taken), omega arith)
+
 loop-holds : tie.Need-loop-holds Inv-loop μ-loop
 loop-holds c = (omega arith, Seeks.slot-start _ _ _)
 
-wide-requires : tie.Need-wide-requires Inv-loop μ-loop
-wide-requires c κs = search needs
+mul-if3 : tie.Need-mul-if3 Inv-loop μ-loop
+mul-if3 c = search needs
 
-row-has-requires : tie.Need-row-has-requires Inv-loop μ-loop
-row-has-requires c κs = search needs
+add-if3 : tie.Need-add-if3 Inv-loop μ-loop
+add-if3 c = search needs
+
+mul-if3-2 : tie.Need-mul-if3-2 Inv-loop μ-loop
+mul-if3-2 c = search needs
+
+shared-slice-read-if3 : tie.Need-shared-slice-read-if3 Inv-loop μ-loop
+shared-slice-read-if3 c = search needs
 
 add-result : tie.Need-add-result Inv-loop μ-loop
 add-result c = search needs
 
-returns : tie.Need-returns Inv-loop μ-loop
-returns c = (Seeks.has-here _ _ 0 _ (Seeks.num-row _ _) _ _ _ (c .before .before .before .before .before .loop .inv .1) (c .before .before .before .if1 .taken) _ _ (c .before .row-has .ensures) (c .before .before .wide .ensures) (c .if2 .taken), omega arith)
+returns-2 : tie.Need-returns-2 Inv-loop μ-loop
+returns-2 c =
+    let d = c .before .before .before .before in
+    (Seeks.number-here _ _ _ _ _ (d .loop .inv .1) (c .before .before .if2 .taken) (d .before .if1 .left) (c .if3 .taken), omega arith)
 
 add-s : tie.Need-add-s Inv-loop μ-loop
 add-s c = search needs
@@ -38,10 +49,10 @@ loop-less : tie.Need-loop-less Inv-loop μ-loop
 loop-less c = search needs
 
 loop-again : tie.Need-loop-again Inv-loop μ-loop
-loop-again c = (omega arith, Seeks.has-next _ _ 0 _ (Seeks.num-row _ _) _ _ _ (c .before .before .before .before .before .loop .inv .1) (c .before .before .before .if1 .taken) _ _ (c .before .row-has .ensures) (c .before .before .wide .ensures) (c .if2 .left))
+loop-again c = (omega arith, Seeks.number-next _ _ _ _ _ (c .before .before .before .before .loop .inv .1) (c .before .before .if2 .taken) (c .if3 .left))
 
-returns-2 : tie.Need-returns-2 Inv-loop μ-loop
-returns-2 c = (Seeks.seek-end _ _ _ _ (c .before .before .loop .inv .1) (c .if1 .left), omega arith)
+returns-3 : tie.Need-returns-3 Inv-loop μ-loop
+returns-3 c = (Seeks.seek-end _ _ _ _ (c .before .before .loop .inv .1) (c .if2 .left), omega arith)
 
 pub slot-of-spec : {M : Type 1} → statement M
 slot-of-spec =
@@ -49,12 +60,15 @@ slot-of-spec =
     (tie.spec
     Inv-loop
     μ-loop
-    loop-holds
-    wide-requires
-    row-has-requires
-    add-result
     returns
+    loop-holds
+    mul-if3
+    add-if3
+    mul-if3-2
+    shared-slice-read-if3
+    add-result
+    returns-2
     add-s
     loop-less
     loop-again
-    returns-2)
+    returns-3)
