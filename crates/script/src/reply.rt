@@ -1,6 +1,6 @@
 // Replies as text: `+` and the result's numbers, or `-` and the refusal.
 ghost use mathlib.Core.Path.{_≡_};
-ghost use Prim.Native.Nat.{_+_, _≤_};
+ghost use Prim.Native.Nat.{_+_, _<_, _≤_};
 ghost use mathlib.Core.List.{[], _∷_};
 ghost use lib.ListN.{length};
 ghost use Rattle.log.specs.Word.{writeAt};
@@ -23,12 +23,63 @@ fn put_digits(text: &mut [u8], at: usize, n: u32) -> usize
     end + 1
 }
 
-// Writes a space and a number at a position; returns the position behind them.
+// Writes a number of one digit at a position; returns the position behind it.
+fn put_one(text: &mut [u8], at: usize, n: u32) -> usize
+    requires { ⌜ (n < 10) × (at + length (decimal n) ≤ length (now text)) ⌝ }
+    ensures { λ r. ⌜ (r ≡ at + length (decimal n)) × (now (text .exit) ≡ writeAt (now (text .entry)) at (decimal n)) ⌝ }
+{
+    text[at] = 48 + n as u8;
+    at + 1
+}
+
+// Writes a number of two digits at a position; returns the position behind it.
+fn put_two(text: &mut [u8], at: usize, n: u32) -> usize
+    requires { ⌜ (10 ≤ n) × (n < 100) × (at + length (decimal n) ≤ length (now text)) ⌝ }
+    ensures { λ r. ⌜ (r ≡ at + length (decimal n)) × (now (text .exit) ≡ writeAt (now (text .entry)) at (decimal n)) ⌝ }
+{
+    let end = put_one(text, at, n / 10);
+    text[end] = 48 + (n % 10) as u8;
+    end + 1
+}
+
+// Writes a number of three digits at a position; returns the position behind it.
+fn put_three(text: &mut [u8], at: usize, n: u32) -> usize
+    requires { ⌜ (100 ≤ n) × (n < 1000) × (at + length (decimal n) ≤ length (now text)) ⌝ }
+    ensures { λ r. ⌜ (r ≡ at + length (decimal n)) × (now (text .exit) ≡ writeAt (now (text .entry)) at (decimal n)) ⌝ }
+{
+    let end = put_two(text, at, n / 10);
+    text[end] = 48 + (n % 10) as u8;
+    end + 1
+}
+
+// Writes a number of four digits at a position; returns the position behind it.
+fn put_four(text: &mut [u8], at: usize, n: u32) -> usize
+    requires { ⌜ (1000 ≤ n) × (n < 10000) × (at + length (decimal n) ≤ length (now text)) ⌝ }
+    ensures { λ r. ⌜ (r ≡ at + length (decimal n)) × (now (text .exit) ≡ writeAt (now (text .entry)) at (decimal n)) ⌝ }
+{
+    let end = put_three(text, at, n / 10);
+    text[end] = 48 + (n % 10) as u8;
+    end + 1
+}
+
+// Writes a space and a number at a position; returns the position behind them. Block numbers have at most four digits: those need no loop.
 fn put_number(text: &mut [u8], at: usize, n: u32) -> usize
     requires { ⌜ at + 11 ≤ length (now text) ⌝ }
     ensures { λ r. ⌜ (r ≡ at + length (spaced (n ∷ []))) × (r ≤ at + 11) × (now (text .exit) ≡ writeAt (now (text .entry)) at (spaced (n ∷ []))) ⌝ }
 {
     text[at] = 32;
+    if n < 10 {
+        return put_one(text, at + 1, n);
+    }
+    if n < 100 {
+        return put_two(text, at + 1, n);
+    }
+    if n < 1000 {
+        return put_three(text, at + 1, n);
+    }
+    if n < 10000 {
+        return put_four(text, at + 1, n);
+    }
     put_digits(text, at + 1, n)
 }
 
