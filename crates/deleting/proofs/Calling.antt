@@ -1,15 +1,16 @@
 -- The call D: what it asks of its parts once it is accepted, and that what they leave is what the model says.
 use mathlib.Core.Path.{_≡_, refl, sym, ap, ap₂, _∙_, subst}
-use mathlib.Core.Bool.{false, _&&_}
+use mathlib.Core.Bool.{false, cond, _&&_}
 use mathlib.Core.List.{List, map}
 use Prim.Native.Nat.{ℕ, zero, suc, _+_, _-_, _*_, _≤_, _<_}
 use native.Mathlib.Omega.{arith}
 use lib.Dec.{eqb, ltb}
 use lib.ListN.{length, getD, set, take, drop}
 use lib.Seq.{sets, sets-eq, take-at, length-sets}
-use borrow.Author.Tests.{ltb-false}
+use borrow.Author.Tests.{eq-eqb, ne-eqb, le-ltb, ltb-false}
 use Rattle.answer.specs.Reply.{accepted, refused, replyOf}
 use Rattle.answer.specs.declared.Answer.the-variants.{Done, Refused}
+use Rattle.answer.proofs.Cases.{cases, same?}
 use Rattle.answer.proofs.Decided.{decide-accepts}
 use Rattle.geometry.specs.declared.Geometry.{Geometry}
 use Rattle.geometry.specs.Limits.{blocks}
@@ -37,6 +38,8 @@ use Rattle.tables.proofs.Steps.{Holds, step-used}
 use Rattle.deleting.specs.Verdict.{verdictOf}
 use Rattle.deleting.specs.declared.delete.Verdict.{Verdict}
 use Rattle.deleting.specs.declared.delete.Verdict.the-variants.{Accept}
+use Rattle.deleting.proofs.Counting.{unlinked-short}
+use Rattle.deleting.proofs.Pruning.{pruned-short}
 use Rattle.deleting.proofs.Frames.{framed, held-first}
 use Rattle.deleting.proofs.Logging.{freed, map-length}
 use Rattle.deleting.proofs.Verdicts.{ready-fine, acceptance}
@@ -53,6 +56,23 @@ module _ (g : Geometry) (t : List ℕ) (s : ℕ) where
   unfolding deleted
   deleted-next zero n = absurd (n refl)
   deleted-next (suc f) n = ap (unlinked (viewOf g t) s) (omega arith)
+
+  -- no more than there are pages, or entries of the sequence
+  deleted-most : (f : ℕ) → length (deleted (viewOf g t) s f) ≤ cond (eqb f 0) (g .pages) (getD t 10 0)
+  deleted-most f =
+      cases (same? f 0)
+      (λ z. rw (eq-eqb f 0 z) (omega (arith, ap length (deleted-last f z), pruned-short (viewOf g t) s (g .pages))))
+      (λ n. rw (ne-eqb f 0 n) (omega (arith, ap length (deleted-next f n), unlinked-short (viewOf g t) s (f - 1), Fields.seq-length g t)))
+
+  -- w words are used
+  module _ (f w : ℕ) (ew : w ≡ getD t 9 0) where
+    pub never-short : (m : ℕ) → m ≡ cond (eqb f 0) (g .pages) (getD t 10 0) → m ≤ g .words - w →
+        false ≡ ltb (g .words - getD t 9 0) (length (deleted (viewOf g t) s f))
+    never-short m em h = sym (le-ltb (g .words - getD t 9 0) (length (deleted (viewOf g t) s f)) (omega (arith, deleted-most f, em, ew)))
+
+    pub counted-short : (c : ℕ) → c ≡ length (deleted (viewOf g t) s f) →
+        ltb (g .words - w) c ≡ ltb (g .words - getD t 9 0) (length (deleted (viewOf g t) s f))
+    counted-short c ec = ap₂ (λ v d. ltb (g .words - v) d) ew ec
 
   pub delete-last : (f : ℕ) → f ≡ 0 → prune (viewOf g t) s ≡ deleteAt (viewOf g t) s f
   unfolding deleteAt

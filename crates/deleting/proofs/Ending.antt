@@ -1,7 +1,7 @@
 -- The stages of a deletion one behind the other make what the model says.
 use mathlib.Core.Path.{_≡_, refl, sym, ap, ap₂, _∙_, fun-ext}
 use mathlib.Core.Bool.{Bool, cond, not, _&&_}
-use mathlib.Core.List.{List, [], _∷_, _++_}
+use mathlib.Core.List.{List, _++_}
 use Prim.Native.Nat.{ℕ, zero, suc, _+_, _*_, _≤_, _<_}
 use native.Mathlib.Omega.{arith}
 use lib.Dec.{eqb, ltb}
@@ -13,7 +13,7 @@ use Rattle.geometry.specs.Limits.{blocks}
 use Rattle.model.specs.Lists.{keepIf}
 use Rattle.model.specs.View.{View, predNum}
 use Rattle.model.specs.State.{State}
-use Rattle.model.specs.Effects.{goes, lost, unlink, prune}
+use Rattle.model.specs.Effects.{goes, lost, unlink, unlinked, prune}
 use Rattle.model.specs.Held.{youngAt, pruned}
 use Rattle.model.specs.Layout.{viewOf, stateOf, stored}
 use Rattle.model.proofs.Shape.{Shaped}
@@ -26,12 +26,8 @@ use Rattle.tables.proofs.Steps.{Holds, step, step-to, step-num-at, step-prev}
 use Rattle.tables.proofs.Reading.{reads-prev}
 use Rattle.deleting.specs.Walks.{Walkable, Paged}
 use Rattle.deleting.specs.Stages.{walked, joined, joinedBirth, joinedDead, dropped, droppedDead, onList, pageColumn, moved, freedYoung}
+use Rattle.deleting.proofs.Counting.{keep-short}
 use Rattle.deleting.proofs.Frames.{framed, walkable, paged, held-first, says-view, walkable-held, paged-held}
-
-keep-short : (c : ℕ → Bool) (l : List ℕ) → length (keepIf c l) ≤ length l
-unfolding keepIf
-keep-short c [] = omega arith
-keep-short c (b ∷ l) = cases (either (c b)) (λ y. rw y (let h = keep-short c l in omega arith)) (λ n. rw n (let h = keep-short c l in omega arith))
 
 -- the shape of each stage
 module _ (g : Geometry) (T : State) (S : Shaped g T) where
@@ -171,6 +167,10 @@ module _ {g : Geometry} {t₀ : List ℕ} (R : Ready g t₀) (s : ℕ) (live : 0
       pub next-pred : predNum (viewOf g t₁) s ≡ predNum (viewOf g t₀) s
       unfolding moved withFates stateOf
       next-pred = ap (λ L. predNum L s) (says-view (framed R) moved-held)
+
+      pub next-unlinked : unlinked (viewOf g t₁) s n ≡ unlinked (viewOf g t₀) s n
+      unfolding unlinked goes moved withFates stateOf
+      next-unlinked = ap (λ L. unlinked L s n) (says-view (framed R) moved-held)
 
       joined-held : (t₂ : List ℕ) → t₂ ≡ stored g (joined (stateOf g t₁) s n) t₁ → Holds g t₀ (joined (moved T s n) s n) t₂
       unfolding moved withFates

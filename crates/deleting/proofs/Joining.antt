@@ -1,12 +1,13 @@
 -- The two walks along the deadlists' sequence, store by store: shards join, or a deadlist is dropped.
-use mathlib.Core.Path.{_≡_, refl, sym, ap, _∙_}
+use mathlib.Core.Path.{_≡_, refl, sym, ap, _∙_, subst}
 use mathlib.Core.Bool.{Bool, true, false, cond, _&&_}
-use mathlib.Core.List.{List}
+use mathlib.Core.List.{List, _∷_}
 use Prim.Native.Nat.{ℕ, suc, _+_, _*_, _≤_, _<_}
 use native.Mathlib.Omega.{arith}
 use native.Mathlib.Numerals.{add-one}
 use lib.Dec.{eqb, ltb}
-use lib.ListN.{getD, set}
+use lib.ListN.{length, getD, set}
+use lib.Seq.{getD-set-other}
 use borrow.Author.Tests.{ne-eqb}
 use Rattle.geometry.specs.declared.Geometry.{Geometry}
 use Rattle.geometry.specs.Limits.{blocks}
@@ -16,10 +17,12 @@ use Rattle.model.specs.Effects.{goes}
 use Rattle.model.specs.Layout.{blockCell, viewOf, stateOf, stored}
 use Rattle.model.proofs.TabFacts.{put-at, put-other}
 use Rattle.tables.specs.Puts.{withBirth, withDead, withFates, withSeq}
+use Rattle.tables.proofs.Fields
 use Rattle.tables.proofs.Steps.{step-birth-at, step-dead}
 use Rattle.tables.proofs.Entries.{step-entry}
 use Rattle.deleting.specs.Walks.{Walkable}
 use Rattle.deleting.specs.Stages.{joined, joinedBirth, joinedDead, dropped, droppedDead, onList}
+use Rattle.deleting.proofs.Counting.{gone, gone-next, gone-past}
 use Rattle.deleting.proofs.Walk.{Walking, walk-start, walk-in, walk-is, walk-dead, walk-birth, walk-old, walk-room, walk-kept, walk-drop, walk-keep, walk-end}
 
 -- ── the shards of s join those of n, but those that are freed ──
@@ -97,11 +100,18 @@ module _ (g : Geometry) (t₀ : List ℕ) (W : Walkable g t₀) (s n p : ℕ) (e
           (ap (goes K s n) (sym is) ∙ q) _
           (step-dead g t₀ (W .frame .roomy) (step-birth-at g t₀ (W .frame .roomy) (w .holds) b 0 joins-in) b 0 joins-in)
 
-      pub joins-keep : r ≡ false → (v : ℕ) →
+      -- those from entry i on that are freed
+      pub joins-frees : r ≡ true → gone (viewOf g t₀) s n i ≡ b ∷ gone (viewOf g t₀) s n (i + 1)
+      joins-frees y = gone-next K s n i b (omega (arith, Fields.seq-length g t₀)) (sym is) (goes-is ∙ y)
+
+      pub joins-spares : r ≡ false → gone (viewOf g t₀) s n i ≡ gone (viewOf g t₀) s n (i + 1)
+      joins-spares m = gone-past K s n i b (omega (arith, Fields.seq-length g t₀)) (sym is) (goes-is ∙ m)
+
+      keeps : r ≡ false → (v : ℕ) →
           v ≡ cond (eqb (getD t (32 + 272 * g .records + 8 * b + 3) 0) (s + 1)) (n + 1) (getD t (32 + 272 * g .records + 8 * b + 3) 0) →
           Joins (i + 1) (k + 1) (set (set t (32 + 272 * g .records + 8 * b + 3) v) (32 + 272 * g .records + 8 * k + 4) b)
       unfolding withDead withSeq withFates
-      joins-keep m v ev =
+      keeps m v ev =
           let q : goes K s n b ≡ false = goes-is ∙ m in
           let vd : v ≡ joinedDead K s n b = ev ∙ rw (dead-was, add-one s, add-one n) (sym (dead-kept K s n b q)) in
           let vb : w .births (getD (K .seq) i 0) ≡ joinedBirth K s n (getD (K .seq) i 0) =
@@ -112,6 +122,19 @@ module _ (g : Geometry) (t₀ : List ℕ) (W : Walkable g t₀) (s n p : ℕ) (e
           (ap (goes K s n) (sym is) ∙ q) _
           (rw (← is) (step-entry g t₀ (W .frame .roomy) (step-dead g t₀ (W .frame .roomy) (w .holds) b v joins-in) k b
           (walk-room g t₀ W (goes K s n) (joinedBirth K s n) (joinedDead K s n) w more)))
+
+      -- its owner is stored, then its entry
+      pub joins-keep : r ≡ false → (t₁ : List ℕ) →
+          t₁ ≡ set t (32 + 272 * g .records + 8 * b + 3) (cond (eqb (getD t (32 + 272 * g .records + 8 * b + 3) 0) (s + 1)) (n + 1) (getD t (32 + 272 * g .records + 8 * b + 3) 0)) →
+          (t₂ : List ℕ) → t₂ ≡ set t₁ (32 + 272 * g .records + 8 * k + 4) (getD t₁ (32 + 272 * g .records + 8 * i + 4) 0) →
+          Joins (i + 1) (k + 1) t₂
+      joins-keep m t₁ e₁ t₂ e₂ =
+          let v : ℕ = cond (eqb (getD t (32 + 272 * g .records + 8 * b + 3) 0) (s + 1)) (n + 1) (getD t (32 + 272 * g .records + 8 * b + 3) 0) in
+          let d : getD t₁ (32 + 272 * g .records + 8 * i + 4) 0 ≡ b =
+          ap (λ u. getD u (32 + 272 * g .records + 8 * i + 4) 0) e₁ ∙
+          getD-set-other t (32 + 272 * g .records + 8 * b + 3) (32 + 272 * g .records + 8 * i + 4) v 0 (λ x. let z : ⊥ = omega arith in z) ∙ sym e in
+          let w₂ : Joins (i + 1) (k + 1) (set (set t (32 + 272 * g .records + 8 * b + 3) v) (32 + 272 * g .records + 8 * k + 4) b) = keeps m v refl in
+          subst (Joins (i + 1) (k + 1)) (sym (e₂ ∙ ap (set t₁ (32 + 272 * g .records + 8 * k + 4)) d ∙ ap (λ u. set u (32 + 272 * g .records + 8 * k + 4) b) e₁)) w₂
 
   pub joins-end : {i k : ℕ} {t : List ℕ} → Joins i k t → getD t₀ 10 0 ≤ i → set t 10 k ≡ stored g (joined (stateOf g t₀) s n) t₀
   unfolding joined stateOf

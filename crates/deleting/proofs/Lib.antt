@@ -2,10 +2,10 @@
 pub mod Tests
 pub mod Frames
 pub mod Walk
+pub mod Counting
 pub mod Joining
 pub mod Columns
 pub mod Paging
-pub mod Counting
 pub mod Pruning
 pub mod Logging
 pub mod Ending

@@ -1,9 +1,12 @@
 -- What the tests of the code answer: by their two parts.
-use mathlib.Core.Path.{_≡_, sym, _∙_}
+use mathlib.Core.Path.{_≡_, sym, ap, _∙_}
 use mathlib.Core.Bool.{Bool, true, false, cond, _&&_}
+use mathlib.Core.List.{List}
 use Prim.Native.Nat.{ℕ, _<_}
 use native.Mathlib.Omega.{arith}
 use lib.Dec.{eqb, ltb}
+use lib.ListN.{getD, set}
+use lib.Seq.{set-getD}
 use borrow.Author.Tests.{eq-eqb, ne-eqb, lt-ltb, le-ltb, ltb-true}
 use Rattle.model.proofs.ActionsGood.{and-l}
 
@@ -20,6 +23,10 @@ module _ (d m w : ℕ) (e : w ≡ d) where
 
   pub owner-stays : (v : ℕ) → (w ≡ m → ⊥) → d ≡ cond (eqb d m) v d
   owner-stays v n = rw (ne-eqb d m (λ k. n (e ∙ k)))
+
+-- a store that changes nothing
+pub same-store : (t : List ℕ) (a v : ℕ) → getD t a 0 ≡ v → t ≡ set t a v
+same-store t a v e = sym (set-getD t a 0) ∙ ap (set t a) e
 
 -- a link, and a test of the block behind it
 pub link-none : (l : ℕ) (x : Bool) → l ≡ 0 → false ≡ (ltb 0 l && x)

@@ -62,32 +62,28 @@ module _ (g : Geometry) (t : List ℕ) (r l : ℕ) (e : l ≡ slotOf (viewOf g t
         rw (has-slot, lt-ltb 0 (forked (viewOf g t) (slot T r)) h)
 
     module _ (f : ℕ) (d : f ≡ forked (viewOf g t) (l - 1)) (z : f ≡ 0) (o : ℕ) (eo : o ≡ follower (viewOf g t) (l - 1))
-        (u : ℕ) (eu : u ≡ getD t 9 0) (c : ℕ) (ec : c ≡ length (deleted (viewOf g t) (l - 1) o)) where
+        (q : Bool) (eq : q ≡ ltb (g .words - getD t 9 0) (length (deleted (viewOf g t) (l - 1) o))) where
       no-fork : ltb 0 (forked (T .view) (slot T r)) ≡ false
       unfolding stateOf
       no-fork = le-ltb 0 (forked (viewOf g t) (slot T r)) (omega (arith, ap (forked (viewOf g t)) slot-is))
 
-      frees-are : length (written g T (Delete r)) ≡ c
+      frees-are : length (written g T (Delete r)) ≡ length (deleted (viewOf g t) (l - 1) o)
       unfolding stateOf
       frees-are =
           map-length (deleted (viewOf g t) (slot T r) (follower (viewOf g t) (slot T r))) ∙
           ap (λ s. length (deleted (viewOf g t) s (follower (viewOf g t) s))) slot-is ∙
-          ap (λ m. length (deleted (viewOf g t) (l - 1) m)) (sym eo) ∙ sym ec
+          ap (λ m. length (deleted (viewOf g t) (l - 1) m)) (sym eo)
 
-      used-are : T .used ≡ u
-      used-are = Fields.used-is g t ∙ sym eu
+      short-is : short g T (Delete r) ≡ q
+      short-is = ap₂ (λ u c. ltb (g .words - u) c) (Fields.used-is g t) frees-are ∙ sym eq
 
-      pub too-few : g .words - u < c → Refused 14 ≡ verdictOf g (stateOf g t) r
+      pub too-few : q ≡ true → Refused 14 ≡ verdictOf g (stateOf g t) r
       unfolding verdictOf
-      too-few h =
-          let y : short g T (Delete r) ≡ true = lt-ltb (g .words - T .used) (length (written g T (Delete r))) (omega (arith, frees-are, used-are)) in
-          rw (has-slot, no-fork, y)
+      too-few y = rw (has-slot, no-fork, short-is ∙ y)
 
-      pub enough : c ≤ g .words - u → Accept (l - 1) o ≡ verdictOf g (stateOf g t) r
+      pub enough : q ≡ false → Accept (l - 1) o ≡ verdictOf g (stateOf g t) r
       unfolding verdictOf stateOf
-      enough h =
-          let y : short g T (Delete r) ≡ false = le-ltb (g .words - T .used) (length (written g T (Delete r))) (omega (arith, frees-are, used-are)) in
-          rw (has-slot, no-fork, y) (ap₂ Accept (sym slot-is) (eo ∙ ap (follower (viewOf g t)) (sym slot-is)))
+      enough n = rw (has-slot, no-fork, short-is ∙ n) (ap₂ Accept (sym slot-is) (eo ∙ ap (follower (viewOf g t)) (sym slot-is)))
 
 -- ── what the verdict says ──
 

@@ -1,7 +1,9 @@
 // D: its refusals, its frees in the log, and the two ways of a deletion.
 ghost use mathlib.Core.Path.{_≡_};
+ghost use mathlib.Core.Bool.{cond};
 ghost use mathlib.Core.List.{map};
-ghost use Prim.Native.Nat.{_+_, _*_, _<_, _≤_};
+ghost use Prim.Native.Nat.{_+_, _-_, _*_, _<_, _≤_};
+ghost use lib.Dec.{eqb, ltb};
 ghost use lib.ListN.{length, getD, set, take};
 ghost use lib.Seq.{sets};
 ghost use Rattle.answer.specs.Reply.{replyOf};
@@ -10,7 +12,7 @@ ghost use Rattle.model.specs.declared.Call.the-variants.{Delete};
 ghost use Rattle.model.specs.Actions.{deleteAt};
 ghost use Rattle.model.specs.Held.{deleted};
 ghost use Rattle.model.specs.Layout.{viewOf, stateOf, stored};
-ghost use Rattle.tables.specs.Ready.{Ready, OutLong, LogLong};
+ghost use Rattle.tables.specs.Ready.{Roomy, Ready, OutLong, LogLong};
 ghost use Rattle.tables.specs.Puts.{withView};
 ghost use Rattle.tables.specs.Outcome.{replied, tablesLeft, logLeft, outLeft};
 ghost use Rattle.deleting.specs.Verdict.{verdictOf};
@@ -45,6 +47,29 @@ fn count_frees(t: &[u32], g: Geometry, s: usize, follower: usize) -> usize
     count_gone(t, g, s, follower - 1, p)
 }
 
+// No deletion frees more: the pages of its record, or the entries of the sequence where another record follows.
+fn most_frees(t: &[u32], g: Geometry, follower: usize) -> usize
+    requires { ⌜ Roomy g (now t) ⌝ }
+    ensures { λ r. ⌜ r ≡ cond (eqb follower 0) (g .pages) (getD (now (t .entry)) 10 0) ⌝ }
+{
+    if follower == 0 {
+        return g.pages;
+    }
+    wide(t[10])
+}
+
+// Whether the log has too few unused words for the frees of slot s. They are counted only where there could be more of them.
+fn log_is_short(t: &[u32], g: Geometry, s: usize, follower: usize) -> bool
+    requires { ⌜ Ready g (now t) × (s < g .records) × (0 < viewOf g (now t) .num s) × (follower ≤ g .records) ⌝ }
+    ensures { λ r. ⌜ r ≡ ltb (g .words - getD (now (t .entry)) 9 0) (length (deleted (viewOf g (now (t .entry))) s follower)) ⌝ }
+{
+    let unused = g.words - wide(t[9]);
+    if most_frees(t, g, follower) <= unused {
+        return false;
+    }
+    unused < count_frees(t, g, s, follower)
+}
+
 // The first refusal of a deletion that applies, or its slot and follower.
 fn delete_verdict(t: &[u32], g: Geometry, number: u32) -> Verdict
     requires { ⌜ Ready g (now t) ⌝ }
@@ -59,7 +84,7 @@ fn delete_verdict(t: &[u32], g: Geometry, number: u32) -> Verdict
         return Verdict::Refused(10);
     }
     let follower = follower_of(t, g, s);
-    if g.words - wide(t[9]) < count_frees(t, g, s, follower) {
+    if log_is_short(t, g, s, follower) {
         return Verdict::Refused(14);
     }
     Verdict::Accept(s, follower)

@@ -3,7 +3,7 @@ ghost use mathlib.Core.Path.{_≡_};
 ghost use mathlib.Core.Bool.{cond, _&&_};
 ghost use Prim.Native.Nat.{_+_, _-_, _*_, _<_, _≤_};
 ghost use lib.Dec.{eqb, ltb};
-ghost use lib.ListN.{length, getD};
+ghost use lib.ListN.{length, getD, set};
 ghost use lib.Seq.{sets};
 ghost use Rattle.geometry.specs.Limits.{blocks};
 ghost use Rattle.model.specs.View.{predNum};
@@ -48,45 +48,37 @@ pub fn count_gone(t: &[u32], g: Geometry, s: usize, n: usize, p: u32) -> usize
     count
 }
 
-// Writes them to `out`, in order.
-fn list_gone(t: &[u32], g: Geometry, out: &mut [u32], s: usize, n: usize, p: u32) -> usize
-    requires { ⌜ Walkable g (now t) × (length (unlinked (viewOf g (now t)) s n) ≤ length (now out)) × (n < 64) × (p ≡ predNum (viewOf g (now t)) s) ⌝ }
+// Block b, if it is on the deadlist of slot s, is on that of slot n.
+fn relabel(t: &mut [u32], g: Geometry, s: usize, n: usize, b: usize)
+    requires { ⌜ Roomy g (now t) × (b < blocks g) × (s < 64) × (n < 64) ⌝ }
+    ensures { λ _. ⌜ now (t .exit) ≡ set (now (t .entry)) (32 + 272 * g .records + 8 * b + 3) (cond (eqb (getD (now (t .entry)) (32 + 272 * g .records + 8 * b + 3) 0) (s + 1)) (n + 1) (getD (now (t .entry)) (32 + 272 * g .records + 8 * b + 3) 0)) ⌝ }
+{
+    if wide(t[32 + 272 * g.records + 8 * b + 3]) != s + 1 {
+        return;
+    }
+    t[32 + 272 * g.records + 8 * b + 3] = (n + 1) as u32;
+}
+
+// Entry i of the sequence moves up to place k.
+fn move_entry(t: &mut [u32], g: Geometry, i: usize, k: usize)
+    requires { ⌜ Roomy g (now t) × (i < blocks g) × (k < blocks g) ⌝ }
+    ensures { λ _. ⌜ now (t .exit) ≡ set (now (t .entry)) (32 + 272 * g .records + 8 * k + 4) (getD (now (t .entry)) (32 + 272 * g .records + 8 * i + 4) 0) ⌝ }
+{
+    if k == i {
+        return;
+    }
+    t[32 + 272 * g.records + 8 * k + 4] = t[32 + 272 * g.records + 8 * i + 4];
+}
+
+// The sequence without them: each is written to `out`, free and on no deadlist; those of slot s stand on the deadlist of slot n.
+fn join_shards(t: &mut [u32], g: Geometry, out: &mut [u32], s: usize, n: usize, p: u32) -> usize
+    requires { ⌜ Walkable g (now t) × (length (unlinked (viewOf g (now t)) s n) ≤ length (now out)) × (s < 64) × (n < 64) × (p ≡ predNum (viewOf g (now t)) s) ⌝ }
     ensures count { λ r. ⌜ r ≡ length (unlinked (viewOf g (now (t .entry))) s n) ⌝ }
+    ensures tables { λ r. ⌜ now (t .exit) ≡ stored g (joined (stateOf g (now (t .entry))) s n) (now (t .entry)) ⌝ }
     ensures out { λ r. ⌜ now (out .exit) ≡ sets (now (out .entry)) 0 (unlinked (viewOf g (now (t .entry))) s n) ⌝ }
 {
     let len = wide(t[10]);
     let mut count: usize = 0;
-    let mut i: usize = 0;
-    while i < len {
-        let b = wide(t[32 + 272 * g.records + 8 * i + 4]);
-        if goes(t, g, n, p, b) {
-            out[count] = b as u32;
-            count += 1;
-            i += 1;
-        } else {
-            i += 1;
-        }
-    }
-    count
-}
-
-// The owner of a deadlist, as a link: that of slot s becomes that of slot n.
-fn joins(owner: u32, s: usize, n: usize) -> u32
-    requires { ⌜ (s < 64) × (n < 64) ⌝ }
-    ensures { λ r. ⌜ r ≡ cond (eqb owner (s + 1)) (n + 1) owner ⌝ }
-{
-    if wide(owner) == s + 1 {
-        return (n + 1) as u32;
-    }
-    owner
-}
-
-// The sequence without them: each is free and on no deadlist; those of slot s stand on the deadlist of slot n.
-fn join_shards(t: &mut [u32], g: Geometry, s: usize, n: usize, p: u32)
-    requires { ⌜ Walkable g (now t) × (s < 64) × (n < 64) × (p ≡ predNum (viewOf g (now t)) s) ⌝ }
-    ensures { λ _. ⌜ now (t .exit) ≡ stored g (joined (stateOf g (now (t .entry))) s n) (now (t .entry)) ⌝ }
-{
-    let len = wide(t[10]);
     let mut kept: usize = 0;
     let mut i: usize = 0;
     while i < len {
@@ -94,15 +86,18 @@ fn join_shards(t: &mut [u32], g: Geometry, s: usize, n: usize, p: u32)
         if goes(t, g, n, p, b) {
             t[32 + 272 * g.records + 8 * b] = 0;
             t[32 + 272 * g.records + 8 * b + 3] = 0;
+            out[count] = b as u32;
+            count += 1;
             i += 1;
         } else {
-            t[32 + 272 * g.records + 8 * b + 3] = joins(t[32 + 272 * g.records + 8 * b + 3], s, n);
-            t[32 + 272 * g.records + 8 * kept + 4] = b as u32;
+            relabel(t, g, s, n, b);
+            move_entry(t, g, i, kept);
             kept += 1;
             i += 1;
         }
     }
     t[10] = kept as u32;
+    count
 }
 
 // Whether there is a block behind the link of a page, and its home is slot s.
@@ -141,9 +136,8 @@ pub fn delete_next(t: &mut [u32], g: Geometry, out: &mut [u32], s: usize, n: usi
     ensures tables { λ r. ⌜ now (t .exit) ≡ stored g (withView (stateOf g (now (t .entry))) (unlink (viewOf g (now (t .entry))) s n)) (now (t .entry)) ⌝ }
     ensures out { λ r. ⌜ now (out .exit) ≡ sets (now (out .entry)) 0 (unlinked (viewOf g (now (t .entry))) s n) ⌝ }
 {
-    let count = list_gone(t, g, out, s, n, p);
     move_home(t, g, s, n);
-    join_shards(t, g, s, n, p);
+    let count = join_shards(t, g, out, s, n, p);
     t[32 + 272 * s] = 0;
     t[32 + 272 * n + 2] = t[32 + 272 * s + 2];
     count

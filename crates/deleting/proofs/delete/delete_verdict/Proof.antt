@@ -1,7 +1,5 @@
 -- The refusals of a deletion, one by one.
 use native.Mathlib.Omega.{arith}
-use borrow.Author.Needs.{needs}
-use Rattle.tables.proofs.Fields
 use Rattle.deleting.proofs.Verdicts
 use Rattle.deleting.proofs.delete.delete_verdict.Statement.{statement}
 use Rattle.deleting.proofs.delete.delete_verdict.Tie as tie
@@ -24,23 +22,23 @@ returns-2 c = Verdicts.has-fork _ _ _ _ (c .before .before .before .slot-of .ens
 follower-of-requires : tie.Need-follower-of-requires
 follower-of-requires c κs = (c .before .before .before .before .before .pre .roomy, omega arith)
 
-shared-slice-read-wide : tie.Need-shared-slice-read-wide
-shared-slice-read-wide c = omega arith
-
-wide-requires : tie.Need-wide-requires
-wide-requires c κs = search needs
-
-sub-if3 : tie.Need-sub-if3
-sub-if3 c = omega (arith, c .before .wide .ensures, Fields.used-is (c .before .before .before .before .before .before .before .before .before .args .g) (c .before .before .before .before .before .before .before .before .before .args .t .now), c .before .before .before .before .before .before .before .before .before .pre .range .used)
-
-count-frees-requires : tie.Need-count-frees-requires
-count-frees-requires c κs = (c .before .before .before .before .before .before .before .before .before .pre, omega (arith, c .before .before .before .before .before .before .before .slot-of .ensures .1), Verdicts.slot-live _ _ _ _ (c .before .before .before .before .before .before .before .slot-of .ensures .0) (c .before .before .before .before .before .before .if1 .left) (c .before .before .before .before .before .before .before .before .before .pre), c .before .before .before .follower-of .ensures .1)
+log-is-short-requires : tie.Need-log-is-short-requires
+log-is-short-requires c κs =
+    let start = c .before .before .before .before .before .before in
+    let slot = c .before .before .before .before .slot-of in (
+      start .pre,
+      omega (arith, slot .ensures .1),
+      Verdicts.slot-live _ _ _ _ (slot .ensures .0) (c .before .before .before .if1 .left) (start .pre),
+      c .follower-of .ensures .1,
+    )
 
 returns-3 : tie.Need-returns-3
-returns-3 c = Verdicts.too-few _ _ _ _ (c .before .before .before .before .before .before .before .before .before .slot-of .ensures .0) (c .before .before .before .before .before .before .before .before .if1 .left) _ (c .before .before .before .before .before .before .before .forked-at .ensures) (c .before .before .before .before .before .before .if2 .left) _ (c .before .before .before .before .before .follower-of .ensures .0) _ (c .before .before .before .wide .ensures) _ (c .before .count-frees .ensures) (c .if3 .taken)
+returns-3 c =
+    Verdicts.too-few _ _ _ _ (c .before .before .before .before .before .before .slot-of .ensures .0) (c .before .before .before .before .before .if1 .left) _ (c .before .before .before .before .forked-at .ensures) (c .before .before .before .if2 .left) _ (c .before .before .follower-of .ensures .0) _ (c .before .log-is-short .ensures) (c .if3 .taken)
 
 returns-4 : tie.Need-returns-4
-returns-4 c = Verdicts.enough _ _ _ _ (c .before .before .before .before .before .before .before .before .before .slot-of .ensures .0) (c .before .before .before .before .before .before .before .before .if1 .left) _ (c .before .before .before .before .before .before .before .forked-at .ensures) (c .before .before .before .before .before .before .if2 .left) _ (c .before .before .before .before .before .follower-of .ensures .0) _ (c .before .before .before .wide .ensures) _ (c .before .count-frees .ensures) (c .if3 .left)
+returns-4 c =
+    Verdicts.enough _ _ _ _ (c .before .before .before .before .before .before .slot-of .ensures .0) (c .before .before .before .before .before .if1 .left) _ (c .before .before .before .before .forked-at .ensures) (c .before .before .before .if2 .left) _ (c .before .before .follower-of .ensures .0) _ (c .before .log-is-short .ensures) (c .if3 .left)
 
 pub delete-verdict-spec : {M : Type 1} → statement M
 delete-verdict-spec =
@@ -52,9 +50,6 @@ delete-verdict-spec =
     forked-at-requires
     returns-2
     follower-of-requires
-    shared-slice-read-wide
-    wide-requires
-    sub-if3
-    count-frees-requires
+    log-is-short-requires
     returns-3
     returns-4)

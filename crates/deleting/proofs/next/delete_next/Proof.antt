@@ -3,20 +3,29 @@ use native.Mathlib.Omega.{arith}
 use borrow.Author.Needs.{needs}
 use mathlib.Core.Path.{sym, ap, _∙_}
 use lib.ListN.{length, length-set}
+use lib.Seq.{sets}
 use Rattle.model.proofs.LayoutFacts.{stored-length}
 use Rattle.deleting.proofs.Frames
 use Rattle.deleting.proofs.Ending
 use Rattle.deleting.proofs.next.delete_next.Statement.{statement}
 use Rattle.deleting.proofs.next.delete_next.Tie as tie
 
-list-gone-requires : tie.Need-list-gone-requires
-list-gone-requires c κs = (Frames.walkable (c .before .before .before .before .pre .0), c .before .before .before .before .pre .1, omega arith, c .before .before .before .before .pre .5)
-
 move-home-requires : tie.Need-move-home-requires
-move-home-requires c κs = (Frames.paged (c .before .before .before .before .before .before .before .before .pre .0) (c .before .before .before .before .before .before .before .before .args .s) (c .before .before .before .before .before .before .before .before .pre .3), omega arith)
+move-home-requires c κs =
+    let start = c .before .before .before in
+    (Frames.paged (start .pre .0) (start .args .s) (start .pre .3), omega arith)
 
 join-shards-requires : tie.Need-join-shards-requires
-join-shards-requires c κs = (Ending.next-walks (c .before .before .before .before .before .before .before .before .before .before .before .before .pre .0) (c .before .before .before .before .before .before .before .before .before .before .before .before .args .s) (c .before .before .before .before .before .before .before .before .before .before .before .before .pre .3) (c .before .before .before .before .before .before .before .before .before .before .before .before .args .n) _ (c .before .before .before .move-home .ensures), omega arith, omega arith, c .before .before .before .before .before .before .before .before .before .before .before .before .pre .5 ∙ sym (Ending.next-pred (c .before .before .before .before .before .before .before .before .before .before .before .before .pre .0) (c .before .before .before .before .before .before .before .before .before .before .before .before .args .s) (c .before .before .before .before .before .before .before .before .before .before .before .before .pre .3) (c .before .before .before .before .before .before .before .before .before .before .before .before .args .n) _ (c .before .before .before .move-home .ensures)))
+join-shards-requires c κs =
+    let start = c .before .before .before .before .before .before .before .before in
+    let left = c .before .before .before .before .move-home .ensures in
+    let u = Ending.next-unlinked (start .pre .0) (start .args .s) (start .pre .3) (start .args .n) _ left in (
+      Ending.next-walks (start .pre .0) (start .args .s) (start .pre .3) (start .args .n) _ left,
+      omega (arith, ap length u),
+      omega arith,
+      omega arith,
+      start .pre .5 ∙ sym (Ending.next-pred (start .pre .0) (start .args .s) (start .pre .3) (start .args .n) _ left),
+    )
 
 mul-t : tie.Need-mul-t
 mul-t c = omega arith
@@ -62,22 +71,30 @@ slice-write-t-2 c = simp length-set (omega arith)
 
 same-length : tie.Need-same-length
 same-length c =
-    let start = c .before .before .before .before .before .before .before .before .before .before .before .before .before .before .before .before in
-    ap length (Ending.next-tables (start .pre .0) (start .args .s) (start .pre .3) (start .args .n) _ (c .before .before .before .before .before .before .before .move-home .ensures) _ (c .before .before .before .join-shards .ensures) (start .pre .4)) ∙ stored-length _ _ _
+    let start = c .before .before .before .before .before .before .before .before .before .before .before .before .before .before in
+    ap length (Ending.next-tables (start .pre .0) (start .args .s) (start .pre .3) (start .args .n) _ (c .before .before .before .before .before .before .before .before .before .before .move-home .ensures) _ (c .before .before .before .before .before .join-shards .ensures .1 .0) (start .pre .4)) ∙
+    stored-length _ _ _
 
 same-length-2 : tie.Need-same-length-2
 same-length-2 c = search needs
 
 returns : tie.Need-returns
 returns c =
-    let start = c .before .before .before .before .before .before .before .before .before .before .before .before .before .before .before .before in
-    (c .before .before .before .before .before .before .before .before .before .before .before .list-gone .ensures .0, (Ending.next-tables (start .pre .0) (start .args .s) (start .pre .3) (start .args .n) _ (c .before .before .before .before .before .before .before .move-home .ensures) _ (c .before .before .before .join-shards .ensures) (start .pre .4), c .before .before .before .before .before .before .before .before .before .before .before .list-gone .ensures .1))
+    let start = c .before .before .before .before .before .before .before .before .before .before .before .before .before .before in
+    let left = c .before .before .before .before .before .before .before .before .before .before .move-home .ensures in
+    let made = c .before .before .before .before .before .join-shards .ensures in
+    let u = Ending.next-unlinked (start .pre .0) (start .args .s) (start .pre .3) (start .args .n) _ left in (
+      made .0 ∙ ap length u,
+      (
+        Ending.next-tables (start .pre .0) (start .args .s) (start .pre .3) (start .args .n) _ left _ (made .1 .0) (start .pre .4),
+        made .1 .1 ∙ ap (sets (start .args .out .now) 0) u,
+      ),
+    )
 
 pub delete-next-spec : {M : Type 1} → statement M
 delete-next-spec =
     tie.close
     (tie.spec
-    list-gone-requires
     move-home-requires
     join-shards-requires
     mul-t
