@@ -22,13 +22,15 @@ delete-record-requires c κs =
     (start .pre .0, Calling.accept-out _ _ (start .pre .0) _ _ (c .before .before .before .before .before .delete-verdict .ensures) _ _ (c .before .before .before .verdict2 .given .1) (start .args .out .now) (start .pre .2), Calling.accept-slot _ _ (start .pre .0) _ _ (c .before .before .before .before .before .delete-verdict .ensures) _ _ (c .before .before .before .verdict2 .given .1), Calling.accept-live _ _ (start .pre .0) _ _ (c .before .before .before .before .before .delete-verdict .ensures) _ _ (c .before .before .before .verdict2 .given .1), Calling.accept-follower _ _ (start .pre .0) _ _ (c .before .before .before .before .before .delete-verdict .ensures) _ _ (c .before .before .before .verdict2 .given .1))
 
 log-frees-requires : tie.Need-log-frees-requires
-log-frees-requires c κs = let u = Calling.accept-used _ _ (c .before .before .before .before .before .before .before .before .before .before .before .before .before .before .before .before .before .before .pre .0) _ _ (c .before .before .before .before .before .before .before .before .before .before .before .before .before .delete-verdict .ensures) _ _ (c .before .before .before .before .before .before .before .before .before .before .before .verdict2 .given .1) _ (c .before .before .before .before .before .before .before .delete-record .ensures .1 .0) in
-    let w = Calling.accept-words _ _ (c .before .before .before .before .before .before .before .before .before .before .before .before .before .before .before .before .before .before .pre .0) _ _ (c .before .before .before .before .before .before .before .before .before .before .before .before .before .delete-verdict .ensures) _ _ (c .before .before .before .before .before .before .before .before .before .before .before .verdict2 .given .1) in
-    let l = Calling.accept-length _ _ (c .before .before .before .before .before .before .before .before .before .before .before .before .before .before .before .before .before .before .pre .0) _ _ (c .before .before .before .before .before .before .before .before .before .before .before .before .before .delete-verdict .ensures) _ _ (c .before .before .before .before .before .before .before .before .before .before .before .verdict2 .given .1) _ (c .before .before .before .before .before .before .before .delete-record .ensures .1 .0) in
-    let o = Calling.accept-room _ _ (c .before .before .before .before .before .before .before .before .before .before .before .before .before .before .before .before .before .before .pre .0) _ _ (c .before .before .before .before .before .before .before .before .before .before .before .before .before .delete-verdict .ensures) _ _ (c .before .before .before .before .before .before .before .before .before .before .before .verdict2 .given .1) _ (c .before .before .before .before .before .before .before .delete-record .ensures .1 .0) _ (c .before .before .before .before .before .before .before .delete-record .ensures .0) _ (c .before .before .before .before .before .before .before .before .before .before .before .before .before .before .before .before .before .before .pre .2) _ (c .before .before .before .before .before .before .before .delete-record .ensures .1 .1) in
-    let r = c .before .before .before .before .before .before .before .before .before .before .before .before .before .before .before .before .before .before .pre .0 .roomy .room in
-    let k = c .before .before .before .before .before .before .before .before .before .before .before .before .before .before .before .before .before .before .pre .0 .roomy .inside .words-most in
-    let g = c .before .before .before .before .before .before .before .before .before .before .before .before .before .before .before .before .before .before .pre .1 in
+log-frees-requires c κs =
+    let start = c .before .before .before .before .before .before .before .before .before .before .before .before .before .before .before .before .before .before in
+    let u = Calling.accept-used _ _ (start .pre .0) _ _ (c .before .before .before .before .before .before .before .before .before .before .before .before .before .delete-verdict .ensures) _ _ (c .before .before .before .before .before .before .before .before .before .before .before .verdict2 .given .1) _ (c .before .before .before .before .before .before .before .delete-record .ensures .1 .0) in
+    let w = Calling.accept-words _ _ (start .pre .0) _ _ (c .before .before .before .before .before .before .before .before .before .before .before .before .before .delete-verdict .ensures) _ _ (c .before .before .before .before .before .before .before .before .before .before .before .verdict2 .given .1) in
+    let l = Calling.accept-length _ _ (start .pre .0) _ _ (c .before .before .before .before .before .before .before .before .before .before .before .before .before .delete-verdict .ensures) _ _ (c .before .before .before .before .before .before .before .before .before .before .before .verdict2 .given .1) _ (c .before .before .before .before .before .before .before .delete-record .ensures .1 .0) in
+    let o = Calling.accept-room _ _ (start .pre .0) _ _ (c .before .before .before .before .before .before .before .before .before .before .before .before .before .delete-verdict .ensures) _ _ (c .before .before .before .before .before .before .before .before .before .before .before .verdict2 .given .1) _ (c .before .before .before .before .before .before .before .delete-record .ensures .1 .0) _ (c .before .before .before .before .before .before .before .delete-record .ensures .0) _ (start .pre .2) _ (c .before .before .before .before .before .before .before .delete-record .ensures .1 .1) in
+    let r = start .pre .0 .roomy .room in
+    let k = start .pre .0 .roomy .inside .words-most in
+    let g = start .pre .1 in
     let n = c .before .before .before .before .before .before .before .delete-record .ensures .0 in
     (omega arith, o, omega arith, omega arith)
 

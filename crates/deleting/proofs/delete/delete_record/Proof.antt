@@ -16,7 +16,9 @@ pred-number-requires c κs =
     (start .pre .0, start .pre .2, start .pre .3)
 
 delete-last-requires : tie.Need-delete-last-requires
-delete-last-requires c κs = let e = Calling.deleted-last (c .before .before .before .before .before .before .before .args .g) (c .before .before .before .before .before .before .before .args .t .now) (c .before .before .before .before .before .before .before .args .s) (c .before .before .before .before .before .before .before .args .follower) (c .before .before .if1 .taken) in (c .before .before .before .before .before .before .before .pre .0, omega (arith, ap length e, c .before .before .before .before .before .before .before .pre .1), c .before .before .before .before .before .before .before .pre .2, c .before .before .before .before .before .before .before .pre .3, c .before .before .before .pred-number .ensures)
+delete-last-requires c κs =
+    let start = c .before .before .before .before .before .before .before in
+    let e = Calling.deleted-last (start .args .g) (start .args .t .now) (start .args .s) (start .args .follower) (c .before .before .if1 .taken) in (start .pre .0, omega (arith, ap length e, start .pre .1), start .pre .2, start .pre .3, c .before .before .before .pred-number .ensures)
 
 same-length : tie.Need-same-length
 same-length c = search needs
@@ -26,11 +28,12 @@ same-length-2 c = search needs
 
 returns : tie.Need-returns
 returns c =
+    let more = c .before .before .before .before .before .before .before .if1 .taken in
     let start = c .before .before .before .before .before .before .before .before .before .before .before .before in
-    let e = Calling.deleted-last (start .args .g) (start .args .t .now) (start .args .s) (start .args .follower) (c .before .before .before .before .before .before .before .if1 .taken) in (
+    let e = Calling.deleted-last (start .args .g) (start .args .t .now) (start .args .s) (start .args .follower) more in (
       c .before .before .before .before .delete-last .ensures .0 ∙ ap length e,
       (
-        c .before .before .before .before .delete-last .ensures .1 .0 ∙ ap (λ L. stored (start .args .g) (withView (stateOf (start .args .g) (start .args .t .now)) L) (start .args .t .now)) (Calling.delete-last (start .args .g) (start .args .t .now) (start .args .s) (start .args .follower) (c .before .before .before .before .before .before .before .if1 .taken)),
+        c .before .before .before .before .delete-last .ensures .1 .0 ∙ ap (λ L. stored (start .args .g) (withView (stateOf (start .args .g) (start .args .t .now)) L) (start .args .t .now)) (Calling.delete-last (start .args .g) (start .args .t .now) (start .args .s) (start .args .follower) more),
         c .before .before .before .before .delete-last .ensures .1 .1 ∙ ap (sets (start .args .out .now) 0) e,
       ),
     )
@@ -39,7 +42,9 @@ sub-delete-next : tie.Need-sub-delete-next
 sub-delete-next c = omega arith
 
 delete-next-requires : tie.Need-delete-next-requires
-delete-next-requires c κs = let e = Calling.deleted-next (c .before .before .before .before .before .before .before .args .g) (c .before .before .before .before .before .before .before .args .t .now) (c .before .before .before .before .before .before .before .args .s) (c .before .before .before .before .before .before .before .args .follower) (c .before .before .if1 .left) in (c .before .before .before .before .before .before .before .pre .0, omega (arith, ap length e, c .before .before .before .before .before .before .before .pre .1), c .before .before .before .before .before .before .before .pre .2, c .before .before .before .before .before .before .before .pre .3, omega arith, c .before .before .before .pred-number .ensures)
+delete-next-requires c κs =
+    let start = c .before .before .before .before .before .before .before in
+    let e = Calling.deleted-next (start .args .g) (start .args .t .now) (start .args .s) (start .args .follower) (c .before .before .if1 .left) in (start .pre .0, omega (arith, ap length e, start .pre .1), start .pre .2, start .pre .3, omega arith, c .before .before .before .pred-number .ensures)
 
 same-length-3 : tie.Need-same-length-3
 same-length-3 c = search needs

@@ -25,7 +25,9 @@ wide-requires : tie.Need-wide-requires Inv-loop μ-loop
 wide-requires c κs = search needs
 
 loop-holds : tie.Need-loop-holds Inv-loop μ-loop
-loop-holds c = (omega arith, refl, Logging.freed-start (c .before .before .before .before .before .args .log .now) (c .before .before .before .before .before .args .out .now) (8 * c .wide .result))
+loop-holds c =
+    let start = c .before .before .before .before .before in
+    (omega arith, refl, Logging.freed-start (start .args .log .now) (start .args .out .now) (8 * c .wide .result))
 
 add-append : tie.Need-add-append Inv-loop μ-loop
 add-append c = omega arith
@@ -58,11 +60,12 @@ loop-less : tie.Need-loop-less Inv-loop μ-loop
 loop-less c = omega arith
 
 loop-again : tie.Need-loop-again Inv-loop μ-loop
-loop-again c = (
-  omega arith,
-  Logging.turn-length _ _ _ _ (omega arith) (c .before .before .append .ensures .1) ∙ c .before .before .before .before .before .before .before .loop .inv .1,
-  Logging.freed-turn _ _ _ _ _ _ (omega arith) (omega arith) (c .before .before .before .before .before .before .before .loop .inv .2) _ (c .before .before .before .wide2 .ensures) (c .before .before .append .ensures .1),
-)
+loop-again c =
+    let turn = c .before .before .before .before .before .before .before .loop in (
+      omega arith,
+      Logging.turn-length _ _ _ _ (omega arith) (c .before .before .append .ensures .1) ∙ turn .inv .1,
+      Logging.freed-turn _ _ _ _ _ _ (omega arith) (omega arith) (turn .inv .2) _ (c .before .before .before .wide2 .ensures) (c .before .before .append .ensures .1),
+    )
 
 add-t : tie.Need-add-t Inv-loop μ-loop
 add-t c = omega arith
@@ -80,7 +83,11 @@ same-length-2 : tie.Need-same-length-2 Inv-loop μ-loop
 same-length-2 c = c .before .loop .inv .1
 
 returns : tie.Need-returns Inv-loop μ-loop
-returns c = (ap (λ u. set (c .before .before .before .before .before .before .before .args .t .now) 9 (u + c .before .before .before .before .before .before .before .args .n)) (c .before .before .wide .ensures), Logging.freed-end _ _ _ _ _ _ _ (c .before .before .wide .ensures) (c .before .loop .inv .0) (omega arith) (c .before .loop .inv .2))
+returns c =
+    let start = c .before .before .before .before .before .before .before in
+    let turn = c .before .loop in
+    let link = c .before .before .wide .ensures in
+    (ap (λ u. set (start .args .t .now) 9 (u + start .args .n)) link, Logging.freed-end _ _ _ _ _ _ _ link (turn .inv .0) (omega arith) (turn .inv .2))
 
 pub log-frees-spec : {M : Type 1} → statement M
 log-frees-spec =

@@ -45,7 +45,10 @@ wide-requires : tie.Need-wide-requires Inv-loop μ-loop
 wide-requires c κs = search needs
 
 is-young-requires : tie.Need-is-young-requires Inv-loop μ-loop
-is-young-requires c κs = (c .before .before .before .before .before .before .pre .0 .frame .roomy, omega (arith, c .wide .ensures, Fields.page-is (c .before .before .before .before .before .before .args .g) (c .before .before .before .before .before .before .args .t .now) (c .before .before .before .before .before .before .args .s) (c .before .before .before .before .loop .x) (c .before .before .before .before .before .before .pre .0 .slot) (c .before .before .if1 .taken), Paging.page-le (c .before .before .before .before .before .before .args .g) (c .before .before .before .before .before .before .args .t .now) (c .before .before .before .before .before .before .args .s) (c .before .before .before .before .before .before .pre .0) (c .before .before .before .before .loop .x)))
+is-young-requires c κs =
+    let start = c .before .before .before .before .before .before in
+    let turn = c .before .before .before .before .loop in
+    (start .pre .0 .frame .roomy, omega (arith, c .wide .ensures, Fields.page-is (start .args .g) (start .args .t .now) (start .args .s) (turn .x) (start .pre .0 .slot) (c .before .before .if1 .taken), Paging.page-le (start .args .g) (start .args .t .now) (start .args .s) (start .pre .0) (turn .x)))
 
 add-count : tie.Need-add-count Inv-loop μ-loop
 add-count c = omega arith
@@ -57,12 +60,14 @@ loop-less : tie.Need-loop-less Inv-loop μ-loop
 loop-less c = omega arith
 
 loop-again : tie.Need-loop-again Inv-loop μ-loop
-loop-again c = (
-  omega arith,
-  omega arith,
-  Pruning.count-yes _ _ _ (c .before .before .before .before .before .before .before .before .pre .1) _ _ _ (c .before .before .wide .ensures ∙ sym (Fields.page-is (c .before .before .before .before .before .before .before .before .args .g) (c .before .before .before .before .before .before .before .before .args .t .now) (c .before .before .before .before .before .before .before .before .args .s) (c .before .before .before .before .before .before .loop .x) (c .before .before .before .before .before .before .before .before .pre .0 .slot) (c .before .before .before .before .if1 .taken)))
-      _ (c .before .is-young .ensures .1) (λ d. sym (Fields.birth-is (c .before .before .before .before .before .before .before .before .args .g) (c .before .before .before .before .before .before .before .before .args .t .now) (c .before .before .wide .result - 1) (c .before .before .before .before .before .before .before .before .pre .0 .inside (c .before .before .before .before .before .before .loop .x) (c .before .before .wide .result - 1) d))) (c .if2 .taken) (c .before .before .before .before .before .before .loop .count) (c .before .before .before .before .before .before .loop .inv .2),
-)
+loop-again c =
+    let start = c .before .before .before .before .before .before .before .before in
+    let turn = c .before .before .before .before .before .before .loop in (
+      omega arith,
+      omega arith,
+      Pruning.count-yes _ _ _ (start .pre .1) _ _ _ (c .before .before .wide .ensures ∙ sym (Fields.page-is (start .args .g) (start .args .t .now) (start .args .s) (turn .x) (start .pre .0 .slot) (c .before .before .before .before .if1 .taken)))
+          _ (c .before .is-young .ensures .1) (λ d. sym (Fields.birth-is (start .args .g) (start .args .t .now) (c .before .before .wide .result - 1) (start .pre .0 .inside (turn .x) (c .before .before .wide .result - 1) d))) (c .if2 .taken) (turn .count) (turn .inv .2),
+    )
 
 add-x-2 : tie.Need-add-x-2 Inv-loop μ-loop
 add-x-2 c = omega arith
@@ -71,15 +76,20 @@ loop-less-2 : tie.Need-loop-less-2 Inv-loop μ-loop
 loop-less-2 c = omega arith
 
 loop-again-2 : tie.Need-loop-again-2 Inv-loop μ-loop
-loop-again-2 c = (
-  omega arith,
-  omega arith,
-  Pruning.count-no _ _ _ (c .before .before .before .before .before .before .before .before .pre .1) _ _ _ (c .before .before .wide .ensures ∙ sym (Fields.page-is (c .before .before .before .before .before .before .before .before .args .g) (c .before .before .before .before .before .before .before .before .args .t .now) (c .before .before .before .before .before .before .before .before .args .s) (c .before .before .before .before .before .before .loop .x) (c .before .before .before .before .before .before .before .before .pre .0 .slot) (c .before .before .before .before .if1 .taken)))
-      _ (c .before .is-young .ensures .1) (λ d. sym (Fields.birth-is (c .before .before .before .before .before .before .before .before .args .g) (c .before .before .before .before .before .before .before .before .args .t .now) (c .before .before .wide .result - 1) (c .before .before .before .before .before .before .before .before .pre .0 .inside (c .before .before .before .before .before .before .loop .x) (c .before .before .wide .result - 1) d))) (c .if2 .left) (c .before .before .before .before .before .before .loop .count) (c .before .before .before .before .before .before .loop .inv .2),
-)
+loop-again-2 c =
+    let start = c .before .before .before .before .before .before .before .before in
+    let turn = c .before .before .before .before .before .before .loop in (
+      omega arith,
+      omega arith,
+      Pruning.count-no _ _ _ (start .pre .1) _ _ _ (c .before .before .wide .ensures ∙ sym (Fields.page-is (start .args .g) (start .args .t .now) (start .args .s) (turn .x) (start .pre .0 .slot) (c .before .before .before .before .if1 .taken)))
+          _ (c .before .is-young .ensures .1) (λ d. sym (Fields.birth-is (start .args .g) (start .args .t .now) (c .before .before .wide .result - 1) (start .pre .0 .inside (turn .x) (c .before .before .wide .result - 1) d))) (c .if2 .left) (turn .count) (turn .inv .2),
+    )
 
 returns : tie.Need-returns Inv-loop μ-loop
-returns c = let e : c .before .before .loop .x ≡ c .before .before .before .before .args .g .pages = omega arith in c .before .before .loop .inv .2 ∙ ap (λ j. length (pruned (viewOf (c .before .before .before .before .args .g) (c .before .before .before .before .args .t .now)) (c .before .before .before .before .args .s) j)) e
+returns c =
+    let start = c .before .before .before .before in
+    let turn = c .before .before .loop in
+    let e : turn .x ≡ start .args .g .pages = omega arith in turn .inv .2 ∙ ap (λ j. length (pruned (viewOf (start .args .g) (start .args .t .now)) (start .args .s) j)) e
 
 pub count-young-spec : {M : Type 1} → statement M
 count-young-spec =

@@ -14,8 +14,10 @@ drop-deadlist-requires : tie.Need-drop-deadlist-requires
 drop-deadlist-requires c κs = (Frames.walkable (c .before .before .before .pre .0), omega arith)
 
 free-young-requires : tie.Need-free-young-requires
-free-young-requires c κs = let e = Ending.last-pruned (c .before .before .before .before .before .before .before .before .pre .0) (c .before .before .before .before .before .before .before .before .args .s) (c .before .before .before .before .before .before .before .before .pre .3) _ (c .before .before .before .before .drop-deadlist .ensures) in
-    (Ending.last-paged (c .before .before .before .before .before .before .before .before .pre .0) (c .before .before .before .before .before .before .before .before .args .s) (c .before .before .before .before .before .before .before .before .pre .3) _ (c .before .before .before .before .drop-deadlist .ensures), omega (arith, ap length e, c .before .before .before .before .before .before .before .before .pre .1), c .before .before .before .before .before .before .before .before .pre .4 ∙ sym (Ending.last-pred (c .before .before .before .before .before .before .before .before .pre .0) (c .before .before .before .before .before .before .before .before .args .s) (c .before .before .before .before .before .before .before .before .pre .3) _ (c .before .before .before .before .drop-deadlist .ensures)))
+free-young-requires c κs =
+    let start = c .before .before .before .before .before .before .before .before in
+    let e = Ending.last-pruned (start .pre .0) (start .args .s) (start .pre .3) _ (c .before .before .before .before .drop-deadlist .ensures) in
+    (Ending.last-paged (start .pre .0) (start .args .s) (start .pre .3) _ (c .before .before .before .before .drop-deadlist .ensures), omega (arith, ap length e, start .pre .1), start .pre .4 ∙ sym (Ending.last-pred (start .pre .0) (start .args .s) (start .pre .3) _ (c .before .before .before .before .drop-deadlist .ensures)))
 
 mul-t : tie.Need-mul-t
 mul-t c = omega arith

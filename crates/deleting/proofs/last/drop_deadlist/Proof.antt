@@ -91,9 +91,10 @@ loop-less c = omega arith
 
 loop-again : tie.Need-loop-again Inv-loop μ-loop
 loop-again c =
+    let start = c .before .before .before .before .before .before .before .before .before .before .before .before in
     let turn = c .before .before .before .before .before .before .before .before in
     let m = Tests.below _ _ _ (c .before .before .before .before .before .before .before .loop-test .taken) (c .before .before .before .before .before .before .before .before .before .wide .ensures) in
-    (simp length-set (turn .loop .inv .0), Joining.drops-drop _ _ (c .before .before .before .before .before .before .before .before .before .before .before .before .pre .0) _ (turn .loop .inv .1) m _ (c .before .before .before .before .wide2 .ensures) _ (c .before .before .on-list .ensures .1) (c .before .if1 .taken))
+    (simp length-set (turn .loop .inv .0), Joining.drops-drop _ _ (start .pre .0) _ (turn .loop .inv .1) m _ (c .before .before .before .before .wide2 .ensures) _ (c .before .before .on-list .ensures .1) (c .before .if1 .taken))
 
 cast-t : tie.Need-cast-t Inv-loop μ-loop
 cast-t c = omega arith
@@ -130,9 +131,10 @@ loop-less-2 c = omega arith
 
 loop-again-2 : tie.Need-loop-again-2 Inv-loop μ-loop
 loop-again-2 c =
+    let start = c .before .before .before .before .before .before .before .before .before .before .before .before in
     let turn = c .before .before .before .before .before .before .before .before in
     let m = Tests.below _ _ _ (c .before .before .before .before .before .before .before .loop-test .taken) (c .before .before .before .before .before .before .before .before .before .wide .ensures) in
-    (simp length-set (turn .loop .inv .0), Joining.drops-keep _ _ (c .before .before .before .before .before .before .before .before .before .before .before .before .pre .0) _ (turn .loop .inv .1) m _ (c .before .before .before .before .wide2 .ensures) _ (c .before .before .on-list .ensures .1) (c .before .if1 .left))
+    (simp length-set (turn .loop .inv .0), Joining.drops-keep _ _ (start .pre .0) _ (turn .loop .inv .1) m _ (c .before .before .before .before .wide2 .ensures) _ (c .before .before .on-list .ensures .1) (c .before .if1 .left))
 
 cast-t-2 : tie.Need-cast-t-2 Inv-loop μ-loop
 cast-t-2 c = omega (arith, Fields.seq-length (c .before .before .before .before .before .args .g) (c .before .before .before .before .before .args .t .now))

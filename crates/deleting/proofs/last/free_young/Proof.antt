@@ -86,16 +86,31 @@ cast-out : tie.Need-cast-out Inv-loop μ-loop
 cast-out c = let z : 0 < c .before .before .before .before .wide .result = Tests.link-pos _ _ _ (c .before .before .is-young .ensures .1) (c .before .if2 .taken) in omega arith
 
 mul-out : tie.Need-mul-out Inv-loop μ-loop
-mul-out c = let l = Pruning.count-room _ _ _ (c .before .before .before .before .before .before .before .before .before .before .before .pre .2) _ _ _ (sym (Paging.link-here _ _ _ (c .before .before .before .before .before .before .before .before .before .before .before .pre .0) _ (c .before .before .before .before .before .before .before .before .loop .inv .5) (c .before .before .before .before .before .before .if1 .taken) _ (c .before .before .before .before .wide .ensures))) _ (c .before .before .is-young .ensures .1)
-    (Paging.birth-was _ _ _ (c .before .before .before .before .before .before .before .before .before .before .before .pre .0) _ (c .before .before .before .before .before .before .before .before .loop .inv .5) (c .before .before .before .before .before .before .if1 .taken) _ (c .before .before .before .before .wide .ensures) (c .before .before .before .before .wide .result - 1)) (c .before .if2 .taken) (c .before .before .before .before .before .before .before .before .before .before .before .args .g .pages) (c .before .before .before .before .before .before .if1 .taken) (c .before .before .before .before .before .before .before .before .loop .count) (c .before .before .before .before .before .before .before .before .loop .inv .3) in omega (arith, Pruning.pruned-short (viewOf (c .before .before .before .before .before .before .before .before .before .before .before .args .g) (c .before .before .before .before .before .before .before .before .before .before .before .args .t .now)) (c .before .before .before .before .before .before .before .before .before .before .before .args .s) (c .before .before .before .before .before .before .before .before .before .before .before .args .g .pages))
+mul-out c =
+    let start = c .before .before .before .before .before .before .before .before .before .before .before in
+    let turn = c .before .before .before .before .before .before .before .before .loop in
+    let link = c .before .before .before .before .wide .ensures in
+    let more = c .before .before .before .before .before .before .if1 .taken in
+    let l = Pruning.count-room _ _ _ (start .pre .2) _ _ _ (sym (Paging.link-here _ _ _ (start .pre .0) _ (turn .inv .5) more _ link)) _ (c .before .before .is-young .ensures .1)
+    (Paging.birth-was _ _ _ (start .pre .0) _ (turn .inv .5) more _ link (c .before .before .before .before .wide .result - 1)) (c .before .if2 .taken) (start .args .g .pages) more (turn .count) (turn .inv .3) in omega (arith, Pruning.pruned-short (viewOf (start .args .g) (start .args .t .now)) (start .args .s) (start .args .g .pages))
 
 slice-write-out : tie.Need-slice-write-out Inv-loop μ-loop
-slice-write-out c = let l = Pruning.count-room _ _ _ (c .before .before .before .before .before .before .before .before .before .before .before .pre .2) _ _ _ (sym (Paging.link-here _ _ _ (c .before .before .before .before .before .before .before .before .before .before .before .pre .0) _ (c .before .before .before .before .before .before .before .before .loop .inv .5) (c .before .before .before .before .before .before .if1 .taken) _ (c .before .before .before .before .wide .ensures))) _ (c .before .before .is-young .ensures .1)
-    (Paging.birth-was _ _ _ (c .before .before .before .before .before .before .before .before .before .before .before .pre .0) _ (c .before .before .before .before .before .before .before .before .loop .inv .5) (c .before .before .before .before .before .before .if1 .taken) _ (c .before .before .before .before .wide .ensures) (c .before .before .before .before .wide .result - 1)) (c .before .if2 .taken) (c .before .before .before .before .before .before .before .before .before .before .before .args .g .pages) (c .before .before .before .before .before .before .if1 .taken) (c .before .before .before .before .before .before .before .before .loop .count) (c .before .before .before .before .before .before .before .before .loop .inv .3) in omega arith
+slice-write-out c =
+    let start = c .before .before .before .before .before .before .before .before .before .before .before in
+    let turn = c .before .before .before .before .before .before .before .before .loop in
+    let link = c .before .before .before .before .wide .ensures in
+    let more = c .before .before .before .before .before .before .if1 .taken in
+    let l = Pruning.count-room _ _ _ (start .pre .2) _ _ _ (sym (Paging.link-here _ _ _ (start .pre .0) _ (turn .inv .5) more _ link)) _ (c .before .before .is-young .ensures .1)
+    (Paging.birth-was _ _ _ (start .pre .0) _ (turn .inv .5) more _ link (c .before .before .before .before .wide .result - 1)) (c .before .if2 .taken) (start .args .g .pages) more (turn .count) (turn .inv .3) in omega arith
 
 add-count : tie.Need-add-count Inv-loop μ-loop
-add-count c = let l = Pruning.count-room _ _ _ (c .before .before .before .before .before .before .before .before .before .before .before .pre .2) _ _ _ (sym (Paging.link-here _ _ _ (c .before .before .before .before .before .before .before .before .before .before .before .pre .0) _ (c .before .before .before .before .before .before .before .before .loop .inv .5) (c .before .before .before .before .before .before .if1 .taken) _ (c .before .before .before .before .wide .ensures))) _ (c .before .before .is-young .ensures .1)
-    (Paging.birth-was _ _ _ (c .before .before .before .before .before .before .before .before .before .before .before .pre .0) _ (c .before .before .before .before .before .before .before .before .loop .inv .5) (c .before .before .before .before .before .before .if1 .taken) _ (c .before .before .before .before .wide .ensures) (c .before .before .before .before .wide .result - 1)) (c .before .if2 .taken) (c .before .before .before .before .before .before .before .before .before .before .before .args .g .pages) (c .before .before .before .before .before .before .if1 .taken) (c .before .before .before .before .before .before .before .before .loop .count) (c .before .before .before .before .before .before .before .before .loop .inv .3) in omega (arith, Pruning.pruned-short (viewOf (c .before .before .before .before .before .before .before .before .before .before .before .args .g) (c .before .before .before .before .before .before .before .before .before .before .before .args .t .now)) (c .before .before .before .before .before .before .before .before .before .before .before .args .s) (c .before .before .before .before .before .before .before .before .before .before .before .args .g .pages))
+add-count c =
+    let start = c .before .before .before .before .before .before .before .before .before .before .before in
+    let turn = c .before .before .before .before .before .before .before .before .loop in
+    let link = c .before .before .before .before .wide .ensures in
+    let more = c .before .before .before .before .before .before .if1 .taken in
+    let l = Pruning.count-room _ _ _ (start .pre .2) _ _ _ (sym (Paging.link-here _ _ _ (start .pre .0) _ (turn .inv .5) more _ link)) _ (c .before .before .is-young .ensures .1)
+    (Paging.birth-was _ _ _ (start .pre .0) _ (turn .inv .5) more _ link (c .before .before .before .before .wide .result - 1)) (c .before .if2 .taken) (start .args .g .pages) more (turn .count) (turn .inv .3) in omega (arith, Pruning.pruned-short (viewOf (start .args .g) (start .args .t .now)) (start .args .s) (start .args .g .pages))
 
 add-x : tie.Need-add-x Inv-loop μ-loop
 add-x c = omega arith
@@ -104,16 +119,21 @@ loop-less : tie.Need-loop-less Inv-loop μ-loop
 loop-less c = omega arith
 
 loop-again : tie.Need-loop-again Inv-loop μ-loop
-loop-again c = (
-  simp length-set (c .before .before .before .before .before .before .before .before .loop .inv .0),
-  simp length-set (c .before .before .before .before .before .before .before .before .loop .inv .1),
-  omega arith,
-  Pruning.count-yes _ _ _ (c .before .before .before .before .before .before .before .before .before .before .before .pre .2) _ _ _ (sym (Paging.link-here _ _ _ (c .before .before .before .before .before .before .before .before .before .before .before .pre .0) _ (c .before .before .before .before .before .before .before .before .loop .inv .5) (c .before .before .before .before .before .before .if1 .taken) _ (c .before .before .before .before .wide .ensures))) _ (c .before .before .is-young .ensures .1)
-      (Paging.birth-was _ _ _ (c .before .before .before .before .before .before .before .before .before .before .before .pre .0) _ (c .before .before .before .before .before .before .before .before .loop .inv .5) (c .before .before .before .before .before .before .if1 .taken) _ (c .before .before .before .before .wide .ensures) (c .before .before .before .before .wide .result - 1)) (c .before .if2 .taken) (c .before .before .before .before .before .before .before .before .loop .count) (c .before .before .before .before .before .before .before .before .loop .inv .3),
-  Pruning.out-yes _ _ _ (c .before .before .before .before .before .before .before .before .before .before .before .pre .2) _ _ _ (sym (Paging.link-here _ _ _ (c .before .before .before .before .before .before .before .before .before .before .before .pre .0) _ (c .before .before .before .before .before .before .before .before .loop .inv .5) (c .before .before .before .before .before .before .if1 .taken) _ (c .before .before .before .before .wide .ensures))) _ (c .before .before .is-young .ensures .1)
-      (Paging.birth-was _ _ _ (c .before .before .before .before .before .before .before .before .before .before .before .pre .0) _ (c .before .before .before .before .before .before .before .before .loop .inv .5) (c .before .before .before .before .before .before .if1 .taken) _ (c .before .before .before .before .wide .ensures) (c .before .before .before .before .wide .result - 1)) (c .before .if2 .taken) (c .before .before .before .before .before .before .before .before .loop .count) (c .before .before .before .before .before .before .before .before .loop .inv .3) _ _ (c .before .before .before .before .before .before .before .before .loop .inv .4),
-  Paging.freeing-yes _ _ _ (c .before .before .before .before .before .before .before .before .before .before .before .pre .0) _ (c .before .before .before .before .before .before .before .before .loop .inv .5) (c .before .before .before .before .before .before .if1 .taken) _ (c .before .before .before .before .wide .ensures) _ (c .before .before .is-young .ensures .1) (c .before .if2 .taken),
-)
+loop-again c =
+    let start = c .before .before .before .before .before .before .before .before .before .before .before in
+    let turn = c .before .before .before .before .before .before .before .before .loop in
+    let link = c .before .before .before .before .wide .ensures in
+    let more = c .before .before .before .before .before .before .if1 .taken in
+    let test = c .before .before .is-young .ensures .1 in (
+      simp length-set (turn .inv .0),
+      simp length-set (turn .inv .1),
+      omega arith,
+      Pruning.count-yes _ _ _ (start .pre .2) _ _ _ (sym (Paging.link-here _ _ _ (start .pre .0) _ (turn .inv .5) more _ link)) _ test
+          (Paging.birth-was _ _ _ (start .pre .0) _ (turn .inv .5) more _ link (c .before .before .before .before .wide .result - 1)) (c .before .if2 .taken) (turn .count) (turn .inv .3),
+      Pruning.out-yes _ _ _ (start .pre .2) _ _ _ (sym (Paging.link-here _ _ _ (start .pre .0) _ (turn .inv .5) more _ link)) _ test
+          (Paging.birth-was _ _ _ (start .pre .0) _ (turn .inv .5) more _ link (c .before .before .before .before .wide .result - 1)) (c .before .if2 .taken) (turn .count) (turn .inv .3) _ _ (turn .inv .4),
+      Paging.freeing-yes _ _ _ (start .pre .0) _ (turn .inv .5) more _ link _ test (c .before .if2 .taken),
+    )
 
 add-x-2 : tie.Need-add-x-2 Inv-loop μ-loop
 add-x-2 c = omega arith
@@ -122,16 +142,21 @@ loop-less-2 : tie.Need-loop-less-2 Inv-loop μ-loop
 loop-less-2 c = omega arith
 
 loop-again-2 : tie.Need-loop-again-2 Inv-loop μ-loop
-loop-again-2 c = (
-  c .before .before .before .before .before .before .before .loop .inv .0,
-  c .before .before .before .before .before .before .before .loop .inv .1,
-  omega arith,
-  Pruning.count-no _ _ _ (c .before .before .before .before .before .before .before .before .before .before .pre .2) _ _ _ (sym (Paging.link-here _ _ _ (c .before .before .before .before .before .before .before .before .before .before .pre .0) _ (c .before .before .before .before .before .before .before .loop .inv .5) (c .before .before .before .before .before .if1 .taken) _ (c .before .before .before .wide .ensures))) _ (c .before .is-young .ensures .1)
-      (Paging.birth-was _ _ _ (c .before .before .before .before .before .before .before .before .before .before .pre .0) _ (c .before .before .before .before .before .before .before .loop .inv .5) (c .before .before .before .before .before .if1 .taken) _ (c .before .before .before .wide .ensures) (c .before .before .before .wide .result - 1)) (c .if2 .left) (c .before .before .before .before .before .before .before .loop .count) (c .before .before .before .before .before .before .before .loop .inv .3),
-  Pruning.out-no _ _ _ (c .before .before .before .before .before .before .before .before .before .before .pre .2) _ _ _ (sym (Paging.link-here _ _ _ (c .before .before .before .before .before .before .before .before .before .before .pre .0) _ (c .before .before .before .before .before .before .before .loop .inv .5) (c .before .before .before .before .before .if1 .taken) _ (c .before .before .before .wide .ensures))) _ (c .before .is-young .ensures .1)
-      (Paging.birth-was _ _ _ (c .before .before .before .before .before .before .before .before .before .before .pre .0) _ (c .before .before .before .before .before .before .before .loop .inv .5) (c .before .before .before .before .before .if1 .taken) _ (c .before .before .before .wide .ensures) (c .before .before .before .wide .result - 1)) (c .if2 .left) _ _ (c .before .before .before .before .before .before .before .loop .inv .4),
-  Paging.freeing-no _ _ _ (c .before .before .before .before .before .before .before .before .before .before .pre .0) _ (c .before .before .before .before .before .before .before .loop .inv .5) (c .before .before .before .before .before .if1 .taken) _ (c .before .before .before .wide .ensures) _ (c .before .is-young .ensures .1) (c .if2 .left),
-)
+loop-again-2 c =
+    let start = c .before .before .before .before .before .before .before .before .before .before in
+    let turn = c .before .before .before .before .before .before .before .loop in
+    let link = c .before .before .before .wide .ensures in
+    let more = c .before .before .before .before .before .if1 .taken in
+    let test = c .before .is-young .ensures .1 in (
+      turn .inv .0,
+      turn .inv .1,
+      omega arith,
+      Pruning.count-no _ _ _ (start .pre .2) _ _ _ (sym (Paging.link-here _ _ _ (start .pre .0) _ (turn .inv .5) more _ link)) _ test
+          (Paging.birth-was _ _ _ (start .pre .0) _ (turn .inv .5) more _ link (c .before .before .before .wide .result - 1)) (c .if2 .left) (turn .count) (turn .inv .3),
+      Pruning.out-no _ _ _ (start .pre .2) _ _ _ (sym (Paging.link-here _ _ _ (start .pre .0) _ (turn .inv .5) more _ link)) _ test
+          (Paging.birth-was _ _ _ (start .pre .0) _ (turn .inv .5) more _ link (c .before .before .before .wide .result - 1)) (c .if2 .left) _ _ (turn .inv .4),
+      Paging.freeing-no _ _ _ (start .pre .0) _ (turn .inv .5) more _ link _ test (c .if2 .left),
+    )
 
 same-length : tie.Need-same-length Inv-loop μ-loop
 same-length c = c .before .before .loop .inv .0
@@ -140,13 +165,16 @@ same-length-2 : tie.Need-same-length-2 Inv-loop μ-loop
 same-length-2 c = c .before .before .loop .inv .1
 
 returns : tie.Need-returns Inv-loop μ-loop
-returns c = let e : c .before .before .loop .x ≡ c .before .before .before .before .before .args .g .pages = omega arith in (
-  c .before .before .loop .inv .3 ∙ ap (λ j. length (pruned (viewOf (c .before .before .before .before .before .args .g) (c .before .before .before .before .before .args .t .now)) (c .before .before .before .before .before .args .s) j)) e,
-  (
-    Paging.freeing-end _ _ _ (c .before .before .before .before .before .pre .0) _ (c .before .before .before .before .before .pre .2) (c .before .before .loop .inv .5) (omega arith),
-    c .before .before .loop .inv .4 ∙ ap (λ j. sets (c .before .before .before .before .before .args .out .now) 0 (pruned (viewOf (c .before .before .before .before .before .args .g) (c .before .before .before .before .before .args .t .now)) (c .before .before .before .before .before .args .s) j)) e,
-  ),
-)
+returns c =
+    let start = c .before .before .before .before .before in
+    let turn = c .before .before .loop in
+    let e : turn .x ≡ start .args .g .pages = omega arith in (
+      turn .inv .3 ∙ ap (λ j. length (pruned (viewOf (start .args .g) (start .args .t .now)) (start .args .s) j)) e,
+      (
+        Paging.freeing-end _ _ _ (start .pre .0) _ (start .pre .2) (turn .inv .5) (omega arith),
+        turn .inv .4 ∙ ap (λ j. sets (start .args .out .now) 0 (pruned (viewOf (start .args .g) (start .args .t .now)) (start .args .s) j)) e,
+      ),
+    )
 
 pub free-young-spec : {M : Type 1} → statement M
 free-young-spec =

@@ -26,7 +26,9 @@ wide-requires : tie.Need-wide-requires Inv-loop μ-loop
 wide-requires c κs = search needs
 
 loop-holds : tie.Need-loop-holds Inv-loop μ-loop
-loop-holds c = (omega arith, omega arith, omega (arith, ap length (Counting.gone-start (viewOf (c .before .before .before .args .g) (c .before .before .before .args .t .now)) (c .before .before .before .args .s) (c .before .before .before .args .n))))
+loop-holds c =
+    let start = c .before .before .before in
+    (omega arith, omega arith, omega (arith, ap length (Counting.gone-start (viewOf (start .args .g) (start .args .t .now)) (start .args .s) (start .args .n))))
 
 mul-wide : tie.Need-mul-wide Inv-loop μ-loop
 mul-wide c = omega arith
@@ -68,9 +70,12 @@ loop-less : tie.Need-loop-less Inv-loop μ-loop
 loop-less c = omega arith
 
 loop-again : tie.Need-loop-again Inv-loop μ-loop
-loop-again c = let m = Tests.below _ _ _ (c .before .before .before .before .before .loop-test .taken) (c .before .before .before .before .before .before .before .wide .ensures) in
-    let d = Counting.gone-yes _ _ (c .before .before .before .before .before .before .before .before .before .before .pre .0) _ (c .before .before .before .before .before .before .before .before .before .before .args .n) _ (c .before .before .before .before .before .before .before .before .before .before .pre .2) _ m _ (c .before .before .wide2 .ensures) _ (c .before .goes .ensures .1) (c .if1 .taken) in
-    (omega arith, omega arith, Counting.count-next _ _ _ _ d _ (c .before .before .before .before .before .before .loop .inv .2))
+loop-again c =
+    let start = c .before .before .before .before .before .before .before .before .before .before in
+    let turn = c .before .before .before .before .before .before .loop in
+    let m = Tests.below _ _ _ (c .before .before .before .before .before .loop-test .taken) (c .before .before .before .before .before .before .before .wide .ensures) in
+    let d = Counting.gone-yes _ _ (start .pre .0) _ (start .args .n) _ (start .pre .2) _ m _ (c .before .before .wide2 .ensures) _ (c .before .goes .ensures .1) (c .if1 .taken) in
+    (omega arith, omega arith, Counting.count-next _ _ _ _ d _ (turn .inv .2))
 
 add-i-2 : tie.Need-add-i-2 Inv-loop μ-loop
 add-i-2 c = omega arith
@@ -79,13 +84,19 @@ loop-less-2 : tie.Need-loop-less-2 Inv-loop μ-loop
 loop-less-2 c = omega arith
 
 loop-again-2 : tie.Need-loop-again-2 Inv-loop μ-loop
-loop-again-2 c = let m = Tests.below _ _ _ (c .before .before .before .before .before .loop-test .taken) (c .before .before .before .before .before .before .before .wide .ensures) in
-    let d = Counting.gone-no _ _ (c .before .before .before .before .before .before .before .before .before .before .pre .0) _ (c .before .before .before .before .before .before .before .before .before .before .args .n) _ (c .before .before .before .before .before .before .before .before .before .before .pre .2) _ m _ (c .before .before .wide2 .ensures) _ (c .before .goes .ensures .1) (c .if1 .left) in
-    (omega arith, omega arith, ap (λ l. c .before .before .before .before .before .before .loop .count + length l) (sym d) ∙ c .before .before .before .before .before .before .loop .inv .2)
+loop-again-2 c =
+    let start = c .before .before .before .before .before .before .before .before .before .before in
+    let turn = c .before .before .before .before .before .before .loop in
+    let m = Tests.below _ _ _ (c .before .before .before .before .before .loop-test .taken) (c .before .before .before .before .before .before .before .wide .ensures) in
+    let d = Counting.gone-no _ _ (start .pre .0) _ (start .args .n) _ (start .pre .2) _ m _ (c .before .before .wide2 .ensures) _ (c .before .goes .ensures .1) (c .if1 .left) in
+    (omega arith, omega arith, ap (λ l. turn .count + length l) (sym d) ∙ turn .inv .2)
 
 returns : tie.Need-returns Inv-loop μ-loop
-returns c = let e = Counting.gone-end _ _ (c .before .before .before .before .before .pre .0) _ (c .before .before .before .before .before .args .n) _ (c .before .before .before .before .before .pre .2) (c .before .loop .i) (omega arith) (omega arith) in
-    Counting.count-end _ _ e _ (c .before .loop .inv .2)
+returns c =
+    let start = c .before .before .before .before .before in
+    let turn = c .before .loop in
+    let e = Counting.gone-end _ _ (start .pre .0) _ (start .args .n) _ (start .pre .2) (turn .i) (omega arith) (omega arith) in
+    Counting.count-end _ _ e _ (turn .inv .2)
 
 pub count-gone-spec : {M : Type 1} → statement M
 count-gone-spec =

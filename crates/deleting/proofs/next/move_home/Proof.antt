@@ -88,8 +88,9 @@ loop-less c = omega arith
 
 loop-again : tie.Need-loop-again Inv-loop μ-loop
 loop-again c =
+    let start = c .before .before .before .before .before .before .before .before .before .before in
     let turn = c .before .before .before .before .before .before .before .before in
-    (simp length-set (turn .loop .inv .0), Paging.moving-yes _ _ _ (c .before .before .before .before .before .before .before .before .before .before .pre .0) _ (turn .loop .inv .1) (c .before .before .before .before .before .before .if1 .taken) _ (c .before .before .before .before .wide .ensures) _ (c .before .before .at-home .ensures .1) (c .before .if2 .taken))
+    (simp length-set (turn .loop .inv .0), Paging.moving-yes _ _ _ (start .pre .0) _ (turn .loop .inv .1) (c .before .before .before .before .before .before .if1 .taken) _ (c .before .before .before .before .wide .ensures) _ (c .before .before .at-home .ensures .1) (c .before .if2 .taken))
 
 add-x-2 : tie.Need-add-x-2 Inv-loop μ-loop
 add-x-2 c = omega arith
@@ -99,8 +100,9 @@ loop-less-2 c = omega arith
 
 loop-again-2 : tie.Need-loop-again-2 Inv-loop μ-loop
 loop-again-2 c =
+    let start = c .before .before .before .before .before .before .before .before .before in
     let turn = c .before .before .before .before .before .before .before in
-    (turn .loop .inv .0, Paging.moving-no _ _ _ (c .before .before .before .before .before .before .before .before .before .pre .0) _ (turn .loop .inv .1) (c .before .before .before .before .before .if1 .taken) _ (c .before .before .before .wide .ensures) _ (c .before .at-home .ensures .1) (c .if2 .left))
+    (turn .loop .inv .0, Paging.moving-no _ _ _ (start .pre .0) _ (turn .loop .inv .1) (c .before .before .before .before .before .if1 .taken) _ (c .before .before .before .wide .ensures) _ (c .before .at-home .ensures .1) (c .if2 .left))
 
 same-length : tie.Need-same-length Inv-loop μ-loop
 same-length c = c .before .before .loop .inv .0
