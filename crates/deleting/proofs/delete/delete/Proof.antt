@@ -18,20 +18,30 @@ enum-known-verdict-2 c = search needs
 
 delete-record-requires : tie.Need-delete-record-requires
 delete-record-requires c κs =
-    let start = c .before .before .before .before .before .before .before .before .before .before in
-    (start .pre .0, Calling.accept-out _ _ (start .pre .0) _ _ (c .before .before .before .before .before .delete-verdict .ensures) _ _ (c .before .before .before .verdict2 .given .1) (start .args .out .now) (start .pre .2), Calling.accept-slot _ _ (start .pre .0) _ _ (c .before .before .before .before .before .delete-verdict .ensures) _ _ (c .before .before .before .verdict2 .given .1), Calling.accept-live _ _ (start .pre .0) _ _ (c .before .before .before .before .before .delete-verdict .ensures) _ _ (c .before .before .before .verdict2 .given .1), Calling.accept-follower _ _ (start .pre .0) _ _ (c .before .before .before .before .before .delete-verdict .ensures) _ _ (c .before .before .before .verdict2 .given .1))
+    let told = c .before .before .before .before .before .delete-verdict .ensures in
+    let accepted = c .before .before .before .verdict2 .given .1 in
+    let start = c .before .before .before .before .before .before .before .before .before .before in (
+      start .pre .0,
+      Calling.accept-out _ _ (start .pre .0) _ _ told _ _ accepted (start .args .out .now) (start .pre .2),
+      Calling.accept-slot _ _ (start .pre .0) _ _ told _ _ accepted,
+      Calling.accept-live _ _ (start .pre .0) _ _ told _ _ accepted,
+      Calling.accept-follower _ _ (start .pre .0) _ _ told _ _ accepted,
+    )
 
 log-frees-requires : tie.Need-log-frees-requires
 log-frees-requires c κs =
+    let told = c .before .before .before .before .before .before .before .before .before .before .before .before .before .delete-verdict .ensures in
+    let accepted = c .before .before .before .before .before .before .before .before .before .before .before .verdict2 .given .1 in
+    let made = c .before .before .before .before .before .before .before .delete-record .ensures in
     let start = c .before .before .before .before .before .before .before .before .before .before .before .before .before .before .before .before .before .before in
-    let u = Calling.accept-used _ _ (start .pre .0) _ _ (c .before .before .before .before .before .before .before .before .before .before .before .before .before .delete-verdict .ensures) _ _ (c .before .before .before .before .before .before .before .before .before .before .before .verdict2 .given .1) _ (c .before .before .before .before .before .before .before .delete-record .ensures .1 .0) in
-    let w = Calling.accept-words _ _ (start .pre .0) _ _ (c .before .before .before .before .before .before .before .before .before .before .before .before .before .delete-verdict .ensures) _ _ (c .before .before .before .before .before .before .before .before .before .before .before .verdict2 .given .1) in
-    let l = Calling.accept-length _ _ (start .pre .0) _ _ (c .before .before .before .before .before .before .before .before .before .before .before .before .before .delete-verdict .ensures) _ _ (c .before .before .before .before .before .before .before .before .before .before .before .verdict2 .given .1) _ (c .before .before .before .before .before .before .before .delete-record .ensures .1 .0) in
-    let o = Calling.accept-room _ _ (start .pre .0) _ _ (c .before .before .before .before .before .before .before .before .before .before .before .before .before .delete-verdict .ensures) _ _ (c .before .before .before .before .before .before .before .before .before .before .before .verdict2 .given .1) _ (c .before .before .before .before .before .before .before .delete-record .ensures .1 .0) _ (c .before .before .before .before .before .before .before .delete-record .ensures .0) _ (start .pre .2) _ (c .before .before .before .before .before .before .before .delete-record .ensures .1 .1) in
+    let u = Calling.accept-used _ _ (start .pre .0) _ _ told _ _ accepted _ (made .1 .0) in
+    let w = Calling.accept-words _ _ (start .pre .0) _ _ told _ _ accepted in
+    let l = Calling.accept-length _ _ (start .pre .0) _ _ told _ _ accepted _ (made .1 .0) in
+    let o = Calling.accept-room _ _ (start .pre .0) _ _ told _ _ accepted _ (made .1 .0) _ (made .0) _ (start .pre .2) _ (made .1 .1) in
     let r = start .pre .0 .roomy .room in
     let k = start .pre .0 .roomy .inside .words-most in
     let g = start .pre .1 in
-    let n = c .before .before .before .before .before .before .before .delete-record .ensures .0 in
+    let n = made .0 in
     (omega arith, o, omega arith, omega arith)
 
 same-length : tie.Need-same-length
@@ -52,13 +62,17 @@ same-length-4 c = search needs
 
 returns-2 : tie.Need-returns-2
 returns-2 c =
+    let told = c .before .before .before .before .before .before .before .before .before .before .before .before .before .before .before .before .before .before .delete-verdict .ensures in
+    let accepted = c .before .before .before .before .before .before .before .before .before .before .before .before .before .before .before .before .verdict2 .given .1 in
+    let made = c .before .before .before .before .before .before .before .before .before .before .before .before .delete-record .ensures in
+    let logged = c .before .before .before .before .log-frees .ensures in
     let start = c .before .before .before .before .before .before .before .before .before .before .before .before .before .before .before .before .before .before .before .before .before .before .before in (
-      Calling.accept-done _ _ (start .pre .0) _ _ (c .before .before .before .before .before .before .before .before .before .before .before .before .before .before .before .before .before .before .delete-verdict .ensures) _ _ (c .before .before .before .before .before .before .before .before .before .before .before .before .before .before .before .before .verdict2 .given .1) _ (c .before .before .before .before .before .before .before .before .before .before .before .before .delete-record .ensures .1 .0) _ (c .before .before .before .before .before .before .before .before .before .before .before .before .delete-record .ensures .0) _ (start .pre .2) _ (c .before .before .before .before .before .before .before .before .before .before .before .before .delete-record .ensures .1 .1),
+      Calling.accept-done _ _ (start .pre .0) _ _ told _ _ accepted _ (made .1 .0) _ (made .0) _ (start .pre .2) _ (made .1 .1),
       (
-        c .before .before .before .before .log-frees .ensures .0 ∙ Calling.accept-tables _ _ (start .pre .0) _ _ (c .before .before .before .before .before .before .before .before .before .before .before .before .before .before .before .before .before .before .delete-verdict .ensures) _ _ (c .before .before .before .before .before .before .before .before .before .before .before .before .before .before .before .before .verdict2 .given .1) _ (c .before .before .before .before .before .before .before .before .before .before .before .before .delete-record .ensures .1 .0) _ (c .before .before .before .before .before .before .before .before .before .before .before .before .delete-record .ensures .0),
+        logged .0 ∙ Calling.accept-tables _ _ (start .pre .0) _ _ told _ _ accepted _ (made .1 .0) _ (made .0),
         (
-          Calling.accept-log _ _ (start .pre .0) _ _ (c .before .before .before .before .before .before .before .before .before .before .before .before .before .before .before .before .before .before .delete-verdict .ensures) _ _ (c .before .before .before .before .before .before .before .before .before .before .before .before .before .before .before .before .verdict2 .given .1) _ (c .before .before .before .before .before .before .before .before .before .before .before .before .delete-record .ensures .1 .0) _ (c .before .before .before .before .before .before .before .before .before .before .before .before .delete-record .ensures .0) _ (start .pre .2) _ (c .before .before .before .before .before .before .before .before .before .before .before .before .delete-record .ensures .1 .1) _ _ (c .before .before .before .before .log-frees .ensures .1),
-          Calling.accept-left _ _ (start .pre .0) _ _ (c .before .before .before .before .before .before .before .before .before .before .before .before .before .before .before .before .before .before .delete-verdict .ensures) _ _ (c .before .before .before .before .before .before .before .before .before .before .before .before .before .before .before .before .verdict2 .given .1) _ (c .before .before .before .before .before .before .before .before .before .before .before .before .delete-record .ensures .1 .0) _ (c .before .before .before .before .before .before .before .before .before .before .before .before .delete-record .ensures .0) _ (start .pre .2) _ (c .before .before .before .before .before .before .before .before .before .before .before .before .delete-record .ensures .1 .1),
+          Calling.accept-log _ _ (start .pre .0) _ _ told _ _ accepted _ (made .1 .0) _ (made .0) _ (start .pre .2) _ (made .1 .1) _ _ (logged .1),
+          Calling.accept-left _ _ (start .pre .0) _ _ told _ _ accepted _ (made .1 .0) _ (made .0) _ (start .pre .2) _ (made .1 .1),
         ),
       ),
     )

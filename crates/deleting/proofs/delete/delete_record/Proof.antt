@@ -28,13 +28,14 @@ same-length-2 c = search needs
 
 returns : tie.Need-returns
 returns c =
-    let more = c .before .before .before .before .before .before .before .if1 .taken in
+    let made = c .before .before .before .before .delete-last .ensures in
+    let none = c .before .before .before .before .before .before .before .if1 .taken in
     let start = c .before .before .before .before .before .before .before .before .before .before .before .before in
-    let e = Calling.deleted-last (start .args .g) (start .args .t .now) (start .args .s) (start .args .follower) more in (
-      c .before .before .before .before .delete-last .ensures .0 ∙ ap length e,
+    let e = Calling.deleted-last (start .args .g) (start .args .t .now) (start .args .s) (start .args .follower) none in (
+      made .0 ∙ ap length e,
       (
-        c .before .before .before .before .delete-last .ensures .1 .0 ∙ ap (λ L. stored (start .args .g) (withView (stateOf (start .args .g) (start .args .t .now)) L) (start .args .t .now)) (Calling.delete-last (start .args .g) (start .args .t .now) (start .args .s) (start .args .follower) more),
-        c .before .before .before .before .delete-last .ensures .1 .1 ∙ ap (sets (start .args .out .now) 0) e,
+        made .1 .0 ∙ ap (λ L. stored (start .args .g) (withView (stateOf (start .args .g) (start .args .t .now)) L) (start .args .t .now)) (Calling.delete-last (start .args .g) (start .args .t .now) (start .args .s) (start .args .follower) none),
+        made .1 .1 ∙ ap (sets (start .args .out .now) 0) e,
       ),
     )
 
@@ -54,12 +55,14 @@ same-length-4 c = search needs
 
 returns-2 : tie.Need-returns-2
 returns-2 c =
+    let some = c .before .before .before .before .before .before .before .if1 .left in
+    let made = c .before .before .before .before .delete-next .ensures in
     let start = c .before .before .before .before .before .before .before .before .before .before .before .before in
-    let e = Calling.deleted-next (start .args .g) (start .args .t .now) (start .args .s) (start .args .follower) (c .before .before .before .before .before .before .before .if1 .left) in (
-      c .before .before .before .before .delete-next .ensures .0 ∙ ap length e,
+    let e = Calling.deleted-next (start .args .g) (start .args .t .now) (start .args .s) (start .args .follower) some in (
+      made .0 ∙ ap length e,
       (
-        c .before .before .before .before .delete-next .ensures .1 .0 ∙ ap (λ L. stored (start .args .g) (withView (stateOf (start .args .g) (start .args .t .now)) L) (start .args .t .now)) (Calling.delete-next (start .args .g) (start .args .t .now) (start .args .s) (start .args .follower) (c .before .before .before .before .before .before .before .if1 .left)),
-        c .before .before .before .before .delete-next .ensures .1 .1 ∙ ap (sets (start .args .out .now) 0) e,
+        made .1 .0 ∙ ap (λ L. stored (start .args .g) (withView (stateOf (start .args .g) (start .args .t .now)) L) (start .args .t .now)) (Calling.delete-next (start .args .g) (start .args .t .now) (start .args .s) (start .args .follower) some),
+        made .1 .1 ∙ ap (sets (start .args .out .now) 0) e,
       ),
     )
 

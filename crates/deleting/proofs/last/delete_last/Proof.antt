@@ -15,9 +15,10 @@ drop-deadlist-requires c κs = (Frames.walkable (c .before .before .before .pre 
 
 free-young-requires : tie.Need-free-young-requires
 free-young-requires c κs =
+    let dropped = c .before .before .before .before .drop-deadlist .ensures in
     let start = c .before .before .before .before .before .before .before .before in
-    let e = Ending.last-pruned (start .pre .0) (start .args .s) (start .pre .3) _ (c .before .before .before .before .drop-deadlist .ensures) in
-    (Ending.last-paged (start .pre .0) (start .args .s) (start .pre .3) _ (c .before .before .before .before .drop-deadlist .ensures), omega (arith, ap length e, start .pre .1), start .pre .4 ∙ sym (Ending.last-pred (start .pre .0) (start .args .s) (start .pre .3) _ (c .before .before .before .before .drop-deadlist .ensures)))
+    let e = Ending.last-pruned (start .pre .0) (start .args .s) (start .pre .3) _ dropped in
+    (Ending.last-paged (start .pre .0) (start .args .s) (start .pre .3) _ dropped, omega (arith, ap length e, start .pre .1), start .pre .4 ∙ sym (Ending.last-pred (start .pre .0) (start .args .s) (start .pre .3) _ dropped))
 
 mul-t : tie.Need-mul-t
 mul-t c = omega arith
@@ -41,10 +42,12 @@ same-length-2 c = search needs
 
 returns : tie.Need-returns
 returns c =
+    let dropped = c .before .before .before .before .before .before .before .before .before .drop-deadlist .ensures in
+    let freed = c .before .before .before .before .free-young .ensures in
     let start = c .before .before .before .before .before .before .before .before .before .before .before .before .before in
-    let e = Ending.last-pruned (start .pre .0) (start .args .s) (start .pre .3) _ (c .before .before .before .before .before .before .before .before .before .drop-deadlist .ensures) in (
-      c .before .before .before .before .free-young .ensures .0 ∙ ap length e,
-      (Ending.last-tables (start .pre .0) (start .args .s) (start .pre .3) _ (c .before .before .before .before .before .before .before .before .before .drop-deadlist .ensures) _ (c .before .before .before .before .free-young .ensures .1 .0), c .before .before .before .before .free-young .ensures .1 .1 ∙ ap (sets (start .args .out .now) 0) e),
+    let e = Ending.last-pruned (start .pre .0) (start .args .s) (start .pre .3) _ dropped in (
+      freed .0 ∙ ap length e,
+      (Ending.last-tables (start .pre .0) (start .args .s) (start .pre .3) _ dropped _ (freed .1 .0), freed .1 .1 ∙ ap (sets (start .args .out .now) 0) e),
     )
 
 pub delete-last-spec : {M : Type 1} → statement M
