@@ -14,7 +14,7 @@ use std::num::wrapping_sub_u32;
 use std::num::wrapping_sub_usize;
 
 // What a number becomes, way by way.
-fn another(x: u32, way: usize) -> u32 {
+pub fn another(x: u32, way: usize) -> u32 {
     match way {
         0 => wrapping_add_u32(x, 1),
         1 => wrapping_sub_u32(x, 1),
@@ -288,7 +288,7 @@ pub fn words(
 }
 
 // The calls asked, every one or each third.
-fn each_ask(
+pub fn each_ask(
     six: Six,
     size: Sizes,
     tables: &[u32; 2048],

@@ -1,4 +1,4 @@
-// Feeds damaged memory to the entry points of the store and prints the replies. Three stores are made by calls; each case damages
+// Feeds damaged memory to the entry points of the store and prints the replies. Four stores are made by calls; each case damages
 // the memory of one of them in one way, makes one call on it and compares what a refusal leaves with what was lent.
 ghost use Prim.Native.Nat.{_+_, _≤_};
 ghost use lib.ListN.{length};
@@ -8,6 +8,7 @@ mod case;
 mod damage;
 mod random;
 mod report;
+mod several;
 
 use ask::Six;
 use ask::Sizes;
@@ -124,9 +125,10 @@ fn all(
     rows: usize,
     report: &mut [u64; 160],
 )
-    requires { ⌜ (1 ≤ size .tables) × (1 ≤ size .log) × (1 ≤ size .out) × (size .tables + 1 ≤ 2048) × (size .log + 1 ≤ 256) × (size .out + 1 ≤ 128) × (rows + 64 ≤ 2048) ⌝ }
+    requires { ⌜ (1 ≤ size .tables) × (1 ≤ size .log) × (1 ≤ size .out) × (size .tables ≤ 2040) × (size .log + 1 ≤ 256) × (size .out + 1 ≤ 128) × (rows + 64 ≤ 2048) ⌝ }
 {
     one_by_one(six, size, tables, log, asks, report);
+    several::columns(six, size, tables, log, asks, rows, report);
     by_the_call(six, size, tables, log, asks, report);
     at_random(six, size, tables, log, asks, rows, report);
 }
@@ -140,7 +142,7 @@ fn subject(
     asks: &[u8; 128],
     report: &mut [u64; 160],
 )
-    requires { ⌜ (1 ≤ size .tables) × (1 ≤ size .log) × (1 ≤ size .out) × (size .tables + 1 ≤ 2048) × (size .log + 1 ≤ 256) × (size .out + 1 ≤ 128) × (rows + 64 ≤ 2048) ⌝ }
+    requires { ⌜ (1 ≤ size .tables) × (1 ≤ size .log) × (1 ≤ size .out) × (size .tables ≤ 2040) × (size .log + 1 ≤ 256) × (size .out + 1 ≤ 128) × (rows + 64 ≤ 2048) ⌝ }
 {
     let mut tables = [7u32; 2048];
     let mut log = [9u8; 256];
@@ -148,6 +150,26 @@ fn subject(
     making(six, size.tables, &mut tables, &log, report);
     run(six, size, script, &mut tables, &mut log, report);
     all(six, size, &tables, &log, asks, rows, report);
+}
+
+// A store of five records, one page and two blocks, then two numbers damaged at a time.
+fn small_subject(
+    six: Six,
+    size: Sizes,
+    rows: usize,
+    script: &[u8],
+    asks: &[u8; 128],
+    report: &mut [u64; 160],
+)
+    requires { ⌜ (size .tables ≤ 2040) × (size .log ≤ 256) × (size .out ≤ 128) × (rows + 64 ≤ 2048) ⌝ }
+{
+    let mut tables = [7u32; 2048];
+    let mut log = [9u8; 256];
+    report::heading(report, b"store");
+    making(six, size.tables, &mut tables, &log, report);
+    run(six, size, script, &mut tables, &mut log, report);
+    several::twos(six, size, &tables, &log, asks, report);
+    several::columns(six, size, &tables, &log, asks, rows, report);
 }
 
 fn six(arenas: usize, per: usize, pages: usize, records: usize, turn: usize, words: usize) -> Six {
@@ -209,11 +231,28 @@ fn full(report: &mut [u64; 160]) {
     );
 }
 
+// Three sealed records in a line, and a fork on the last that has erased what it inherited.
+fn erased(report: &mut [u64; 160]) {
+    small_subject(
+        six(1, 2, 1, 5, 1, 6),
+        Sizes {
+            tables: 1408,
+            log: 48,
+            out: 68,
+        },
+        1392,
+        b"B000W100S100S200S300F300D400S500E600",
+        b"B000W600W610W603W100W?00E600E500E610S600S500S900F100F300F500F600D100D200D300D500D600D900R100R600R200R300R500R610Y000C000L000D?00",
+        report,
+    );
+}
+
 fn main() {
     let mut report = [0u64; 160];
     report[6] = 1;
     lines(&mut report);
     listing(&mut report);
     full(&mut report);
+    erased(&mut report);
     report::totals(&mut report);
 }

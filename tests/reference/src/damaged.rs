@@ -179,6 +179,44 @@ impl Subject {
         }
     }
 
+    /// Two pages exchanged in every record row and every block row.
+    fn columns(&self, report: &mut Report) {
+        let rows = 32 + 272 * self.six[3] as usize;
+        for (x, y) in [(0, 1), (0, 2), (0, 3), (1, 2)] {
+            let mut m = self.sound.clone();
+            for at in (32..rows).step_by(272) {
+                m.tables.swap(at + 16 + x, at + 16 + y);
+            }
+            for at in (rows..self.lent[0]).step_by(8) {
+                let page = m.tables[at + 2] as usize;
+                m.tables[at + 2] = if page == x { y } else if page == y { x } else { page } as u32;
+            }
+            for k in 0..32 {
+                self.ask(report, &m, k);
+            }
+        }
+    }
+
+    /// Two numbers with a meaning changed: one goes up or down, the other becomes a number below 5.
+    fn twos(&self, report: &mut Report) {
+        let mut spots = vec![6, 7, 8, 9, 10, 16];
+        spots.extend((0..5).flat_map(|s| [0, 1, 2, 3, 4, 16].map(|f| 32 + 272 * s + f)));
+        spots.extend((0..2).flat_map(|b| [0, 1, 2, 3, 4].map(|f| 1392 + 8 * b + f)));
+        for (k, &i) in spots.iter().enumerate() {
+            for &j in &spots {
+                for c in 0..10 {
+                    let mut m = self.sound.clone();
+                    m.tables[i] = if c % 2 == 0 { m.tables[i].wrapping_add(1) } else { m.tables[i].wrapping_sub(1) };
+                    let y = c / 2;
+                    if i != j && self.sound.tables[j] != y {
+                        m.tables[j] = y;
+                        self.ask(report, &m, k);
+                    }
+                }
+            }
+        }
+    }
+
     /// Calls for another geometry; where `agreed`, the header says the same.
     fn foreign(&self, report: &mut Report, lent: [usize; 3], agreed: bool) {
         for which in 0..6 {
@@ -274,6 +312,7 @@ impl Subject {
         self.group(report, "pairs", |r| self.exchanged(r, 272));
         self.group(report, "words", |r| self.words(r));
         self.group(report, "last", |r| self.last(r));
+        self.group(report, "columns", |r| self.columns(r));
         let whole = [TABLES, LOG, RESULT];
         self.group(report, "foreign", |r| self.foreign(r, self.lent, false));
         self.group(report, "foreign", |r| self.foreign(r, whole, false));
@@ -283,6 +322,11 @@ impl Subject {
         self.group(report, "tables", |r| self.tables_at_random(r));
         self.group(report, "log", |r| self.log_at_random(r));
         self.group(report, "history", |r| self.history(r));
+    }
+
+    fn small(&self, report: &mut Report) {
+        self.group(report, "twos", |r| self.twos(r));
+        self.group(report, "columns", |r| self.columns(r));
     }
 
     fn group(&self, report: &mut Report, name: &str, cases: impl Fn(&mut Report)) {
@@ -324,7 +368,7 @@ fn group(report: &mut Report, name: &str) {
 }
 
 /// The calls asked of each store, 32 each.
-const SUBJECTS: [([u64; 6], &str, &str); 3] = [
+const SUBJECTS: [([u64; 6], &str, &str); 4] = [
     (
         [2, 4, 3, 7, 2, 24],
         "B000W100W111W122S100W200Y000S200W311W302S300E420E410D200F100W500S500W601F500E710",
@@ -340,13 +384,18 @@ const SUBJECTS: [([u64; 6], &str, &str); 3] = [
         "B000W100S100W200Y000Y000Y000Y000",
         "B000W200W210W100W220W203W900E200E210E100E2?0E900S200S100S900F100F200F900D100D200D900R200R100R110R120R900Y000C000L000D?00R210S?00",
     ),
+    (
+        [1, 2, 1, 5, 1, 6],
+        "B000W100S100S200S300F300D400S500E600",
+        "B000W600W610W603W100W?00E600E500E610S600S500S900F100F300F500F600D100D200D300D500D600D900R100R600R200R300R500R610Y000C000L000D?00",
+    ),
 ];
 
 pub fn printed() -> String {
     let mut report = Report { text: String::new(), last: None, cases: 0, counts: [0; 16], sums: [0, 0], random: 1 };
-    for (six, script, asks) in SUBJECTS {
+    for (i, (six, script, asks)) in SUBJECTS.into_iter().enumerate() {
         let subject = Subject::made(six, script, asks, &mut report);
-        subject.all(&mut report);
+        if i < 3 { subject.all(&mut report) } else { subject.small(&mut report) }
     }
     let (cases, counts) = (report.cases, report.counts);
     report.line(&format!("cases {cases}"));
