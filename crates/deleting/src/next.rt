@@ -70,7 +70,7 @@ fn move_entry(t: &mut [u32], g: Geometry, i: usize, k: usize)
     t[32 + 272 * g.records + 8 * k + 4] = t[32 + 272 * g.records + 8 * i + 4];
 }
 
-// The sequence without them: each is written to `out`, free and on no deadlist; those of slot s stand on the deadlist of slot n.
+// The sequence without the blocks that are freed: each is written to `out` and is on no deadlist. The others of slot s are on the deadlist of slot n.
 fn join_shards(t: &mut [u32], g: Geometry, out: &mut [u32], s: usize, n: usize, p: u32) -> usize
     requires { ⌜ Walkable g (now t) × (length (unlinked (viewOf g (now t)) s n) ≤ length (now out)) × (s < 64) × (n < 64) × (p ≡ predNum (viewOf g (now t)) s) ⌝ }
     ensures count { λ r. ⌜ r ≡ length (unlinked (viewOf g (now (t .entry))) s n) ⌝ }
