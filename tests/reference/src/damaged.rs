@@ -1,13 +1,21 @@
-//! What the program `damaged` must print: its stores, its damage and its calls, with the replies of this implementation.
-use crate::layout::{call, log_needed, made, result_needed, tables_needed, Memory};
+//! Calls on damaged memory: stores, damage done to their memory, one call each time. The replies and a sum over what accepted calls leave are
+//! printed. `answer` makes a call: this implementation's makes the prediction, the proved library's must print the same.
+use crate::layout::{log_needed, result_needed, tables_needed, Memory};
 use crate::store::{Call, Geometry, Reply};
 use std::fmt::Write;
+
+/// Makes a call, on six numbers and the first so many numbers, bytes and numbers of the tables, the log and a result buffer.
+pub trait Answers {
+    fn make(&mut self, six: &[u64; 6], memory: &mut Memory);
+    fn call(&mut self, six: &[u64; 6], memory: &mut Memory, lent: [usize; 3], c: Call) -> Reply;
+}
 
 const TABLES: usize = 2048;
 const LOG: usize = 256;
 const RESULT: usize = 128;
 
-struct Report {
+struct Report<'a> {
+    answers: &'a mut dyn Answers,
     text: String,
     last: Option<(u64, Reply)>,
     cases: u64,
@@ -16,7 +24,7 @@ struct Report {
     random: u64,
 }
 
-impl Report {
+impl Report<'_> {
     fn line(&mut self, line: &str) {
         self.flush();
         writeln!(self.text, "{line}").unwrap();
@@ -103,10 +111,10 @@ impl Subject {
         let lent = [tables_needed(&g), log_needed(&g), result_needed(&g)];
         let mut memory = Memory { tables: vec![7; TABLES], log: vec![9; LOG] };
         group(report, "store");
-        made(&g, &six, &mut memory);
+        report.answers.make(&six, &mut memory);
         report.add(Ok(vec![]));
         for c in asks_of(script) {
-            let reply = call(&six, &mut memory, lent, c);
+            let reply = report.answers.call(&six, &mut memory, lent, c);
             report.add(reply);
         }
         Subject { six, lent, sound: memory, asks: asks_of(asks) }
@@ -339,7 +347,7 @@ impl Subject {
 
 /// A call: its reply, and what an accepted one leaves, go to the report.
 fn step(report: &mut Report, six: &[u64; 6], lent: [usize; 3], memory: &mut Memory, c: Call) {
-    let reply = call(six, memory, lent, c);
+    let reply = report.answers.call(six, memory, lent, c);
     if let Ok(given) = &reply {
         for &x in &memory.tables {
             report.fold(x as u64);
@@ -391,8 +399,8 @@ const SUBJECTS: [([u64; 6], &str, &str); 4] = [
     ),
 ];
 
-pub fn printed() -> String {
-    let mut report = Report { text: String::new(), last: None, cases: 0, counts: [0; 16], sums: [0, 0], random: 1 };
+pub fn printed(answers: &mut dyn Answers) -> String {
+    let mut report = Report { answers, text: String::new(), last: None, cases: 0, counts: [0; 16], sums: [0, 0], random: 1 };
     for (i, (six, script, asks)) in SUBJECTS.into_iter().enumerate() {
         let subject = Subject::made(six, script, asks, &mut report);
         if i < 3 { subject.all(&mut report) } else { subject.small(&mut report) }

@@ -1,5 +1,6 @@
 //! The lent memory, as docs/LAYOUT.md describes it: whether it is sound, the store it stands for, and what a call leaves in it.
 //! Soundness is decided the crude way, by the paper's sentences: every pair of records, every page of every record, sets of blocks.
+use crate::damaged::Answers;
 use crate::store::{Call, Geometry, Line, Record, Reply, Store};
 use std::collections::{BTreeMap, BTreeSet};
 
@@ -304,8 +305,21 @@ fn read_log(g: &Geometry, words: &[u64]) -> Option<BTreeSet<u64>> {
     Some(held)
 }
 
+/// The calls of this implementation, on lent memory.
+pub struct Predicted;
+
+impl Answers for Predicted {
+    fn make(&mut self, six: &[u64; 6], memory: &mut Memory) {
+        made(&Geometry::new(*six).expect("inside the limits"), six, memory);
+    }
+
+    fn call(&mut self, six: &[u64; 6], memory: &mut Memory, lent: [usize; 3], c: Call) -> Reply {
+        call(six, memory, lent, c)
+    }
+}
+
 /// What a making leaves.
-pub fn made(g: &Geometry, six: &[u64; 6], memory: &mut Memory) {
+fn made(g: &Geometry, six: &[u64; 6], memory: &mut Memory) {
     memory.tables[..tables_needed(g)].fill(0);
     for i in 0..6 {
         memory.tables[i] = six[i] as u32;
@@ -313,7 +327,7 @@ pub fn made(g: &Geometry, six: &[u64; 6], memory: &mut Memory) {
 }
 
 /// The reply to a call on lent memory, which becomes what the call leaves.
-pub fn call(six: &[u64; 6], memory: &mut Memory, lent: [usize; 3], c: Call) -> Reply {
+fn call(six: &[u64; 6], memory: &mut Memory, lent: [usize; 3], c: Call) -> Reply {
     let g = Geometry::new(*six).ok_or(2u32)?;
     if lent[0] < tables_needed(&g) || lent[1] < log_needed(&g) || lent[2] < result_needed(&g) {
         return Err(3);

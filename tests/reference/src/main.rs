@@ -1,7 +1,7 @@
 //! An implementation of the scope document written from the paper, to compare the proved runner with.
 //!   reference run                       replies to the script on standard input
 //!   reference script SEED               a script made from a seed
-//!   reference damaged                   what the program `damaged` must print
+//!   reference damaged                   the replies to calls on damaged memory, as this implementation predicts them
 //!   reference compare RUNNER FROM TO    runs the scripts of the seeds through RUNNER and compares byte for byte
 mod damaged;
 mod generate;
@@ -48,7 +48,7 @@ fn main() {
             std::io::stdout().write_all(&script::run(&text)).unwrap();
         }
         ["script", seed] => std::io::stdout().write_all(&generate::script(seed.parse().unwrap())).unwrap(),
-        ["damaged"] => print!("{}", damaged::printed()),
+        ["damaged"] => print!("{}", damaged::printed(&mut layout::Predicted)),
         ["compare", runner, from, to] => compare(runner, from.parse().unwrap(), to.parse().unwrap()),
         _ => {
             eprintln!("usage: reference run | script SEED | damaged | compare RUNNER FROM TO");
