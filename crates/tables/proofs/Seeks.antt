@@ -1,5 +1,5 @@
 -- A search of slots as a loop goes through them: what is left of it has the result of the whole.
-use mathlib.Core.Path.{_≡_, refl, sym, _∙_}
+use mathlib.Core.Path.{_≡_, refl, sym, ap, _∙_, subst}
 use mathlib.Core.Bool.{Bool, true, false, _&&_}
 use Prim.Native.Nat.{ℕ, zero, suc, _+_, _-_, _≤_, _<_}
 use native.Mathlib.Omega.{arith}
@@ -8,6 +8,7 @@ use lib.Dec.{eqb, ltb}
 use borrow.Author.Tests.{eq-eqb, ne-eqb, lt-ltb}
 use lib.ListN.{getD}
 use mathlib.Core.List.{List}
+use Rattle.answer.proofs.Cases.{cases, same?}
 use Rattle.geometry.specs.declared.Geometry.{Geometry}
 use Rattle.model.specs.Table.{seek}
 use Rattle.model.specs.Actions.{slotOf, vacant, follower, forked}
@@ -48,6 +49,25 @@ module _ (c : ℕ → Bool) (s R z : ℕ) (left : seek c s (R - s) ≡ z) where
       let q : seek c s 0 ≡ 0 = refl in
       sym q ∙ rw d at left
 
+-- slots that do not pass can be passed over
+skip : (c : ℕ → Bool) (R z : ℕ) → seek c 0 (R - 0) ≡ z → (s : ℕ) → s ≤ R → ((i : ℕ) → i < s → c i ≡ false) → seek c s (R - s) ≡ z
+skip c R z e zero h f = e
+skip c R z e (suc s) h f =
+    subst (λ (k : ℕ). seek c k (R - k) ≡ z) (add-one s)
+    (seek-next c s R z (skip c R z e s (omega arith) (λ i l. f i (omega arith))) (omega arith) (f s (omega arith)))
+
+-- ── number f of the first n rows is not v ──
+
+abbrev pub Without : List ℕ → ℕ → ℕ → ℕ → Type 0
+Without t f v n = (s : ℕ) → s < n → getD t (recordCell s f) 0 ≡ v → ⊥
+
+pub without-none : (t : List ℕ) (f v : ℕ) → Without t f v 0
+without-none t f v s h e = let z : ⊥ = omega arith in z
+
+pub without-next : (t : List ℕ) (f v n m : ℕ) → m ≡ n + 1 → Without t f v n → (r : ℕ) → r ≡ getD t (recordCell n f) 0 → (r ≡ v → ⊥) → Without t f v m
+without-next t f v n m e w r d o s h y =
+    cases (same? s n) (λ i. o (d ∙ sym (ap (λ (k : ℕ). getD t (recordCell k f) 0) i) ∙ y)) (λ i. w s (omega arith) y)
+
 -- ── a record is in slot n, and the number F of its row is v ──
 
 module _ (g : Geometry) (t : List ℕ) where
@@ -57,6 +77,10 @@ module _ (g : Geometry) (t : List ℕ) where
   -- the same test of the tables' own numbers
   abbrev pub cellHas : ℕ → ℕ → ℕ → Bool
   cellHas f v n = ltb 0 (getD t (Fields.numCell n) 0) && eqb (getD t (recordCell n f) 0) v
+
+  -- the number of a record, as number 0 of its row
+  pub num-row : (s : ℕ) → s < g .records → viewOf g t .num s ≡ getD t (recordCell s 0) 0
+  num-row s h = rw Fields.num-cell (Fields.num-is g t s h)
 
   pub slot-start : (n : ℕ) → seek (has (viewOf g t .num) n) 0 (g .records - 0) ≡ slotOf (viewOf g t) n
   unfolding slotOf
@@ -69,6 +93,13 @@ module _ (g : Geometry) (t : List ℕ) where
   pub forked-start : (q : ℕ) → seek (has (viewOf g t .base) (suc q)) 0 (g .records - 0) ≡ forked (viewOf g t) q
   unfolding forked
   forked-start q = seek-start (has (viewOf g t .base) (suc q)) (g .records) ∙ rw (Fields.slots-is g t)
+
+  -- the search from the first row that was not passed over
+  pub has-from : (f : ℕ) (F : ℕ → ℕ) (is : (s : ℕ) → s < g .records → F s ≡ getD t (recordCell s f) 0) (v z : ℕ)
+      → seek (has F v) 0 (g .records - 0) ≡ z → (w n : ℕ) → w ≡ v → n ≤ g .records → Without t f w n → seek (has F v) n (g .records - n) ≡ z
+  has-from f F is v z e w n d h o =
+      skip (has F v) (g .records) z e n h
+      (λ i l. rw (ne-eqb (F i) v (λ y. o i l (sym (is i (omega arith)) ∙ y ∙ sym d))) (and-false (ltb 0 (viewOf g t .num i))))
 
   module _ (f : ℕ) (F : ℕ → ℕ) (is : (s : ℕ) → s < g .records → F s ≡ getD t (recordCell s f) 0) (v s z : ℕ)
       (left : seek (has F v) s (g .records - s) ≡ z) (h : s < g .records) (w : ℕ) (r : Bool) (e : r ≡ cellHas f w s) (d : w ≡ v) where

@@ -1,6 +1,6 @@
 // Finding slots of the record table. A link is slot + 1, 0 for none.
 ghost use mathlib.Core.Path.{_≡_};
-ghost use Prim.Native.Nat.{_+_, _*_, _<_, _≤_};
+ghost use Prim.Native.Nat.{ℕ, _+_, _*_, _<_, _≤_};
 ghost use mathlib.Core.Bool.{_&&_};
 ghost use lib.Dec.{eqb, ltb};
 ghost use lib.ListN.{getD};
@@ -27,6 +27,30 @@ fn row_has(t: &[u32], g: Geometry, s: usize, f: usize, v: usize) -> bool
     0 < t[32 + 272 * s]
 }
 
+// How many slots from the first on can be passed over: number f of their rows is not v. Looks at four in a turn.
+fn rows_without(t: &[u32], g: Geometry, f: usize, v: usize) -> usize
+    requires { ⌜ Roomy g (now t) × (f < 272) ⌝ }
+    ensures { λ r. ⌜ (r ≤ g .records) × ((s : ℕ) → s < r → getD (now (t .entry)) (recordCell s f) 0 ≡ v → ⊥) ⌝ }
+{
+    let mut s: usize = 0;
+    while s + 4 <= g.records {
+        if wide(t[32 + 272 * s + f]) == v {
+            return s;
+        }
+        if wide(t[32 + 272 * (s + 1) + f]) == v {
+            return s + 1;
+        }
+        if wide(t[32 + 272 * (s + 2) + f]) == v {
+            return s + 2;
+        }
+        if wide(t[32 + 272 * (s + 3) + f]) == v {
+            return s + 3;
+        }
+        s += 4;
+    }
+    s
+}
+
 // The slot of the record of number n. No record has the number 0.
 pub fn slot_of(t: &[u32], g: Geometry, n: u32) -> usize
     requires { ⌜ Roomy g (now t) ⌝ }
@@ -36,7 +60,7 @@ pub fn slot_of(t: &[u32], g: Geometry, n: u32) -> usize
     if n == 0 {
         return 0;
     }
-    let mut s: usize = 0;
+    let mut s = rows_without(t, g, 0, wide(n));
     while s < g.records {
         if t[32 + 272 * s] == n {
             return s + 1;
@@ -68,7 +92,7 @@ pub fn follower_of(t: &[u32], g: Geometry, p: usize) -> usize
     ensures is { λ r. ⌜ r ≡ follower (viewOf g (now (t .entry))) p ⌝ }
     ensures range { λ r. ⌜ r ≤ g .records ⌝ }
 {
-    let mut s: usize = 0;
+    let mut s = rows_without(t, g, 2, p + 1);
     while s < g.records {
         if row_has(t, g, s, 2, p + 1) {
             return s + 1;
@@ -83,7 +107,7 @@ pub fn forked_at(t: &[u32], g: Geometry, q: usize) -> usize
     requires { ⌜ Roomy g (now t) × (q < 64) ⌝ }
     ensures { λ r. ⌜ r ≡ forked (viewOf g (now (t .entry))) q ⌝ }
 {
-    let mut s: usize = 0;
+    let mut s = rows_without(t, g, 3, q + 1);
     while s < g.records {
         if row_has(t, g, s, 3, q + 1) {
             return s + 1;

@@ -18,8 +18,18 @@ Inv-loop t g p s₀ s = (s ≤ g .records) × (seek (Seeks.has g t (viewOf g t .
 abbrev μ-loop : tie.MeasureT-loop
 μ-loop t g p s₀ s = g .records - s
 
+add-rows-without : tie.Need-add-rows-without Inv-loop μ-loop
+add-rows-without c = search needs
+
+rows-without-requires : tie.Need-rows-without-requires Inv-loop μ-loop
+rows-without-requires c κs = search needs
+
 loop-holds : tie.Need-loop-holds Inv-loop μ-loop
-loop-holds c = (omega arith, Seeks.follower-start _ _ _)
+loop-holds c =
+    let a = c .before .before .args in (
+      c .rows-without .ensures .0,
+      Seeks.has-from (a .g) (a .t .now) 2 _ (Fields.prev-is (a .g) (a .t .now)) (suc (a .p)) _ (Seeks.follower-start _ _ _) _ _ (add-one (a .p)) (c .rows-without .ensures .0) (c .rows-without .ensures .1),
+    )
 
 add-row-has : tie.Need-add-row-has Inv-loop μ-loop
 add-row-has c = search needs
@@ -51,6 +61,8 @@ follower-of-spec =
     (tie.spec
     Inv-loop
     μ-loop
+    add-rows-without
+    rows-without-requires
     loop-holds
     add-row-has
     row-has-requires

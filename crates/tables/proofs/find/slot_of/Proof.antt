@@ -19,8 +19,18 @@ abbrev μ-loop : tie.MeasureT-loop
 returns : tie.Need-returns Inv-loop μ-loop
 returns c = (Seeks.slot-zero _ _ _ (c .if1 .taken), omega arith)
 
+wide-requires : tie.Need-wide-requires Inv-loop μ-loop
+wide-requires c κs = search needs
+
+rows-without-requires : tie.Need-rows-without-requires Inv-loop μ-loop
+rows-without-requires c κs = search needs
+
 loop-holds : tie.Need-loop-holds Inv-loop μ-loop
-loop-holds c = (omega arith, Seeks.slot-start _ _ _)
+loop-holds c =
+    let a = c .before .before .before .before .args in (
+      c .rows-without .ensures .0,
+      Seeks.has-from (a .g) (a .t .now) 0 _ (Seeks.num-row (a .g) (a .t .now)) (a .n) _ (Seeks.slot-start _ _ _) _ _ (c .before .wide .ensures) (c .rows-without .ensures .0) (c .rows-without .ensures .1),
+    )
 
 mul-if3 : tie.Need-mul-if3 Inv-loop μ-loop
 mul-if3 c = search needs
@@ -40,7 +50,7 @@ add-result c = search needs
 returns-2 : tie.Need-returns-2 Inv-loop μ-loop
 returns-2 c =
     let d = c .before .before .before .before in
-    (Seeks.number-here _ _ _ _ _ (d .loop .inv .1) (c .before .before .if2 .taken) (d .before .if1 .left) (c .if3 .taken), omega arith)
+    (Seeks.number-here _ _ _ _ _ (d .loop .inv .1) (c .before .before .if2 .taken) (d .before .before .before .if1 .left) (c .if3 .taken), omega arith)
 
 add-s : tie.Need-add-s Inv-loop μ-loop
 add-s c = search needs
@@ -61,6 +71,8 @@ slot-of-spec =
     Inv-loop
     μ-loop
     returns
+    wide-requires
+    rows-without-requires
     loop-holds
     mul-if3
     add-if3
