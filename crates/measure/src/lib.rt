@@ -1,8 +1,8 @@
 // What the benchmarks call: a script served into a lent buffer, and one call through the store's full check.
 // Nothing is promised here beyond safety: the promises are those of `session` and `store`.
 use answer::Answer;
-use script::lines::Line;
-use script::lines::line_from;
+use script::reader::Line;
+use script::reader::line_from;
 use script::reply::put_reply;
 use session::start;
 use session::step;

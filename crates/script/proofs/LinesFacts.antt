@@ -9,7 +9,7 @@ use lib.ListN.{length, take, drop, drop-of-length-le, length-drop}
 use lib.Seq.{slice, take-add, drop-at, drop-drop, length-take-le, drop-cons}
 use lib.Dec.{eqb}
 use Rattle.answer.proofs.Cases.{cases, either, lt?}
-use Rattle.script.specs.declared.lines.Line.the-variants.{Part, Done}
+use Rattle.script.specs.declared.reader.Line.the-variants.{Part, Done}
 use Rattle.script.specs.Lines.{run, lineAt, joins, linesOf, walk, ended, NoFeed, NoFeeds}
 
 -- the first line of a text that is not empty, and the lines of what follows it

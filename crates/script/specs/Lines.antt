@@ -6,8 +6,8 @@ use mathlib.Core.Path.{_≡_}
 use lib.ListN.{length, drop}
 use lib.Seq.{slice}
 use lib.Dec.{eqb, ltb}
-use Rattle.script.specs.declared.lines.Line.{Line}
-use Rattle.script.specs.declared.lines.Line.the-variants.{Part, Done}
+use Rattle.script.specs.declared.reader.Line.{Line}
+use Rattle.script.specs.declared.reader.Line.the-variants.{Part, Done}
 
 -- how many bytes stand before the first line feed, or the end
 unfoldable pub run : List ℕ → ℕ

@@ -1,5 +1,5 @@
 // Scripts: lines of a text, the calls they spell, and replies.
-pub mod lines;
 pub mod number;
 pub mod parse;
+pub mod reader;
 pub mod reply;

@@ -2,8 +2,8 @@
 use borrow.Author.Needs.{needs}
 use borrow.Author.Tests.{lt-ltb, le-ltb}
 use Rattle.script.specs.Lines.{lineAt}
-use Rattle.script.proofs.lines.line_at.Statement.{statement}
-use Rattle.script.proofs.lines.line_at.Tie as tie
+use Rattle.script.proofs.reader.line_at.Statement.{statement}
+use Rattle.script.proofs.reader.line_at.Tie as tie
 
 line-end-requires : tie.Need-line-end-requires
 line-end-requires c κs = search needs

@@ -34,13 +34,13 @@ use denote.Triple.Spec.{Meets, tripleOf}
 use denote.Triple.Table.{entered}
 use denote.Triple.Walked.{says, Stays, stay-none-slice, stay-none, walkOf, goes-none-slice, goes-none, Walks, ends-at, walked, walk-meets}
 use denote.Exit.{yes}
-use Rattle.script.specs.declared.lines.Script.{Script}
-use Rattle.script.proofs.lines.Script as T
-use Rattle.script.proofs.lines.Script.Laws as T′
-use Rattle.script.proofs.lines.open.Key.{name as #script·open}
-use Rattle.script.proofs.lines.open as open′
-use Rattle.script.proofs.lines.open.Statement as stated
-use Rattle.script.proofs.lines.open.Code as code
+use Rattle.script.specs.declared.reader.Script.{Script}
+use Rattle.script.proofs.reader.Script as T
+use Rattle.script.proofs.reader.Script.Laws as T′
+use Rattle.script.proofs.reader.open.Key.{name as #script·open}
+use Rattle.script.proofs.reader.open as open′
+use Rattle.script.proofs.reader.open.Statement as stated
+use Rattle.script.proofs.reader.open.Code as code
 
 abbrev stayed : Stays (open′.ended .signature .params) (open′.ended .kept)
 stayed = (stay-none-slice (0 ∷ []) tt (plain (λ _. u8)) yes, (stay-none (λ _. usize) yes, tt))

@@ -6,8 +6,8 @@ use mathlib.Core.Path.{_≡_, refl}
 use lib.ListN.{length, drop}
 use Rattle.script.specs.Lines.{run}
 use Rattle.script.proofs.Runs.{run-here, run-more, run-end}
-use Rattle.script.proofs.lines.line_end.Statement.{statement}
-use Rattle.script.proofs.lines.line_end.Tie as tie
+use Rattle.script.proofs.reader.line_end.Statement.{statement}
+use Rattle.script.proofs.reader.line_end.Tie as tie
 
 abbrev Inv-loop : tie.InvT-loop
 Inv-loop text at i₀ i = (i ≤ length text) × (at + run (drop at text) ≡ i + run (drop i text))

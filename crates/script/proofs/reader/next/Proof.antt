@@ -44,20 +44,20 @@ use denote.Triple.Walked.{says, Stays, stay-none, walkOf, goes-none, Walks, ends
 use denote.Exit.{yes}
 use denote.Triple.Clauses.{ensured, lasts}
 use Rattle.script.specs.Lines.{lineAt}
-use Rattle.script.specs.declared.lines.Script.{Script}
-use Rattle.script.specs.declared.lines.Line.{Line}
-use Rattle.script.proofs.lines.Script as T
-use Rattle.script.proofs.lines.Script.Laws as T′
-use Rattle.script.proofs.lines.Line as S
-use Rattle.script.proofs.lines.Line.Laws as S′
-use Rattle.script.proofs.lines.line_at as step
-use Rattle.script.proofs.lines.line_at.Symbol as step-def
-use Rattle.script.proofs.lines.line_at.Symbol.{name as #script·line-at}
-use Rattle.script.proofs.lines.line_at.Met as step-thm
-use Rattle.script.proofs.lines.next.Key.{name as #script·next}
-use Rattle.script.proofs.lines.next as next
-use Rattle.script.proofs.lines.next.Statement as stated
-use Rattle.script.proofs.lines.next.Code as code
+use Rattle.script.specs.declared.reader.Script.{Script}
+use Rattle.script.specs.declared.reader.Line.{Line}
+use Rattle.script.proofs.reader.Script as T
+use Rattle.script.proofs.reader.Script.Laws as T′
+use Rattle.script.proofs.reader.Line as S
+use Rattle.script.proofs.reader.Line.Laws as S′
+use Rattle.script.proofs.reader.line_at as step
+use Rattle.script.proofs.reader.line_at.Symbol as step-def
+use Rattle.script.proofs.reader.line_at.Symbol.{name as #script·line-at}
+use Rattle.script.proofs.reader.line_at.Met as step-thm
+use Rattle.script.proofs.reader.next.Key.{name as #script·next}
+use Rattle.script.proofs.reader.next as next
+use Rattle.script.proofs.reader.next.Statement as stated
+use Rattle.script.proofs.reader.next.Code as code
 
 -- the struct's type, over the signature's lifetimes
 abbrev B : Lfts 1 → RattleType

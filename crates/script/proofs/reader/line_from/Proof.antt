@@ -39,24 +39,24 @@ use denote.Triple.Walked.{says, Stays, stay-none-slice, stay-none, walkOf, goes-
 use denote.Exit.{yes}
 use denote.Triple.Clauses.{ensured, lasts}
 use Rattle.script.specs.Lines.{lineAt}
-use Rattle.script.specs.declared.lines.Script.{Script}
-use Rattle.script.specs.declared.lines.Line.{Line}
-use Rattle.script.proofs.lines.Script as T
-use Rattle.script.proofs.lines.Script.Laws as T′
-use Rattle.script.proofs.lines.Line as S
-use Rattle.script.proofs.lines.Line.Laws as S′
-use Rattle.script.proofs.lines.open as open′
-use Rattle.script.proofs.lines.open.Symbol as open-def
-use Rattle.script.proofs.lines.open.Symbol.{name as #script·open}
-use Rattle.script.proofs.lines.open.Met as open-thm
-use Rattle.script.proofs.lines.next as next
-use Rattle.script.proofs.lines.next.Symbol as next-def
-use Rattle.script.proofs.lines.next.Symbol.{name as #script·next}
-use Rattle.script.proofs.lines.next.Met as next-thm
-use Rattle.script.proofs.lines.line_from.Key.{name as #script·line-from}
-use Rattle.script.proofs.lines.line_from as from′
-use Rattle.script.proofs.lines.line_from.Statement as stated
-use Rattle.script.proofs.lines.line_from.Code as code
+use Rattle.script.specs.declared.reader.Script.{Script}
+use Rattle.script.specs.declared.reader.Line.{Line}
+use Rattle.script.proofs.reader.Script as T
+use Rattle.script.proofs.reader.Script.Laws as T′
+use Rattle.script.proofs.reader.Line as S
+use Rattle.script.proofs.reader.Line.Laws as S′
+use Rattle.script.proofs.reader.open as open′
+use Rattle.script.proofs.reader.open.Symbol as open-def
+use Rattle.script.proofs.reader.open.Symbol.{name as #script·open}
+use Rattle.script.proofs.reader.open.Met as open-thm
+use Rattle.script.proofs.reader.next as next
+use Rattle.script.proofs.reader.next.Symbol as next-def
+use Rattle.script.proofs.reader.next.Symbol.{name as #script·next}
+use Rattle.script.proofs.reader.next.Met as next-thm
+use Rattle.script.proofs.reader.line_from.Key.{name as #script·line-from}
+use Rattle.script.proofs.reader.line_from as from′
+use Rattle.script.proofs.reader.line_from.Statement as stated
+use Rattle.script.proofs.reader.line_from.Code as code
 
 -- the struct's type, over the signature's lifetimes
 abbrev B : Lfts 1 → RattleType
