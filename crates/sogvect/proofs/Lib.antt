@@ -1,2 +1,3 @@
 -- Laws of codes and counts.
 pub mod Coding
+pub mod Codes
