@@ -25,7 +25,7 @@ above m n h (c ∷ cs) r = (λ k. absurd (let z : ⊥ = omega (arith, r .0) in z
 -- behind the place of n no condition of number n is true
 pub none-in : (m n : ℕ) → place n ≤ m → (cs : List Condition) → Ordered m cs → Holds n cs → ⊥
 none-in m n h [] r t = t
-none-in m n h (c ∷ cs) r t = cases t (λ w. omega (arith, w .0, r .0)) (λ w. none-in (place (c .0)) n (omega (arith, r .0)) cs (r .1) w)
+none-in m n h (c ∷ cs) r t = cases t (λ w. omega (arith, ap place (w .0), r .0)) (λ w. none-in (place (c .0)) n (omega (arith, r .0)) cs (r .1) w)
 
 pub decide-accepted : (cs : List Condition) (l m : List ℕ) → decide cs l ≡ accepted m → NoneHolds cs × (l ≡ m)
 decide-accepted [] l m e = (tt, accepted-same e)
@@ -44,7 +44,7 @@ decide-refused (c ∷ cs) l m n r e =
     cases (either (c .1))
     (λ y.
     let d : c .0 ≡ n = refused-same (rw y at e) in
-    (inl (d, y), (λ k. absurd (let z : ⊥ = omega arith in z), above (place (c .0)) n (omega arith) cs (r .1))))
+    (inl (d, y), (λ k. absurd (let z : ⊥ = omega (arith, ap place d) in z), above (place (c .0)) n (omega (arith, ap place d)) cs (r .1))))
     (λ f. let w = decide-refused cs l (place (c .0)) n (r .1) (rw f at e) in (inr (w .0), (λ k. f, w .1)))
 
 pub decide-refuses : (cs : List Condition) (l : List ℕ) (m n : ℕ) → Ordered m cs → Holds n cs → NoneBefore n cs → decide cs l ≡ refused n

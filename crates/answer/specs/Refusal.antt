@@ -3,7 +3,8 @@ use mathlib.Core.Path.{_≡_}
 use mathlib.Core.Bool.{Bool, true, false, cond}
 use mathlib.Core.Logic.{_⊎_}
 use mathlib.Core.List.{List, [], _∷_}
-use Prim.Native.Nat.{ℕ, _<_}
+use Prim.Native.Nat.{ℕ, suc, _<_}
+use lib.Dec.{eqb}
 use Rattle.answer.specs.Reply.{Reply, accepted, refused}
 
 -- a condition: the number of its refusal, and whether it is true of the call
@@ -25,9 +26,18 @@ abbrev pub Holds : ℕ → List Condition → Type 0
 Holds n [] = ⊥
 Holds n (c ∷ cs) = ((c .0 ≡ n) × (c .1 ≡ true)) ⊎ Holds n cs
 
--- the place of a refusal in the order in which conditions are looked at: "smallest first"
+-- the refusals in the order in which they are looked at: "smallest first", and each that a later request adds where that request puts it
+abbrev pub inOrder : List ℕ
+inOrder = 1 ∷ 2 ∷ 3 ∷ 4 ∷ 5 ∷ 6 ∷ 15 ∷ 16 ∷ 19 ∷ 21 ∷ 23 ∷ 7 ∷ 8 ∷ 9 ∷ 17 ∷ 22 ∷ 10 ∷ 18 ∷ 20 ∷ 11 ∷ 12 ∷ 13 ∷ 14 ∷ []
+
+-- the place of n in l, counted from k on; 0 for a number that is not in it
+abbrev pub placeFrom : ℕ → List ℕ → ℕ → ℕ
+placeFrom k [] n = 0
+placeFrom k (m ∷ l) n = cond (eqb m n) k (placeFrom (suc k) l n)
+
+-- the place of a refusal in that order
 abbrev pub place : ℕ → ℕ
-place n = n
+place n = placeFrom 1 inOrder n
 
 -- no condition that comes earlier than that of number n is true
 abbrev pub NoneBefore : ℕ → List Condition → Type 0
