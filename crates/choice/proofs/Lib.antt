@@ -6,3 +6,10 @@ pub mod Left
 pub mod Stretch
 pub mod Finds
 pub mod Named
+pub mod Bit
+pub mod Gap
+pub mod Jump
+pub mod Firsts
+pub mod Runs
+pub mod Births
+pub mod Agree

@@ -1,8 +1,9 @@
 // The choice of a free block for a write, and what an accepted write moves: a mark and the arena counter.
 ghost use mathlib.Core.Path.{_≡_};
-ghost use Prim.Native.Nat.{_+_, _*_, _<_, _≤_};
-ghost use lib.ListN.{length};
-ghost use Rattle.choice.specs.Rows.{freeIn, markIn, Fine};
+ghost use Prim.Native.Nat.{ℕ, _+_, _-_, _*_, _/_, _%_, _^_, _<_, _≤_, min};
+ghost use mathlib.Core.Bool.{not};
+ghost use lib.ListN.{length, getD};
+ghost use Rattle.choice.specs.Words.{freeIn, markIn, firstOf, bornFree, wordOf, wordsAgree, Fine};
 ghost use Rattle.choice.specs.Search.{chosen};
 ghost use Rattle.choice.specs.Turn.{next, turned};
 
@@ -21,18 +22,101 @@ pub fn next_of(n: usize, i: usize) -> usize
     if i + 1 == n { 0 } else { i + 1 }
 }
 
+// The smaller of two numbers.
+fn least(a: usize, b: usize) -> usize
+    ensures is { λ r. ⌜ r ≡ min a b ⌝ }
+    ensures below { λ r. ⌜ (r ≤ a) × (r ≤ b) ⌝ }
+{
+    if a < b { a } else { b }
+}
+
+// The bit of block b, alone in its word.
+pub fn bit_of(b: usize) -> u32
+    ensures { λ r. ⌜ r ≡ 2 ^ (b % 32) ⌝ }
+{
+    1u32 << ((b & 31) as u32)
+}
+
+// What is left of the word of block b from b on: bit 0 is that of b.
+fn rest_of(word: u32, b: usize) -> u32
+    ensures is { λ r. ⌜ r ≡ word / 2 ^ (b % 32) ⌝ }
+    ensures fits { λ r. ⌜ r < 2 ^ (32 - b % 32) ⌝ }
+{
+    word >> ((b & 31) as u32)
+}
+
+// The first word from k on and below end that is not `skip`; end where there is none.
+fn next_word(words: &[u32], k: usize, end: usize, skip: u32) -> usize
+    requires { ⌜ (k ≤ end) × (end ≤ length (now words)) ⌝ }
+    ensures range { λ r. ⌜ (k ≤ r) × (r ≤ end) ⌝ }
+    ensures passed { λ r. ⌜ ((i : ℕ) → k ≤ i → i < r → getD (now (words .entry)) i 0 ≡ skip) ⌝ }
+    ensures other { λ r. ⌜ (r < end → getD (now (words .entry)) r 0 ≡ skip → ⊥) ⌝ }
+{
+    let mut at = k;
+    while at < end {
+        if words[at] != skip {
+            return at;
+        }
+        at += 1;
+    }
+    at
+}
+
+// The first block from lo on and below hi that may be given; hi where there is none. It looks at what is left of the word
+// of lo, then for a word that is not 0.
+pub fn first_given(words: &[u32], lo: usize, hi: usize) -> usize
+    requires { ⌜ (hi ≤ 16384) × (hi ≤ 32 * length (now words)) ⌝ }
+    ensures { λ r. ⌜ r ≡ firstOf (freeIn (now (words .entry))) hi lo (hi - lo) ⌝ }
+{
+    if hi <= lo {
+        return hi;
+    }
+    let rest = rest_of(words[lo >> 5], lo);
+    if rest != 0 {
+        return least(lo + (u32::trailing_zeros(rest) as usize), hi);
+    }
+    let end = (hi + 31) >> 5;
+    let k = next_word(words, (lo >> 5) + 1, end, 0);
+    if end <= k {
+        return hi;
+    }
+    least(32 * k + (u32::trailing_zeros(words[k]) as usize), hi)
+}
+
+// The first block from lo on and below hi that may not be given; hi where there is none. The same, with each word turned
+// over.
+pub fn first_kept(words: &[u32], lo: usize, hi: usize) -> usize
+    requires { ⌜ (hi ≤ 2048) × (hi ≤ 32 * length (now words)) ⌝ }
+    ensures { λ r. ⌜ r ≡ firstOf (λ b. not (freeIn (now (words .entry)) b)) hi lo (hi - lo) ⌝ }
+{
+    if hi <= lo {
+        return hi;
+    }
+    let rest = rest_of(!words[lo >> 5], lo);
+    if rest != 0 {
+        return least(lo + (u32::trailing_zeros(rest) as usize), hi);
+    }
+    let end = (hi + 31) >> 5;
+    let k = next_word(words, (lo >> 5) + 1, end, 0xffff_ffff);
+    if end <= k {
+        return hi;
+    }
+    least(32 * k + (u32::trailing_zeros(!words[k]) as usize), hi)
+}
+
 // The first free block: from the arena of the counter and the kind on, round; in each arena from its mark on, round.
-// `rows` are the block rows of the tables, 8 numbers each, a block's birth first; `marks` are the arenas' marks.
+// `words` are the free words of the tables, a bit a block; `marks` are the arenas' marks. An arena with no free block is
+// passed over at once. Each turn of the inner loop goes to the first free block before the end of the arena, or round.
 pub fn choose(
-    rows: &[u32],
+    words: &[u32],
     marks: &[u32],
     arenas: usize,
     per: usize,
     counter: usize,
     kind: usize,
 ) -> Found
-    requires { ⌜ Fine (now rows) (now marks) arenas per counter kind ⌝ }
-    ensures { λ r. ⌜ r ≡ chosen (freeIn (now (rows .entry))) (markIn (now (marks .entry))) arenas per (counter + kind) ⌝ }
+    requires { ⌜ Fine (now words) (now marks) arenas per counter kind ⌝ }
+    ensures { λ r. ⌜ r ≡ chosen (freeIn (now (words .entry))) (markIn (now (marks .entry))) arenas per (counter + kind) ⌝ }
 {
     let mut arena = (counter + kind) % arenas;
     let mut tried: usize = 0;
@@ -40,19 +124,84 @@ pub fn choose(
         if arenas <= tried {
             break 'search Found::Nothing;
         }
-        let mut at = marks[arena] as usize;
-        let mut seen: usize = 0;
-        while seen < per {
-            if rows[8 * (arena * per + at)] == 0 {
-                break 'search Found::At(arena, at);
+        let start = arena * per;
+        if first_given(words, start, start + per) < start + per {
+            let mut at = marks[arena] as usize;
+            let mut seen: usize = 0;
+            while seen < per {
+                let most = least(per - at, per - seen);
+                let block = start + at;
+                let free = first_given(words, block, block + most);
+                if free < block + most {
+                    break 'search Found::At(arena, at + (free - block));
+                }
+                at = next_of(per, at + most - 1);
+                seen += most;
             }
-            at = next_of(per, at);
-            seen += 1;
         }
         arena = next_of(arenas, arena);
         tried += 1;
     };
     found
+}
+
+// The free word of the n blocks whose births stand from `at` on: for the last word, where the blocks end within it.
+pub fn bits_of(births: &[u32], at: usize, n: usize) -> u32
+    requires { ⌜ (n ≤ 32) × (at + n ≤ length (now births)) ⌝ }
+    ensures { λ r. ⌜ r ≡ wordOf (bornFree (now (births .entry))) at n ⌝ }
+{
+    let mut word: u32 = 0;
+    let mut k: usize = 0;
+    while k < n {
+        if births[at + k] == 0 {
+            word = word | (1u32 << (k as u32));
+        }
+        k += 1;
+    }
+    word
+}
+
+// The free word of the 32 blocks whose births stand from `at` on.
+pub fn word_of(births: &[u32], at: usize) -> u32
+    requires { ⌜ at + 32 ≤ length (now births) ⌝ }
+    ensures { λ r. ⌜ r ≡ wordOf (bornFree (now (births .entry))) at 32 ⌝ }
+{
+    let mut word: u32 = 0;
+    let mut k: usize = 0;
+    while k < 32 {
+        if births[at + k] == 0 {
+            word = word | (1u32 << (k as u32));
+        }
+        k += 1;
+    }
+    word
+}
+
+// Do the 64 words agree with the births of n blocks: a bit is 1 where the birth is 0, and 0 behind the last block?
+pub fn words_agree(words: &[u32], births: &[u32], n: usize) -> bool
+    requires { ⌜ (64 ≤ length (now words)) × (n ≤ 2048) × (n ≤ length (now births)) ⌝ }
+    ensures { λ r. ⌜ r ≡ wordsAgree (now (words .entry)) (bornFree (now (births .entry))) n 64 ⌝ }
+{
+    let mut k: usize = 0;
+    while k < 64 {
+        if 32 * k + 32 <= n {
+            if words[k] != word_of(births, 32 * k) {
+                return false;
+            }
+            k += 1;
+        } else if 32 * k < n {
+            if words[k] != bits_of(births, 32 * k, n - 32 * k) {
+                return false;
+            }
+            k += 1;
+        } else {
+            if words[k] != 0 {
+                return false;
+            }
+            k += 1;
+        }
+    }
+    true
 }
 
 // The arena counter, and the accepted writes since it last went up.

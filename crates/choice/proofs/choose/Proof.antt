@@ -1,37 +1,41 @@
 -- The two loops: what is left of the search is the whole, at the head of each.
 use mathlib.Core.Path.{_≡_, sym, _∙_}
-use Prim.Native.Nat.{ℕ, _+_, _*_, _%_, _≤_, _<_, _-_}
-use native.Mathlib.Nat.{mod-lt, add-zero}
+use Prim.Native.Nat.{ℕ, suc, _+_, _*_, _%_, _≤_, _<_, _-_}
+use native.Mathlib.Nat.{mod-lt, add-zero, mul-le-mul-right, suc-mul}
 use native.Mathlib.Omega.{arith}
 use mir.Val.{Fits}
 use mir.Syntax.{w32, w64}
 use borrow.Author.Needs.{needs}
-use borrow.Author.Tests.{ne-eqb, eq-eqb}
-use Rattle.choice.specs.Rows.{freeIn, markIn}
+use Rattle.answer.proofs.Cases.{cases}
+use Rattle.choice.specs.Words.{freeIn, markIn}
 use Rattle.choice.specs.Search.{chosen}
-use Rattle.choice.proofs.Ranges.{block-inside}
-use Rattle.choice.proofs.Left.{leftArenas, leftBlocks, next-arena, arenas-all, arenas-end, arenas-step, blocks-end, blocks-hit, blocks-pass}
+use Rattle.choice.proofs.Left.{leftArenas, leftBlocks, next-arena, arenas-all, arenas-end, arenas-step, arenas-pass, blocks-end}
+use Rattle.choice.proofs.Jump.{jump-leads, jump-past, jump-hit}
 use Rattle.choice.proofs.choose.Statement.{statement}
 use Rattle.choice.proofs.choose.Tie as tie
 
+-- a number that fits 32 bits fits 64
+wider : (x : ℕ) → Fits w32 x → Fits w64 x
+wider x h = omega arith
+
 abbrev Inv-loop : tie.InvT-loop
-Inv-loop rows marks arenas per counter kind arena tried at₀ seen₀ at seen =
+Inv-loop words marks arenas per counter kind arena tried start at₀ seen₀ at seen =
     (seen ≤ per)
     × (at < per)
-    × (leftBlocks (freeIn rows) (markIn marks) arenas per (counter + kind) tried arena at seen ≡ chosen (freeIn rows) (markIn marks) arenas per (counter + kind))
+    × (leftBlocks (freeIn words) (markIn marks) arenas per (counter + kind) tried arena at seen ≡ chosen (freeIn words) (markIn marks) arenas per (counter + kind))
 
 abbrev μ-loop : tie.MeasureT-loop
-μ-loop rows marks arenas per counter kind arena tried at₀ seen₀ at seen = per - seen
+μ-loop words marks arenas per counter kind arena tried start at₀ seen₀ at seen = per - seen
 
 abbrev Inv-search : tie.InvT-search
-Inv-search rows marks arenas per counter kind arena₀ tried₀ arena tried =
+Inv-search words marks arenas per counter kind arena₀ tried₀ arena tried =
     (tried ≤ arenas)
     × (arena < arenas)
     × (arena ≡ (counter + kind + tried) % arenas)
-    × (leftArenas (freeIn rows) (markIn marks) arenas per (counter + kind) tried ≡ chosen (freeIn rows) (markIn marks) arenas per (counter + kind))
+    × (leftArenas (freeIn words) (markIn marks) arenas per (counter + kind) tried ≡ chosen (freeIn words) (markIn marks) arenas per (counter + kind))
 
 abbrev μ-search : tie.MeasureT-search
-μ-search rows marks arenas per counter kind arena₀ tried₀ arena tried = arenas - tried
+μ-search words marks arenas per counter kind arena₀ tried₀ arena tried = arenas - tried
 
 add-arena : tie.Need-add-arena Inv-loop μ-loop Inv-search μ-search
 add-arena c = omega arith
@@ -45,15 +49,37 @@ search-holds c =
     let f = s .counter + s .kind in
     (omega arith, mod-lt f (omega arith), rw (add-zero f), arenas-all _ _ (s .arenas) (s .per) f)
 
+few : (arenas per a : ℕ) → arenas ≤ 16 → per ≤ 1024 → a < arenas → (a * per + per ≤ arenas * per) × (arenas * per ≤ 16384)
+few arenas per a h l u =
+    let e : suc a * per ≤ arenas * per = mul-le-mul-right per u in
+    let f : arenas * per ≤ 16 * per = mul-le-mul-right per h in
+    (omega (arith, suc-mul a per), omega arith)
+
+-- the arena's blocks are some of few
+ends : (c : tie.Else1 Inv-loop μ-loop Inv-search μ-search)
+    → (c .before .search .arena * c .before .before .before .before .args .per + c .before .before .before .before .args .per ≤ c .before .before .before .before .args .arenas * c .before .before .before .before .args .per)
+    × (c .before .before .before .before .args .arenas * c .before .before .before .before .args .per ≤ 16384)
+ends c =
+    let pre = c .before .before .before .before .pre in
+    few _ _ (c .before .search .arena) (pre .arenas-most) (pre .per-most) (c .before .search .inv .1)
+
+mul-start : tie.Need-mul-start Inv-loop μ-loop Inv-search μ-search
+mul-start c = omega (arith, ends c)
+
+add-first-given : tie.Need-add-first-given Inv-loop μ-loop Inv-search μ-search
+add-first-given c = omega (arith, ends c)
+
+first-given-requires : tie.Need-first-given-requires Inv-loop μ-loop Inv-search μ-search
+first-given-requires c κs = omega (arith, ends c)
+
+add-if2 : tie.Need-add-if2 Inv-loop μ-loop Inv-search μ-search
+add-if2 c = omega (arith, ends (c .before))
+
 mul-at : tie.Need-mul-at Inv-loop μ-loop Inv-search μ-search
 mul-at c = omega arith
 
 shared-slice-read-at : tie.Need-shared-slice-read-at Inv-loop μ-loop Inv-search μ-search
 shared-slice-read-at c = omega arith
-
--- a number that fits 32 bits fits 64
-wider : (x : ℕ) → Fits w32 x → Fits w64 x
-wider x h = omega arith
 
 cast-at : tie.Need-cast-at Inv-loop μ-loop Inv-search μ-search
 cast-at c = wider _ (c .shared-slice-known3 .given _)
@@ -61,39 +87,52 @@ cast-at c = wider _ (c .shared-slice-known3 .given _)
 loop-holds : tie.Need-loop-holds Inv-loop μ-loop Inv-search μ-search
 unfolding markIn
 loop-holds c =
-    let d = c .before .before in
+    let d = c .before .before .before .before in
     let e = d .before .before .before in
     let s = e .args in
     let low = e .pre .marks-low in (
       omega arith,
       search (needs, low),
-      sym (arenas-step (freeIn (s .rows .now)) (markIn (s .marks .now)) (s .arenas) (s .per) (s .counter + s .kind) (omega arith) (d .search .inv .2) (low _ (d .search .inv .1)))
+      sym (arenas-step (freeIn (s .words .now)) (markIn (s .marks .now)) (s .arenas) (s .per) (s .counter + s .kind) (omega arith) (d .search .inv .2) (low _ (d .search .inv .1)))
           ∙ d .search .inv .3,
     )
 
--- the block that is looked at is one of the arenas'
-block-lt : (c : tie.In-loop Inv-loop μ-loop Inv-search μ-search)
-    → c .before .before .before .before .search .arena * c .before .before .before .before .before .before .before .args .per + c .before .loop .at
-    < c .before .before .before .before .before .before .before .args .arenas * c .before .before .before .before .before .before .before .args .per
-block-lt c =
-    let o = c .before .before .before .before in
+sub-least : tie.Need-sub-least Inv-loop μ-loop Inv-search μ-search
+sub-least c = omega arith
+
+sub-least-2 : tie.Need-sub-least-2 Inv-loop μ-loop Inv-search μ-search
+sub-least-2 c = omega arith
+
+least-requires : tie.Need-least-requires Inv-loop μ-loop Inv-search μ-search
+least-requires c κs = search needs
+
+add-block : tie.Need-add-block Inv-loop μ-loop Inv-search μ-search
+add-block c = omega (arith, ends (c .before .before .before .before .before .before))
+
+add-first-given-2 : tie.Need-add-first-given-2 Inv-loop μ-loop Inv-search μ-search
+add-first-given-2 c = omega (arith, ends (c .before .before .before .before .before .before))
+
+first-given-requires-2 : tie.Need-first-given-requires-2 Inv-loop μ-loop Inv-search μ-search
+first-given-requires-2 c κs = omega (arith, ends (c .before .before .before .before .before .before))
+
+add-if3 : tie.Need-add-if3 Inv-loop μ-loop Inv-search μ-search
+add-if3 c = omega (arith, ends (c .before .before .before .before .before .before .before))
+
+sub-t28 : tie.Need-sub-t28 Inv-loop μ-loop Inv-search μ-search
+sub-t28 c =
+    let d = c .before .before .before .before in
+    let o = d .before .before .before .before .before in
     let s = o .before .before .before .args in
-    block-inside (o .search .arena) (s .arenas) (s .per) (c .before .loop .at) (o .search .inv .1) (c .before .loop .inv .1)
+    jump-leads (freeIn (s .words .now)) (o .search .arena * s .per + d .loop .at) (c .before .before .least .result) (c .before .first-given2 .ensures) .from
 
-mul-if2 : tie.Need-mul-if2 Inv-loop μ-loop Inv-search μ-search
-mul-if2 c = omega (arith, block-lt c)
+add-t29 : tie.Need-add-t29 Inv-loop μ-loop Inv-search μ-search
+add-t29 c = omega arith
 
-add-if2 : tie.Need-add-if2 Inv-loop μ-loop Inv-search μ-search
-add-if2 c = omega (arith, block-lt c)
+add-next-of : tie.Need-add-next-of Inv-loop μ-loop Inv-search μ-search
+add-next-of c = omega arith
 
-mul-if2-2 : tie.Need-mul-if2-2 Inv-loop μ-loop Inv-search μ-search
-mul-if2-2 c = omega (arith, block-lt c)
-
-mul-if2-3 : tie.Need-mul-if2-3 Inv-loop μ-loop Inv-search μ-search
-mul-if2-3 c = omega (arith, block-lt c)
-
-shared-slice-read-if2 : tie.Need-shared-slice-read-if2 Inv-loop μ-loop Inv-search μ-search
-shared-slice-read-if2 c = omega (arith, block-lt (c .before))
+sub-next-of : tie.Need-sub-next-of Inv-loop μ-loop Inv-search μ-search
+sub-next-of c = omega arith
 
 next-of-requires : tie.Need-next-of-requires Inv-loop μ-loop Inv-search μ-search
 next-of-requires c κs = (omega arith, omega arith)
@@ -105,15 +144,17 @@ loop-less : tie.Need-loop-less Inv-loop μ-loop Inv-search μ-search
 loop-less c = omega arith
 
 loop-again : tie.Need-loop-again Inv-loop μ-loop Inv-search μ-search
-unfolding freeIn
 loop-again c =
-    let d = c .before .before .before .before in
-    let o = d .before .before .before in
+    let e = c .before .before in
+    let d = e .before .before .before in
+    let o = d .before .before .before .before .before in
     let s = o .before .before .before .args in
-    let test = ne-eqb _ _ (c .before .if2 .left) in (
+    let free = freeIn (s .words .now) in
+    let most = e .before .least .result in (
       omega arith,
-      omega arith,
-      sym (blocks-pass (freeIn (s .rows .now)) (markIn (s .marks .now)) (s .arenas) (s .per) (s .counter + s .kind) (o .search .tried) (o .search .arena) (d .loop .at) (omega arith) test (c .next-of .ensures .0))
+      c .next-of .ensures .1,
+      sym (jump-past free (markIn (s .marks .now)) (s .arenas) (s .per) (s .counter + s .kind) (o .search .tried) (o .search .arena) (d .loop .at) (d .loop .seen) most (omega arith) (omega arith)
+          (jump-leads free _ most (e .first-given2 .ensures)) (omega arith) (omega arith) (c .next-of .ensures .0))
           ∙ d .loop .inv .2,
     )
 
@@ -127,31 +168,42 @@ search-less : tie.Need-search-less Inv-loop μ-loop Inv-search μ-search
 search-less c = omega arith
 
 search-again : tie.Need-search-again Inv-loop μ-loop Inv-search μ-search
+unfolding markIn
 search-again c =
     let d = c .before .before in
-    let o = d .before .before .before in
+    let o = d .before .before in
     let s = o .before .before .before .args in
-    let f = s .counter + s .kind in (
+    let f = s .counter + s .kind in
+    let free = freeIn (s .words .now) in
+    let mark = markIn (s .marks .now) in
+    let l = jump-leads free (o .search .arena * s .per) (s .per) (d .first-given .ensures) in (
       omega arith,
       omega arith,
       c .next-of2 .ensures .0 ∙ next-arena f (s .arenas) (o .search .tried) (o .search .arena) (omega arith) (o .search .inv .2),
-      sym (blocks-end (freeIn (s .rows .now)) (markIn (s .marks .now)) (s .arenas) (s .per) f (o .search .tried) (o .search .arena) (d .loop .at) (omega arith)) ∙ d .loop .inv .2,
+      cases {C = leftArenas free mark (s .arenas) (s .per) f (o .search .tried + 1) ≡ chosen free mark (s .arenas) (s .per) f} (c .before .if2 .came)
+          (λ w. sym (blocks-end free mark (s .arenas) (s .per) f (o .search .tried) (o .search .arena) (w .2 .at) (w .3 .left)) ∙ w .2 .inv .2)
+          (λ w.
+          sym (arenas-pass free mark (s .arenas) (s .per) f (omega arith) (o .search .inv .2) (o .before .before .before .pre .marks-low _ (o .search .inv .1))
+          (λ x u. l .none (o .search .arena * s .per + x) (omega arith) (omega (arith, w .left))))
+          ∙ o .search .inv .3),
     )
 
 returns : tie.Need-returns Inv-loop μ-loop Inv-search μ-search
 returns c =
     let d = c .before in
     let s = d .before .before .before .args in
-    sym (arenas-end (freeIn (s .rows .now)) (markIn (s .marks .now)) (s .arenas) (s .per) (s .counter + s .kind) (omega arith)) ∙ d .search .inv .3
+    sym (arenas-end (freeIn (s .words .now)) (markIn (s .marks .now)) (s .arenas) (s .per) (s .counter + s .kind) (omega arith)) ∙ d .search .inv .3
 
 returns-2 : tie.Need-returns-2 Inv-loop μ-loop Inv-search μ-search
-unfolding freeIn
 returns-2 c =
-    let d = c .before .before .before in
-    let o = d .before .before .before in
+    let e = c .before in
+    let d = e .before .before .before in
+    let o = d .before .before .before .before .before in
     let s = o .before .before .before .args in
-    let test = eq-eqb _ _ (c .if2 .taken) in
-    sym (blocks-hit (freeIn (s .rows .now)) (markIn (s .marks .now)) (s .arenas) (s .per) (s .counter + s .kind) (o .search .tried) (o .search .arena) (d .loop .at) (omega arith) test)
+    let free = freeIn (s .words .now) in
+    let most = e .before .least .result in
+    sym (jump-hit free (markIn (s .marks .now)) (s .arenas) (s .per) (s .counter + s .kind) (o .search .tried) (o .search .arena) (d .loop .at) (d .loop .seen) most (omega arith) (omega arith)
+    (jump-leads free _ most (e .first-given2 .ensures)) (c .if3 .taken))
     ∙ d .loop .inv .2
 
 pub choose-spec : {M : Type 1} → statement M
@@ -165,15 +217,25 @@ choose-spec =
     add-arena
     rem-arena
     search-holds
+    mul-start
+    add-first-given
+    first-given-requires
+    add-if2
     mul-at
     shared-slice-read-at
     cast-at
     loop-holds
-    mul-if2
-    add-if2
-    mul-if2-2
-    mul-if2-3
-    shared-slice-read-if2
+    sub-least
+    sub-least-2
+    least-requires
+    add-block
+    add-first-given-2
+    first-given-requires-2
+    add-if3
+    sub-t28
+    add-t29
+    add-next-of
+    sub-next-of
     next-of-requires
     add-seen
     loop-less
