@@ -1,30 +1,68 @@
--- THE LAYOUT of the lent tables: one list of numbers, a header of 32, then a row of 272 for each record slot, then a row of 8 for each block.
---   header   0-5 the six numbers, 6 last number used, 7 counter, 8 writes of this turn, 9 log words used, 10 length of the deadlists' sequence,
---            11-15 spare, 16-31 the arenas' marks
---   record   0 number (0: empty slot), 1 open (1) or sealed (0), 2 record before it in its line (a link), 3 base (a link), 4 line,
---            5-15 spare, 16-271 pages (block + 1, 0 for nothing)
---   block    0 birth (0: free), 1 home (a slot), 2 the page it is on, 3 record on whose deadlist it is (a link), 4 an entry of the sequence, 5-7 spare
+-- THE LAYOUT of the lent tables: one list of numbers. R record slots, N blocks.
+--   0-5          the six numbers
+--   6-9          last number used, counter, writes of this turn, log words used
+--   16-31        the arenas' marks
+--   64-127       free words: bit i of word k is 1 exactly where block 32 k + i may be given
+--   192, 256, 320, 384, 448    columns of 64 slots: number (0: empty slot), open (1) or sealed (0), record before it in its line (a link), base
+--                (a link), length of the deadlist
+--   2048         pages, 256 a slot (block + 1, 0 for nothing)
+--   2048 + 256 R deadlists, 256 a slot: the first `length` numbers of a row are the blocks, in the order of joining
+--   2048 + 512 R births (0: free)
+-- All others are spare.
 use mathlib.Core.Bool.{Bool, cond, _&&_}
 use mathlib.Core.List.{List, [], _∷_}
-use Prim.Native.Nat.{ℕ, zero, suc, _+_, _-_, _*_, _/_, _%_}
+use Prim.Native.Nat.{ℕ, zero, suc, _+_, _-_, _*_, _/_, _%_, min}
 use lib.Dec.{eqb, ltb, leb}
 use lib.ListN.{length, getD, replicate}
 use lib.Seq.{sets}
 use Rattle.geometry.specs.declared.Geometry.{Geometry}
 use Rattle.geometry.specs.Limits.{blocks}
+use Rattle.choice.specs.Words.{wordOf}
 use Rattle.model.specs.View.{View}
+use Rattle.model.specs.Held.{available}
 use Rattle.model.specs.State.{State, fresh}
 
--- where number f of a record's row, and of a block's row in a store of R record slots, stands
-abbrev pub recordCell : ℕ → ℕ → ℕ
-recordCell s f = 32 + 272 * s + f
+-- ── where a number stands ──
 
-abbrev pub blockCell : ℕ → ℕ → ℕ → ℕ
-blockCell R b f = 32 + 272 * R + 8 * b + f
+abbrev pub markCell : ℕ → ℕ
+markCell a = 16 + a
+
+abbrev pub freeCell : ℕ → ℕ
+freeCell k = 64 + k
+
+abbrev pub numCell : ℕ → ℕ
+numCell s = 192 + s
+
+abbrev pub openCell : ℕ → ℕ
+openCell s = 256 + s
+
+abbrev pub prevCell : ℕ → ℕ
+prevCell s = 320 + s
+
+abbrev pub baseCell : ℕ → ℕ
+baseCell s = 384 + s
+
+abbrev pub lengthCell : ℕ → ℕ
+lengthCell s = 448 + s
+
+abbrev pub pageCell : ℕ → ℕ → ℕ
+pageCell s x = 2048 + 256 * s + x
+
+abbrev pub listCell : ℕ → ℕ → ℕ → ℕ
+listCell R s i = 2048 + 256 * R + 256 * s + i
+
+abbrev pub birthCell : ℕ → ℕ → ℕ
+birthCell R b = 2048 + 512 * R + b
 
 -- how many numbers a geometry needs
 abbrev pub need : Geometry → ℕ
-need g = 32 + 272 * g .records + 8 * blocks g
+need g = 2048 + 512 * g .records + blocks g
+
+-- ── the free words ──
+
+-- bit i of word k is 1 exactly where block 32 k + i may be given; no number from N on is a block
+unfoldable pub freeWord : View → ℕ → ℕ
+freeWord K k = wordOf (available K) (32 * k) (min 32 (K .blocks - 32 * k))
 
 -- ── what tables say ──
 
@@ -32,10 +70,10 @@ need g = 32 + 272 * g .records + 8 * blocks g
 unfoldable pub field : List ℕ → Bool → ℕ → ℕ
 field t inside at = cond inside (getD t at 0) 0
 
--- the first n entries of the deadlists' sequence, from block row b on
-unfoldable pub sequence : ℕ → List ℕ → ℕ → ℕ → List ℕ
-sequence R t b zero = []
-sequence R t b (suc n) = getD t (blockCell R b 4) 0 ∷ sequence R t (suc b) n
+-- the n numbers from an address on
+unfoldable pub numbers : List ℕ → ℕ → ℕ → List ℕ
+numbers t at zero = []
+numbers t at (suc n) = getD t at 0 ∷ numbers t (suc at) n
 
 unfoldable pub viewOf : Geometry → List ℕ → View
 viewOf g t =
@@ -44,24 +82,20 @@ viewOf g t =
       pages = g .pages;
       blocks = blocks g;
       last = getD t 6 0;
-      num = λ s. field t (ltb s (g .records)) (recordCell s 0);
-      isOpen = λ s. field t (ltb s (g .records)) (recordCell s 1);
-      prev = λ s. field t (ltb s (g .records)) (recordCell s 2);
-      base = λ s. field t (ltb s (g .records)) (recordCell s 3);
-      line = λ s. field t (ltb s (g .records)) (recordCell s 4);
-      page = λ s x. field t (ltb s (g .records) && ltb x (g .pages)) (recordCell s (16 + x));
-      birth = λ b. field t (ltb b (blocks g)) (blockCell (g .records) b 0);
-      home = λ b. field t (ltb b (blocks g)) (blockCell (g .records) b 1);
-      leaf = λ b. field t (ltb b (blocks g)) (blockCell (g .records) b 2);
-      dead = λ b. field t (ltb b (blocks g)) (blockCell (g .records) b 3);
-      seq = sequence (g .records) t 0 (getD t 10 0);
+      num = λ s. field t (ltb s (g .records)) (numCell s);
+      isOpen = λ s. field t (ltb s (g .records)) (openCell s);
+      prev = λ s. field t (ltb s (g .records)) (prevCell s);
+      base = λ s. field t (ltb s (g .records)) (baseCell s);
+      page = λ s x. field t (ltb s (g .records) && ltb x (g .pages)) (pageCell s x);
+      list = λ s. numbers t (listCell (g .records) s 0) (field t (ltb s (g .records)) (lengthCell s));
+      birth = λ b. field t (ltb b (blocks g)) (birthCell (g .records) b);
     }
 
 unfoldable pub stateOf : Geometry → List ℕ → State
 stateOf g t =
     record {
       view = viewOf g t;
-      mark = λ a. field t (ltb a (g .arenas)) (16 + a);
+      mark = λ a. field t (ltb a (g .arenas)) (markCell a);
       counter = getD t 7 0;
       writes = getD t 8 0;
       used = getD t 9 0;
@@ -81,36 +115,38 @@ headerNumber g T t i =
     (cond (eqb i 7) (T .counter)
     (cond (eqb i 8) (T .writes)
     (cond (eqb i 9) (T .used)
-    (cond (eqb i 10) (length (T .view .seq))
     (cond (leb 16 i && ltb (i - 16) (g .arenas)) (T .mark (i - 16))
+    (cond (leb 64 i && ltb (i - 64) 64) (freeWord (T .view) (i - 64))
     (getD t i 0))))))))))))
 
-unfoldable pub recordNumber : View → List ℕ → ℕ → ℕ → ℕ
-recordNumber K t s f =
-    cond (eqb f 0) (K .num s)
+-- number s of column f
+unfoldable pub columnNumber : View → List ℕ → ℕ → ℕ → ℕ
+columnNumber K t f s =
+    cond (ltb s (K .slots))
+    (cond (eqb f 0) (K .num s)
     (cond (eqb f 1) (K .isOpen s)
     (cond (eqb f 2) (K .prev s)
-    (cond (eqb f 3) (K .base s)
-    (cond (eqb f 4) (K .line s)
-    (cond (leb 16 f && ltb (f - 16) (K .pages)) (K .page s (f - 16))
-    (getD t (recordCell s f) 0))))))
+    (cond (eqb f 3) (K .base s) (length (K .list s))))))
+    (getD t (192 + 64 * f + s) 0)
 
-unfoldable pub blockNumber : View → List ℕ → ℕ → ℕ → ℕ
-blockNumber K t b f =
-    cond (eqb f 0) (K .birth b)
-    (cond (eqb f 1) (K .home b)
-    (cond (eqb f 2) (K .leaf b)
-    (cond (eqb f 3) (K .dead b)
-    (cond (eqb f 4 && ltb b (length (K .seq))) (getD (K .seq) b 0)
-    (getD t (blockCell (K .slots) b f) 0)))))
+-- number x of the pages and of the deadlist of s
+unfoldable pub pageNumber : View → List ℕ → ℕ → ℕ → ℕ
+pageNumber K t s x = cond (ltb x (K .pages)) (K .page s x) (getD t (pageCell s x) 0)
+
+unfoldable pub listNumber : View → List ℕ → ℕ → ℕ → ℕ
+listNumber K t s i = cond (ltb i (length (K .list s))) (getD (K .list s) i 0) (getD t (listCell (K .slots) s i) 0)
 
 -- number i of the tables t when they say T
 unfoldable pub numberAt : Geometry → State → List ℕ → ℕ → ℕ
 numberAt g T t i =
-    cond (ltb i 32) (headerNumber g T t i)
-    (cond (ltb i (recordCell (g .records) 0)) (recordNumber (T .view) t ((i - 32) / 272) ((i - 32) % 272))
-    (cond (ltb i (need g)) (blockNumber (T .view) t ((i - recordCell (g .records) 0) / 8) ((i - recordCell (g .records) 0) % 8))
-    (getD t i 0)))
+    cond (ltb i 192) (headerNumber g T t i)
+    (cond (ltb i 512) (columnNumber (T .view) t ((i - 192) / 64) ((i - 192) % 64))
+    (cond (ltb i 2048) (getD t i 0)
+    (cond (ltb i (listCell (g .records) 0 0)) (pageNumber (T .view) t ((i - 2048) / 256) ((i - 2048) % 256))
+    (cond (ltb i (birthCell (g .records) 0))
+    (listNumber (T .view) t ((i - listCell (g .records) 0 0) / 256) ((i - listCell (g .records) 0 0) % 256))
+    (cond (ltb i (need g)) (T .view .birth (i - birthCell (g .records) 0))
+    (getD t i 0))))))
 
 -- f at the n numbers from i on
 unfoldable pub listed : (ℕ → ℕ) → ℕ → ℕ → List ℕ
@@ -121,6 +157,6 @@ listed f i (suc n) = f i ∷ listed f (suc i) n
 unfoldable pub stored : Geometry → State → List ℕ → List ℕ
 stored g T t = listed (numberAt g T t) 0 (length t)
 
--- the tables of a fresh store, on any lent memory: every number that the geometry needs is 0 but the six of the making
+-- the tables of a fresh store, on any lent memory: every number that the geometry needs is 0 but the six of the making and the free words
 unfoldable pub made : Geometry → List ℕ → List ℕ
 made g t = stored g (fresh g) (sets t 0 (replicate (need g) 0))
