@@ -1,48 +1,61 @@
 -- The call D: what it asks of its parts once it is accepted, and that what they leave is what the model says.
 use mathlib.Core.Path.{_≡_, refl, sym, ap, ap₂, _∙_, subst}
-use mathlib.Core.Bool.{false, cond, _&&_}
+use mathlib.Core.Bool.{false}
 use mathlib.Core.List.{List, map}
-use Prim.Native.Nat.{ℕ, zero, suc, _+_, _-_, _*_, _≤_, _<_}
+use Prim.Native.Nat.{ℕ, zero, suc, _+_, _-_, _*_, _≤_}
 use native.Mathlib.Omega.{arith}
 use lib.Dec.{eqb, ltb}
-use lib.ListN.{length, getD, set, take, drop}
-use lib.Seq.{sets, sets-eq, take-at, length-sets}
-use borrow.Author.Tests.{eq-eqb, ne-eqb, le-ltb, ltb-false}
+use lib.ListN.{length, getD, set, take, length-append}
+use lib.Seq.{sets, length-sets}
+use borrow.Author.Tests.{le-ltb, ltb-false}
 use Rattle.answer.specs.Reply.{accepted, refused, replyOf}
 use Rattle.answer.specs.declared.Answer.the-variants.{Done, Refused}
-use Rattle.answer.proofs.Cases.{cases, same?}
+use Rattle.answer.proofs.Cases.{cases, either}
 use Rattle.answer.proofs.Decided.{decide-accepts}
 use Rattle.geometry.specs.declared.Geometry.{Geometry}
 use Rattle.geometry.specs.Limits.{blocks}
 use Rattle.log.specs.Word.{writeAt, bytesOf, released}
-use Rattle.model.specs.View.{View}
-use Rattle.model.specs.Effects.{unlink, unlinked, prune}
-use Rattle.model.specs.Actions.{slotOf, follower, forked, doD, Asks, live, deleteAt, delete}
-use Rattle.model.specs.Held.{heldCount, deleted, frees, pruned}
-use Rattle.model.specs.State.{State}
+use Rattle.model.specs.View.{View, predNum}
+use Rattle.model.specs.Effects.{unlinked, youngAt, pruned}
+use Rattle.model.specs.Actions.{slotOf, follower, forked, doD, Asks, deleteAt, delete}
+use Rattle.model.specs.Held.{heldCount, deleted, frees}
+use Rattle.model.specs.State.{State, withView, withUsed}
 use Rattle.model.specs.Calls.{slot, short, conditions, result, written, acted, effect}
 use Rattle.model.specs.Layout.{viewOf, stateOf, headerNumber, stored}
 use Rattle.model.specs.declared.Call.the-variants.{Delete}
-use Rattle.model.proofs.TabFacts.{seek-found}
 use Rattle.model.proofs.DoneShaped.{done-shaped}
 use Rattle.model.proofs.Sizes.{done-sized}
-use Rattle.model.proofs.HeldFacts.{held-done, tally-le}
+use Rattle.model.proofs.HeldFacts.{held-done}
+use Rattle.model.proofs.Tally.{tally-le}
 use Rattle.model.proofs.LayoutFacts.{stored-header, stored-length}
 use Rattle.model.proofs.Fine.{asks-D}
 use Rattle.tables.specs.Ready.{Ready, OutLong}
-use Rattle.tables.specs.Puts.{withView, withUsed}
 use Rattle.tables.specs.Outcome.{replied, tablesLeft, logLeft, outLeft}
 use Rattle.tables.proofs.Fields
 use Rattle.tables.proofs.Ranges
-use Rattle.tables.proofs.Steps.{Holds, step-used}
+use Rattle.tables.proofs.Steps.{Holds, holds-first, step-used}
+use Rattle.deleting.specs.Stages.{bypassed, unhooked}
 use Rattle.deleting.specs.Verdict.{verdictOf}
 use Rattle.deleting.specs.declared.delete.Verdict.{Verdict}
 use Rattle.deleting.specs.declared.delete.Verdict.the-variants.{Accept}
-use Rattle.deleting.proofs.Counting.{unlinked-short}
-use Rattle.deleting.proofs.Pruning.{pruned-short}
-use Rattle.deleting.proofs.Frames.{framed, held-first}
+use Rattle.deleting.proofs.Buffers.{take-sets}
+use Rattle.deleting.proofs.Parting.{unlinked-short}
 use Rattle.deleting.proofs.Logging.{freed, map-length}
 use Rattle.deleting.proofs.Verdicts.{ready-fine, acceptance}
+
+-- ── how many blocks a last record frees ──
+
+-- a page has one block
+young-short : (K : View) (s l : ℕ) → length (youngAt K s l) ≤ 1
+unfolding youngAt
+young-short K s zero = omega arith
+young-short K s (suc b) = cases (either (ltb (predNum K s) (K .birth b))) (λ y. rw y (omega arith)) (λ n. rw n (omega arith))
+
+pruned-short : (K : View) (s k : ℕ) → length (pruned K s k) ≤ k
+unfolding pruned
+pruned-short K s zero = omega arith
+pruned-short K s (suc k) =
+    omega (arith, pruned-short K s k, young-short K s (K .page s k), length-append (pruned K s k) (youngAt K s (K .page s k)))
 
 -- ── the two ways of a deletion ──
 
@@ -57,36 +70,31 @@ module _ (g : Geometry) (t : List ℕ) (s : ℕ) where
   deleted-next zero n = absurd (n refl)
   deleted-next (suc f) n = ap (unlinked (viewOf g t) s) (omega arith)
 
-  -- no more than there are pages, or entries of the sequence
-  deleted-most : (f : ℕ) → length (deleted (viewOf g t) s f) ≤ cond (eqb f 0) (g .pages) (getD t 10 0)
-  deleted-most f =
-      cases (same? f 0)
-      (λ z. rw (eq-eqb f 0 z) (omega (arith, ap length (deleted-last f z), pruned-short (viewOf g t) s (g .pages))))
-      (λ n. rw (ne-eqb f 0 n) (omega (arith, ap length (deleted-next f n), unlinked-short (viewOf g t) s (f - 1), Fields.seq-length g t)))
+  -- no more than there are pages
+  module _ (R : Ready g t) where
+    deleted-most : (f : ℕ) → length (deleted (viewOf g t) s f) ≤ g .pages
+    unfolding deleted viewOf
+    deleted-most zero = pruned-short (viewOf g t) s (g .pages)
+    deleted-most (suc n) = unlinked-short R s n
 
-  -- w words are used
-  module _ (f w : ℕ) (ew : w ≡ getD t 9 0) where
-    pub never-short : (m : ℕ) → m ≡ cond (eqb f 0) (g .pages) (getD t 10 0) → m ≤ g .words - w →
-        false ≡ ltb (g .words - getD t 9 0) (length (deleted (viewOf g t) s f))
-    never-short m em h = sym (le-ltb (g .words - getD t 9 0) (length (deleted (viewOf g t) s f)) (omega (arith, deleted-most f, em, ew)))
+    -- w words are used
+    pub never-short : (f w : ℕ) → w ≡ getD t 9 0 → g .pages ≤ g .words - w → false ≡ ltb (g .words - getD t 9 0) (length (deleted (viewOf g t) s f))
+    never-short f w ew h = sym (le-ltb (g .words - getD t 9 0) (length (deleted (viewOf g t) s f)) (omega (arith, deleted-most f, ew)))
 
-    pub counted-short : (c : ℕ) → c ≡ length (deleted (viewOf g t) s f) →
-        ltb (g .words - w) c ≡ ltb (g .words - getD t 9 0) (length (deleted (viewOf g t) s f))
-    counted-short c ec = ap₂ (λ v d. ltb (g .words - v) d) ew ec
+  pub counted-short : (f w : ℕ) → w ≡ getD t 9 0 → (c : ℕ) → c ≡ length (deleted (viewOf g t) s f) →
+      ltb (g .words - w) c ≡ ltb (g .words - getD t 9 0) (length (deleted (viewOf g t) s f))
+  counted-short f w ew c ec = ap₂ (λ v d. ltb (g .words - v) d) ew ec
 
-  pub delete-last : (f : ℕ) → f ≡ 0 → prune (viewOf g t) s ≡ deleteAt (viewOf g t) s f
-  unfolding deleteAt
-  delete-last zero e = refl
-  delete-last (suc f) e = absurd (let z : ⊥ = omega arith in z)
+  -- the tables on the two ways
+  pub unhook-last : (f : ℕ) → f ≡ 0 → stateOf g t ≡ unhooked (stateOf g t) s f
+  unfolding unhooked
+  unhook-last zero e = refl
+  unhook-last (suc f) e = absurd (let z : ⊥ = omega arith in z)
 
-  pub delete-next : (f : ℕ) → (f ≡ 0 → ⊥) → unlink (viewOf g t) s (f - 1) ≡ deleteAt (viewOf g t) s f
-  unfolding deleteAt
-  delete-next zero n = absurd (n refl)
-  delete-next (suc f) n = ap (unlink (viewOf g t) s) (omega arith)
-
--- the numbers of a list that was written into a buffer
-take-sets : (o l : List ℕ) (n : ℕ) → n ≡ length l → length l ≤ length o → take n (sets o 0 l) ≡ l
-take-sets o l n e h = ap (take n) (sets-eq l o 0 (omega arith)) ∙ take-at l (drop (0 + length l) o) n (sym e)
+  pub unhook-next : (f : ℕ) → (f ≡ 0 → ⊥) → bypassed (stateOf g t) s (f - 1) ≡ unhooked (stateOf g t) s f
+  unfolding unhooked
+  unhook-next zero n = absurd (n refl)
+  unhook-next (suc f) n = ap (bypassed (stateOf g t) s) (omega arith)
 
 -- ── a refusal leaves everything ──
 
@@ -121,35 +129,21 @@ module _ (g : Geometry) (t : List ℕ) (R : Ready g t) (r : ℕ) (v : Verdict) (
       (short g (stateOf g t) (Delete r) ≡ false) × (slot (stateOf g t) r ≡ s) × (follower (stateOf g t .view) (slot (stateOf g t) r) ≡ f)
   told = acceptance g t r v ev s f d
 
-  asks : Asks K (doD s)
+  pub accept-asks : Asks (viewOf g t) (doD s)
   unfolding stateOf
-  asks = subst (λ z. Asks K (doD z)) (told .3) (asks-D g (R .roomy .inside) T (ready-fine R) r (told .0) (told .1))
+  accept-asks = subst (λ z. Asks K (doD z)) (told .3) (asks-D g (R .roomy .inside) T (ready-fine R) r (told .0) (told .1))
 
-  follows : follower K s ≡ f
+  pub accept-follows : follower (viewOf g t) s ≡ f
   unfolding stateOf
-  follows = ap (follower K) (sym (told .3)) ∙ told .4
-
-  pub accept-live : 0 < viewOf g t .num s
-  accept-live = asks .0
-
-  pub accept-slot : s < g .records
-  accept-slot = Ranges.slot-in R s accept-live
-
-  follower-le : (m : ℕ) → follower K s ≡ m → m ≤ K .slots
-  unfolding follower
-  follower-le zero e = omega arith
-  follower-le (suc m) e = omega (arith, seek-found (λ n. live K n && eqb (K .prev n) (suc s)) (K .slots) 0 m e .2)
-
-  pub accept-follower : f ≤ g .records
-  accept-follower = omega (arith, follower-le f follows, Fields.slots-is g t)
+  accept-follows = ap (follower K) (sym (told .3)) ∙ told .4
 
   frees-few : length (deleted K s f) ≤ blocks g
   unfolding heldCount
   frees-few =
       omega (
         arith,
-        held-done K (doD s) (Ranges.good R) asks,
-        ap (λ m. length (deleted K s m)) follows,
+        held-done K (doD s) (Ranges.sound R) accept-asks,
+        ap (λ m. length (deleted K s m)) accept-follows,
         tally-le (λ b. ltb 0 (K .birth b)) (K .blocks),
         Fields.blocks-is g t,
       )
@@ -160,7 +154,7 @@ module _ (g : Geometry) (t : List ℕ) (R : Ready g t) (r : ℕ) (v : Verdict) (
   -- the words that are written
   frees-are : frees (T .view) (doD (slot T r)) ≡ deleted K s f
   unfolding stateOf
-  frees-are = ap (λ z. deleted K z (follower K z)) (told .3) ∙ ap (deleted K s) follows
+  frees-are = ap (λ z. deleted K z (follower K z)) (told .3) ∙ ap (deleted K s) accept-follows
 
   words-are : length (written g T (Delete r)) ≡ length (deleted K s f)
   words-are = map-length (frees (T .view) (doD (slot T r))) ∙ ap length frees-are
@@ -185,16 +179,16 @@ module _ (g : Geometry) (t : List ℕ) (R : Ready g t) (r : ℕ) (v : Verdict) (
 
     view-is : deleteAt K s f ≡ delete K s
     unfolding delete
-    view-is = ap (deleteAt K s) (sym follows)
+    view-is = ap (deleteAt K s) (sym accept-follows)
 
     held : Holds g t (withView T (delete K s)) t₁
     unfolding stateOf
     held =
-        let S = held-first (framed R) .shaped in
+        let S = holds-first R .shaped in
         let z = done-sized K (doD s) in record {
           is = e₁ ∙ ap (λ L. stored g (withView T L) t) view-is;
           shaped = record {
-            view = done-shaped K (doD s) (Ranges.good R) asks (S .view);
+            view = done-shaped K (doD s) (Ranges.sound R) accept-asks (S .view);
             slots = z .slots ∙ S .slots;
             pages = z .pages ∙ S .pages;
             blocks = z .blocks ∙ S .blocks;
@@ -205,7 +199,7 @@ module _ (g : Geometry) (t : List ℕ) (R : Ready g t) (r : ℕ) (v : Verdict) (
     -- n blocks are freed, and out₁ lists them
     module _ (n : ℕ) (en : n ≡ length (deleted (viewOf g t) s f)) where
       acted-is : withUsed (withView T (delete K s)) (T .used + n) ≡ effect g T (Delete r)
-      unfolding withUsed acted stateOf
+      unfolding acted stateOf
       acted-is =
           ap (λ m. withUsed (withView T (delete K s)) (T .used + m)) (en ∙ sym words-are) ∙
           ap (λ z. withUsed (withView T (delete K z)) (T .used + length (written g T (Delete r)))) (sym (told .3))

@@ -1,13 +1,11 @@
--- Laws of a deletion: the walks along the deadlists' sequence and over a record's pages, the frees, the call.
-pub mod Tests
-pub mod Frames
-pub mod Walk
-pub mod Counting
+-- Laws of a deletion: memory that lists are written into, sorting, the parts of a deadlist, a record's own pages, the stages, the frees, the call.
+pub mod Buffers
+pub mod Sifting
+pub mod Parting
 pub mod Joining
-pub mod Columns
-pub mod Paging
-pub mod Pruning
+pub mod Owning
+pub mod Bypassing
+pub mod Leaving
 pub mod Logging
-pub mod Ending
 pub mod Verdicts
 pub mod Calling

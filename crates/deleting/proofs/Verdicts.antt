@@ -2,11 +2,11 @@
 use mathlib.Core.Path.{_≡_, refl, sym, ap, ap₂, _∙_, subst}
 use mathlib.Core.Bool.{Bool, true, false, cond}
 use mathlib.Core.List.{List}
-use Prim.Native.Nat.{ℕ, zero, suc, pred, _-_, _≤_, _<_}
+use Prim.Native.Nat.{ℕ, zero, suc, pred, _-_, _<_}
 use native.Mathlib.Omega.{arith}
 use lib.Dec.{eqb, ltb}
 use lib.ListN.{length, getD}
-use borrow.Author.Tests.{eq-eqb, ne-eqb, lt-ltb, le-ltb}
+use borrow.Author.Tests.{eq-eqb, ne-eqb}
 use Rattle.answer.specs.Reply.{accepted, refused}
 use Rattle.geometry.specs.declared.Geometry.{Geometry}
 use Rattle.model.specs.Actions.{slotOf, follower, forked}
@@ -26,7 +26,7 @@ use Rattle.deleting.proofs.Logging.{map-length}
 
 pub ready-fine : {g : Geometry} {t : List ℕ} → Ready g t → Fine g (stateOf g t)
 unfolding stateOf viewOf
-ready-fine R = record { good = R .good; slots = refl; pages = refl; blocks = refl; range = R .range }
+ready-fine R = record { sound = R .sound; slots = refl; pages = refl; blocks = refl; range = R .range }
 
 -- ── the code's tests ──
 
@@ -55,17 +55,15 @@ module _ (g : Geometry) (t : List ℕ) (r l : ℕ) (e : l ≡ slotOf (viewOf g t
     unfolding stateOf
     slot-live R = subst (λ s. 0 < viewOf g t .num s) slot-is (named-slot g (R .roomy .inside) T (ready-fine R) r has-slot .0)
 
-    pub has-fork : (f : ℕ) → f ≡ forked (viewOf g t) (l - 1) → (f ≡ 0 → ⊥) → Refused 10 ≡ verdictOf g (stateOf g t) r
+    pub has-fork : (f : Bool) → f ≡ ltb 0 (forked (viewOf g t) (l - 1)) → f ≡ true → Refused 10 ≡ verdictOf g (stateOf g t) r
     unfolding verdictOf stateOf
-    has-fork f d m =
-        let h : 0 < forked (viewOf g t) (slot T r) = subst (λ s. 0 < forked (viewOf g t) s) (sym slot-is) (omega arith) in
-        rw (has-slot, lt-ltb 0 (forked (viewOf g t) (slot T r)) h)
+    has-fork f d y = rw (has-slot, ap (λ s. ltb 0 (forked (viewOf g t) s)) slot-is ∙ sym d ∙ y)
 
-    module _ (f : ℕ) (d : f ≡ forked (viewOf g t) (l - 1)) (z : f ≡ 0) (o : ℕ) (eo : o ≡ follower (viewOf g t) (l - 1))
+    module _ (f : Bool) (d : f ≡ ltb 0 (forked (viewOf g t) (l - 1))) (z : f ≡ false) (o : ℕ) (eo : o ≡ follower (viewOf g t) (l - 1))
         (q : Bool) (eq : q ≡ ltb (g .words - getD t 9 0) (length (deleted (viewOf g t) (l - 1) o))) where
       no-fork : ltb 0 (forked (T .view) (slot T r)) ≡ false
       unfolding stateOf
-      no-fork = le-ltb 0 (forked (viewOf g t) (slot T r)) (omega (arith, ap (forked (viewOf g t)) slot-is))
+      no-fork = ap (λ s. ltb 0 (forked (viewOf g t) s)) slot-is ∙ sym d ∙ z
 
       frees-are : length (written g T (Delete r)) ≡ length (deleted (viewOf g t) (l - 1) o)
       unfolding stateOf

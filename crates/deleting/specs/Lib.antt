@@ -1,4 +1,3 @@
--- What the stages of a deletion ask of the tables and make of them, and the verdict.
-pub mod Walks
+-- What the stages of a deletion make of the state, and the verdict.
 pub mod Stages
 pub mod Verdict

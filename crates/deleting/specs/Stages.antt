@@ -1,49 +1,32 @@
--- What each stage of a deletion makes of the state.
-use mathlib.Core.Bool.{Bool, cond, not, _&&_}
-use Prim.Native.Nat.{ℕ, suc}
-use lib.Dec.{eqb}
+-- What each stage of a deletion makes of the state and the tables.
+use mathlib.Core.List.{List, [], _∷_}
+use Prim.Native.Nat.{ℕ, zero, suc}
+use lib.Dec.{ltb, leb}
 use Rattle.model.specs.Lists.{keepIf}
 use Rattle.model.specs.View.{View}
 use Rattle.model.specs.State.{State}
-use Rattle.model.specs.Effects.{goes, lost}
-use Rattle.tables.specs.Puts.{withFates, withSeq}
+use Rattle.model.specs.Effects.{joined}
+use Rattle.tables.specs.Puts.{withPrev, withList}
+use Rattle.tables.specs.Births.{freed}
 
--- a walk along the deadlists' sequence: the entries that pass c leave it, births become f and deadlists d
-unfoldable pub walked : State → (ℕ → Bool) → (birth dead : ℕ → ℕ) → State
-walked T c f d = withSeq (withFates T f (T .view .home) d) (keepIf (λ b. not (c b)) (T .view .seq))
+-- the blocks of a deadlist that were born above p, and the others, each in order
+abbrev pub younger : View → ℕ → List ℕ → List ℕ
+younger K p l = keepIf (λ b. ltb p (K .birth b)) l
 
--- the deadlist of b when the freed blocks are on none, and those of slot s are on that of slot n
-unfoldable pub joinedDead : View → ℕ → ℕ → ℕ → ℕ
-joinedDead K s n b = cond (goes K s n b) 0 (cond (eqb (K .dead b) (suc s)) (suc n) (K .dead b))
+abbrev pub older : View → ℕ → List ℕ → List ℕ
+older K p l = keepIf (λ b. leb (K .birth b) p) l
 
--- its birth: the freed blocks have none
-unfoldable pub joinedBirth : View → ℕ → ℕ → ℕ → ℕ
-joinedBirth K s n b = cond (goes K s n b) 0 (K .birth b)
+-- s, which n follows, is taken out of its line: its deadlist joins that of n, what is freed leaves it, and n's link is that of s.
+-- The births of the freed blocks, the deadlist of s and its number stay.
+unfoldable pub bypassed : State → ℕ → ℕ → State
+bypassed T s n = withPrev (withList T n (joined (T .view) s n)) n (T .view .prev s)
 
--- the deletion of s, which n follows: the freed blocks leave the deadlists, those of s join those of n
-unfoldable pub joined : State → ℕ → ℕ → State
-joined T s n = walked T (goes (T .view) s n) (joinedBirth (T .view) s n) (joinedDead (T .view) s n)
+-- the same by the link of the record that follows: where none does, nothing is to be done
+unfoldable pub unhooked : State → ℕ → ℕ → State
+unhooked T s zero = T
+unhooked T s (suc n) = bypassed T s n
 
--- is b on the deadlist of slot s?
-unfoldable pub onList : View → ℕ → ℕ → Bool
-onList K s b = eqb (K .dead b) (suc s)
-
--- the deadlist of b when those of slot s are on none
-unfoldable pub droppedDead : View → ℕ → ℕ → ℕ
-droppedDead K s b = cond (onList K s b) 0 (K .dead b)
-
--- the deadlist of s is dropped
-unfoldable pub dropped : State → ℕ → State
-dropped T s = walked T (onList (T .view) s) (T .view .birth) (droppedDead (T .view) s)
-
--- a walk over the pages of slot s: of the blocks there, the number in the column h becomes v where it passes q
-unfoldable pub pageColumn : View → ℕ → (ℕ → Bool) → ℕ → (ℕ → ℕ) → ℕ → ℕ
-pageColumn K s q v h b = cond (eqb (K .page s (K .leaf b)) (suc b) && q (h b)) v (h b)
-
--- the blocks on pages of s whose home is s are at home in n
-unfoldable pub moved : State → ℕ → ℕ → State
-moved T s n = withFates T (T .view .birth) (pageColumn (T .view) s (λ h. eqb h s) n (T .view .home)) (T .view .dead)
-
--- the blocks on pages of s that were born above its pred are free
-unfoldable pub freedYoung : State → ℕ → State
-freedYoung T s = withFates T (λ b. cond (lost (T .view) s b) 0 (T .view .birth b)) (T .view .home) (T .view .dead)
+-- the blocks of a list are freed one after another, in tables of R slots
+unfoldable pub freedAll : ℕ → List ℕ → List ℕ → List ℕ
+freedAll R t [] = t
+freedAll R t (b ∷ l) = freedAll R (freed R t b) l

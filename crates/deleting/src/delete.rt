@@ -1,30 +1,35 @@
 // D: its refusals, its frees in the log, and the two ways of a deletion.
 ghost use mathlib.Core.Path.{_≡_};
-ghost use mathlib.Core.Bool.{cond};
 ghost use mathlib.Core.List.{map};
-ghost use Prim.Native.Nat.{_+_, _-_, _*_, _<_, _≤_};
-ghost use lib.Dec.{eqb, ltb};
+ghost use Prim.Native.Nat.{ℕ, _+_, _-_, _*_, _<_, _≤_};
+ghost use lib.Dec.{ltb};
 ghost use lib.ListN.{length, getD, set, take};
 ghost use lib.Seq.{sets};
 ghost use Rattle.answer.specs.Reply.{replyOf};
 ghost use Rattle.log.specs.Word.{writeAt, bytesOf, released};
 ghost use Rattle.model.specs.declared.Call.the-variants.{Delete};
-ghost use Rattle.model.specs.Actions.{deleteAt};
+ghost use Rattle.geometry.specs.Limits.{blocks};
+ghost use Rattle.model.specs.Actions.{doD, Asks, follower, deleteAt};
+ghost use Rattle.model.specs.State.{withView};
 ghost use Rattle.model.specs.Held.{deleted};
 ghost use Rattle.model.specs.Layout.{viewOf, stateOf, stored};
 ghost use Rattle.tables.specs.Ready.{Roomy, Ready, OutLong, LogLong};
-ghost use Rattle.tables.specs.Puts.{withView};
 ghost use Rattle.tables.specs.Outcome.{replied, tablesLeft, logLeft, outLeft};
+ghost use Rattle.deleting.specs.Stages.{unhooked, freedAll};
 ghost use Rattle.deleting.specs.Verdict.{verdictOf};
 use crate::last::count_young;
-use crate::last::delete_last;
+use crate::last::list_young;
 use crate::next::count_gone;
 use crate::next::delete_next;
 use answer::Answer;
 use geometry::Geometry;
 use log::word::append;
+use tables::births::free_block;
+use tables::cells::LENGTH;
+use tables::cells::NUMBER;
+use tables::cells::USED;
 use tables::find::follower_of;
-use tables::find::forked_at;
+use tables::find::is_forked;
 use tables::find::slot_of;
 use tables::find::wide;
 use tables::links::pred_number;
@@ -40,31 +45,20 @@ fn count_frees(t: &[u32], g: Geometry, s: usize, follower: usize) -> usize
     requires { ⌜ Ready g (now t) × (s < g .records) × (0 < viewOf g (now t) .num s) × (follower ≤ g .records) ⌝ }
     ensures { λ r. ⌜ r ≡ length (deleted (viewOf g (now (t .entry))) s follower) ⌝ }
 {
-    let p = pred_number(t, g, s);
     if follower == 0 {
-        return count_young(t, g, s, p);
+        return count_young(t, g, s);
     }
-    count_gone(t, g, s, follower - 1, p)
+    count_gone(t, g, s, follower - 1, pred_number(t, g, s))
 }
 
-// No deletion frees more: the pages of its record, or the entries of the sequence where another record follows.
-fn most_frees(t: &[u32], g: Geometry, follower: usize) -> usize
-    requires { ⌜ Roomy g (now t) ⌝ }
-    ensures { λ r. ⌜ r ≡ cond (eqb follower 0) (g .pages) (getD (now (t .entry)) 10 0) ⌝ }
-{
-    if follower == 0 {
-        return g.pages;
-    }
-    wide(t[10])
-}
-
-// Whether the log has too few unused words for the frees of slot s. They are counted only where there could be more of them.
+// Whether the log has too few unused words for the frees of slot s. No deletion frees more blocks than there are pages: they are counted only
+// where there are fewer unused words.
 fn log_is_short(t: &[u32], g: Geometry, s: usize, follower: usize) -> bool
     requires { ⌜ Ready g (now t) × (s < g .records) × (0 < viewOf g (now t) .num s) × (follower ≤ g .records) ⌝ }
     ensures { λ r. ⌜ r ≡ ltb (g .words - getD (now (t .entry)) 9 0) (length (deleted (viewOf g (now (t .entry))) s follower)) ⌝ }
 {
-    let unused = g.words - wide(t[9]);
-    if most_frees(t, g, follower) <= unused {
+    let unused = g.words - wide(t[USED]);
+    if g.pages <= unused {
         return false;
     }
     unused < count_frees(t, g, s, follower)
@@ -80,7 +74,7 @@ fn delete_verdict(t: &[u32], g: Geometry, number: u32) -> Verdict
         return Verdict::Refused(8);
     }
     let s = link - 1;
-    if forked_at(t, g, s) != 0 {
+    if is_forked(t, g, s) {
         return Verdict::Refused(10);
     }
     let follower = follower_of(t, g, s);
@@ -96,27 +90,53 @@ fn log_frees(t: &mut [u32], log: &mut [u8], out: &[u32], n: usize)
     ensures tables { λ _. ⌜ now (t .exit) ≡ set (now (t .entry)) 9 (getD (now (t .entry)) 9 0 + n) ⌝ }
     ensures log { λ _. ⌜ now (log .exit) ≡ writeAt (now (log .entry)) (8 * getD (now (t .entry)) 9 0) (bytesOf (map released (take n (now (out .entry))))) ⌝ }
 {
-    let used = wide(t[9]);
+    let used = wide(t[USED]);
     let mut i: usize = 0;
     while i < n {
         append(log, 8 * (used + i), (wide(out[i]) * 16384 + 2) as u64);
         i += 1;
     }
-    t[9] = (used + n) as u32;
+    t[USED] = (used + n) as u32;
+}
+
+// The record in slot s is taken out of its line, with the link of the one that follows. The blocks to be freed are written to `out`.
+fn unhook(g: Geometry, t: &mut [u32], out: &mut [u32], s: usize, link: usize) -> usize
+    requires { ⌜ Ready g (now t) × (length (deleted (viewOf g (now t)) s link) ≤ length (now out)) × Asks (viewOf g (now t)) (doD s) × (follower (viewOf g (now t)) s ≡ link) ⌝ }
+    ensures count { λ r. ⌜ r ≡ length (deleted (viewOf g (now (t .entry))) s link) ⌝ }
+    ensures tables { λ r. ⌜ now (t .exit) ≡ stored g (unhooked (stateOf g (now (t .entry))) s link) (now (t .entry)) ⌝ }
+    ensures out { λ r. ⌜ now (out .exit) ≡ sets (now (out .entry)) 0 (deleted (viewOf g (now (t .entry))) s link) ⌝ }
+{
+    if link == 0 {
+        return list_young(t, g, out, s);
+    }
+    let p = pred_number(t, g, s);
+    delete_next(t, g, out, s, link - 1, p)
+}
+
+// Frees the first n blocks of `out`.
+fn free_all(g: Geometry, t: &mut [u32], out: &[u32], n: usize)
+    requires { ⌜ Roomy g (now t) × (n ≤ length (now out)) × ((k : ℕ) → k < n → getD (now out) k 0 < blocks g) ⌝ }
+    ensures { λ _. ⌜ now (t .exit) ≡ freedAll (g .records) (now (t .entry)) (take n (now (out .entry))) ⌝ }
+{
+    let mut i: usize = 0;
+    while i < n {
+        free_block(t, g, wide(out[i]));
+        i += 1;
+    }
 }
 
 // Deletes the record in slot s, with the link of the one that follows; returns how many blocks are freed.
-fn delete_record(g: Geometry, t: &mut [u32], out: &mut [u32], s: usize, follower: usize) -> usize
-    requires { ⌜ Ready g (now t) × (length (deleted (viewOf g (now t)) s follower) ≤ length (now out)) × (s < g .records) × (0 < viewOf g (now t) .num s) × (follower ≤ g .records) ⌝ }
-    ensures count { λ r. ⌜ r ≡ length (deleted (viewOf g (now (t .entry))) s follower) ⌝ }
-    ensures tables { λ r. ⌜ now (t .exit) ≡ stored g (withView (stateOf g (now (t .entry))) (deleteAt (viewOf g (now (t .entry))) s follower)) (now (t .entry)) ⌝ }
-    ensures out { λ r. ⌜ now (out .exit) ≡ sets (now (out .entry)) 0 (deleted (viewOf g (now (t .entry))) s follower) ⌝ }
+fn delete_record(g: Geometry, t: &mut [u32], out: &mut [u32], s: usize, link: usize) -> usize
+    requires { ⌜ Ready g (now t) × (length (deleted (viewOf g (now t)) s link) ≤ length (now out)) × Asks (viewOf g (now t)) (doD s) × (follower (viewOf g (now t)) s ≡ link) ⌝ }
+    ensures count { λ r. ⌜ r ≡ length (deleted (viewOf g (now (t .entry))) s link) ⌝ }
+    ensures tables { λ r. ⌜ now (t .exit) ≡ stored g (withView (stateOf g (now (t .entry))) (deleteAt (viewOf g (now (t .entry))) s link)) (now (t .entry)) ⌝ }
+    ensures out { λ r. ⌜ now (out .exit) ≡ sets (now (out .entry)) 0 (deleted (viewOf g (now (t .entry))) s link) ⌝ }
 {
-    let p = pred_number(t, g, s);
-    if follower == 0 {
-        return delete_last(t, g, out, s, p);
-    }
-    delete_next(t, g, out, s, follower - 1, p)
+    let count = unhook(g, t, out, s, link);
+    free_all(g, t, out, count);
+    t[LENGTH + s] = 0;
+    t[NUMBER + s] = 0;
+    count
 }
 
 // D: the record leaves the store; the numbers of the result are the freed blocks.

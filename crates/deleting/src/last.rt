@@ -1,116 +1,150 @@
-// The deletion of a record that nothing follows.
+// The deletion of a record that nothing follows. A block on its pages was born above its pred exactly where the pred has not the same block on
+// the same page: rows are compared, and no birth is read.
 ghost use mathlib.Core.Path.{_≡_};
-ghost use mathlib.Core.Bool.{_&&_};
-ghost use Prim.Native.Nat.{_+_, _-_, _*_, _<_, _≤_};
-ghost use lib.Dec.{eqb, ltb};
+ghost use mathlib.Core.Bool.{true};
+ghost use Prim.Native.Nat.{ℕ, _+_, _<_, _≤_};
 ghost use lib.ListN.{length, getD};
 ghost use lib.Seq.{sets};
-ghost use Rattle.geometry.specs.Limits.{blocks};
-ghost use Rattle.model.specs.View.{predNum};
-ghost use Rattle.model.specs.Effects.{prune};
-ghost use Rattle.model.specs.Held.{pruned};
-ghost use Rattle.model.specs.Layout.{viewOf, stateOf, stored};
+ghost use Rattle.model.specs.View.{parent, pageOf};
+ghost use Rattle.model.specs.Effects.{pruned};
+ghost use Rattle.model.specs.Layout.{viewOf};
 ghost use Rattle.tables.specs.Ready.{Roomy, Ready};
-ghost use Rattle.tables.specs.Puts.{withView};
-ghost use Rattle.deleting.specs.Walks.{Walkable, Paged};
-ghost use Rattle.deleting.specs.Stages.{dropped, freedYoung};
 use geometry::Geometry;
+use tables::cells::BASE;
+use tables::cells::PAGES;
+use tables::cells::PREV;
+use tables::cells::ROW;
 use tables::find::wide;
 
-// Whether there is a block behind the link of a page, born above p.
-fn is_young(t: &[u32], g: Geometry, link: usize, p: u32) -> bool
-    requires { ⌜ Roomy g (now t) × (link ≤ blocks g) ⌝ }
-    ensures range { λ r. ⌜ link ≤ blocks g ⌝ }
-    ensures is { λ r. ⌜ r ≡ (ltb 0 link && ltb p (getD (now (t .entry)) (32 + 272 * g .records + 8 * (link - 1)) 0)) ⌝ }
+// The pred of the record in slot s.
+fn pred_link(t: &[u32], g: Geometry, s: usize) -> usize
+    requires { ⌜ Ready g (now t) × (s < g .records) × (0 < viewOf g (now t) .num s) ⌝ }
+    ensures is { λ r. ⌜ r ≡ parent (viewOf g (now (t .entry))) s ⌝ }
+    ensures range { λ r. ⌜ r ≤ g .records ⌝ }
+{
+    let prev = wide(t[PREV + s]);
+    if prev == 0 {
+        return wide(t[BASE + s]);
+    }
+    prev
+}
+
+// Whether the eight numbers from a and those from b are the same.
+fn same_eight(t: &[u32], a: usize, b: usize) -> bool
+    requires { ⌜ (a + 8 ≤ length (now t)) × (b + 8 ≤ length (now t)) ⌝ }
+    ensures { λ r. ⌜ (r ≡ true → (y : ℕ) → y < 8 → getD (now (t .entry)) (a + y) 0 ≡ getD (now (t .entry)) (b + y) 0) ⌝ }
+{
+    (t[a] == t[b])
+        & (t[a + 1] == t[b + 1])
+        & (t[a + 2] == t[b + 2])
+        & (t[a + 3] == t[b + 3])
+        & (t[a + 4] == t[b + 4])
+        & (t[a + 5] == t[b + 5])
+        & (t[a + 6] == t[b + 6])
+        & (t[a + 7] == t[b + 7])
+}
+
+// A place up to which the n numbers from a and those from b are the same from x on: the last one by steps of eight.
+fn agree_far(t: &[u32], a: usize, b: usize, x: usize, n: usize) -> usize
+    requires { ⌜ (a + n ≤ length (now t)) × (b + n ≤ length (now t)) × (x ≤ n) ⌝ }
+    ensures range { λ r. ⌜ (x ≤ r) × (r ≤ n) ⌝ }
+    ensures agree { λ r. ⌜ ((y : ℕ) → x ≤ y → y < r → getD (now (t .entry)) (a + y) 0 ≡ getD (now (t .entry)) (b + y) 0) ⌝ }
+{
+    let mut y = x;
+    while y + 8 <= n {
+        if same_eight(t, a + y, b + y) {
+            y += 8;
+        } else {
+            return y;
+        }
+    }
+    y
+}
+
+// The first place from x on where they differ, or n.
+fn agree_to(t: &[u32], a: usize, b: usize, x: usize, n: usize) -> usize
+    requires { ⌜ (a + n ≤ length (now t)) × (b + n ≤ length (now t)) × (x ≤ n) ⌝ }
+    ensures range { λ r. ⌜ (x ≤ r) × (r ≤ n) ⌝ }
+    ensures agree { λ r. ⌜ ((y : ℕ) → x ≤ y → y < r → getD (now (t .entry)) (a + y) 0 ≡ getD (now (t .entry)) (b + y) 0) ⌝ }
+    ensures differ { λ r. ⌜ (r < n → getD (now (t .entry)) (a + r) 0 ≡ getD (now (t .entry)) (b + r) 0 → ⊥) ⌝ }
+{
+    let mut y = x;
+    while y < n {
+        if t[a + y] != t[b + y] {
+            return y;
+        }
+        y = agree_far(t, a, b, y + 1, n);
+    }
+    y
+}
+
+// The first place from x on where the n numbers from a are not 0, or n.
+fn empty_to(t: &[u32], a: usize, x: usize, n: usize) -> usize
+    requires { ⌜ (a + n ≤ length (now t)) × (x ≤ n) ⌝ }
+    ensures range { λ r. ⌜ (x ≤ r) × (r ≤ n) ⌝ }
+    ensures empty { λ r. ⌜ ((y : ℕ) → x ≤ y → y < r → getD (now (t .entry)) (a + y) 0 ≡ 0) ⌝ }
+    ensures full { λ r. ⌜ (r < n → getD (now (t .entry)) (a + r) 0 ≡ 0 → ⊥) ⌝ }
+{
+    let mut y = x;
+    while y < n {
+        if t[a + y] != 0 {
+            return y;
+        }
+        y += 1;
+    }
+    y
+}
+
+// The first page from x on that differs from the same page of the record behind a link, or the page count.
+fn own_page(t: &[u32], g: Geometry, s: usize, link: usize, x: usize) -> usize
+    requires { ⌜ Roomy g (now t) × (s < g .records) × (link ≤ g .records) × (x ≤ g .pages) ⌝ }
+    ensures range { λ r. ⌜ (x ≤ r) × (r ≤ g .pages) ⌝ }
+    ensures like { λ r. ⌜ ((y : ℕ) → x ≤ y → y < r → viewOf g (now (t .entry)) .page s y ≡ pageOf (viewOf g (now (t .entry))) link y) ⌝ }
+    ensures own { λ r. ⌜ (r < g .pages → viewOf g (now (t .entry)) .page s r ≡ pageOf (viewOf g (now (t .entry))) link r → ⊥) ⌝ }
 {
     if link == 0 {
-        return false;
+        return empty_to(t, PAGES + ROW * s, x, g.pages);
     }
-    p < t[32 + 272 * g.records + 8 * (link - 1)]
+    agree_to(t, PAGES + ROW * s, PAGES + ROW * (link - 1), x, g.pages)
 }
 
-// How many blocks on the pages of slot s were born above p, the number of its pred.
-pub fn count_young(t: &[u32], g: Geometry, s: usize, p: u32) -> usize
-    requires { ⌜ Paged g (now t) s × (p ≡ predNum (viewOf g (now t)) s) ⌝ }
+// How many blocks the deletion of slot s frees, where nothing follows.
+pub fn count_young(t: &[u32], g: Geometry, s: usize) -> usize
+    requires { ⌜ Ready g (now t) × (s < g .records) × (0 < viewOf g (now t) .num s) ⌝ }
     ensures { λ r. ⌜ r ≡ length (pruned (viewOf g (now (t .entry))) s (g .pages)) ⌝ }
 {
+    let pred = pred_link(t, g, s);
     let mut count: usize = 0;
-    let mut x: usize = 0;
+    let mut x = own_page(t, g, s, pred, 0);
     while x < g.pages {
-        let link = wide(t[32 + 272 * s + 16 + x]);
-        if is_young(t, g, link, p) {
+        if t[PAGES + ROW * s + x] != 0 {
             count += 1;
-            x += 1;
+            x = own_page(t, g, s, pred, x + 1);
         } else {
-            x += 1;
+            x = own_page(t, g, s, pred, x + 1);
         }
     }
     count
 }
 
-// Frees them, by rising page, and writes them to `out`.
-fn free_young(t: &mut [u32], g: Geometry, out: &mut [u32], s: usize, p: u32) -> usize
-    requires { ⌜ Paged g (now t) s × (length (pruned (viewOf g (now t)) s (g .pages)) ≤ length (now out)) × (p ≡ predNum (viewOf g (now t)) s) ⌝ }
+// Writes them to `out`, by rising page, and returns how many they are.
+pub fn list_young(t: &[u32], g: Geometry, out: &mut [u32], s: usize) -> usize
+    requires { ⌜ Ready g (now t) × (length (pruned (viewOf g (now t)) s (g .pages)) ≤ length (now out)) × (s < g .records) × (0 < viewOf g (now t) .num s) ⌝ }
     ensures count { λ r. ⌜ r ≡ length (pruned (viewOf g (now (t .entry))) s (g .pages)) ⌝ }
-    ensures tables { λ r. ⌜ now (t .exit) ≡ stored g (freedYoung (stateOf g (now (t .entry))) s) (now (t .entry)) ⌝ }
     ensures out { λ r. ⌜ now (out .exit) ≡ sets (now (out .entry)) 0 (pruned (viewOf g (now (t .entry))) s (g .pages)) ⌝ }
 {
+    let pred = pred_link(t, g, s);
     let mut count: usize = 0;
-    let mut x: usize = 0;
+    let mut x = own_page(t, g, s, pred, 0);
     while x < g.pages {
-        let link = wide(t[32 + 272 * s + 16 + x]);
-        if is_young(t, g, link, p) {
-            t[32 + 272 * g.records + 8 * (link - 1)] = 0;
-            out[count] = (link - 1) as u32;
+        let link = t[PAGES + ROW * s + x];
+        if link != 0 {
+            out[count] = link - 1;
             count += 1;
-            x += 1;
+            x = own_page(t, g, s, pred, x + 1);
         } else {
-            x += 1;
+            x = own_page(t, g, s, pred, x + 1);
         }
     }
-    count
-}
-
-// Whether block b is on the deadlist of slot s.
-fn on_list(t: &[u32], g: Geometry, s: usize, b: usize) -> bool
-    requires { ⌜ Roomy g (now t) × (b < blocks g) × (s < 64) ⌝ }
-    ensures range { λ r. ⌜ b < blocks g ⌝ }
-    ensures is { λ r. ⌜ r ≡ eqb (getD (now (t .entry)) (32 + 272 * g .records + 8 * b + 3) 0) (s + 1) ⌝ }
-{
-    wide(t[32 + 272 * g.records + 8 * b + 3]) == s + 1
-}
-
-// The deadlist of slot s is dropped.
-fn drop_deadlist(t: &mut [u32], g: Geometry, s: usize)
-    requires { ⌜ Walkable g (now t) × (s < 64) ⌝ }
-    ensures { λ _. ⌜ now (t .exit) ≡ stored g (dropped (stateOf g (now (t .entry))) s) (now (t .entry)) ⌝ }
-{
-    let len = wide(t[10]);
-    let mut kept: usize = 0;
-    let mut i: usize = 0;
-    while i < len {
-        let b = wide(t[32 + 272 * g.records + 8 * i + 4]);
-        if on_list(t, g, s, b) {
-            t[32 + 272 * g.records + 8 * b + 3] = 0;
-            i += 1;
-        } else {
-            t[32 + 272 * g.records + 8 * kept + 4] = b as u32;
-            kept += 1;
-            i += 1;
-        }
-    }
-    t[10] = kept as u32;
-}
-
-// Deletes the record in slot s, which nothing follows, with p the number of its pred; returns how many blocks are freed.
-pub fn delete_last(t: &mut [u32], g: Geometry, out: &mut [u32], s: usize, p: u32) -> usize
-    requires { ⌜ Ready g (now t) × (length (pruned (viewOf g (now t)) s (g .pages)) ≤ length (now out)) × (s < g .records) × (0 < viewOf g (now t) .num s) × (p ≡ predNum (viewOf g (now t)) s) ⌝ }
-    ensures count { λ r. ⌜ r ≡ length (pruned (viewOf g (now (t .entry))) s (g .pages)) ⌝ }
-    ensures tables { λ r. ⌜ now (t .exit) ≡ stored g (withView (stateOf g (now (t .entry))) (prune (viewOf g (now (t .entry))) s)) (now (t .entry)) ⌝ }
-    ensures out { λ r. ⌜ now (out .exit) ≡ sets (now (out .entry)) 0 (pruned (viewOf g (now (t .entry))) s (g .pages)) ⌝ }
-{
-    drop_deadlist(t, g, s);
-    let count = free_young(t, g, out, s, p);
-    t[32 + 272 * s] = 0;
     count
 }

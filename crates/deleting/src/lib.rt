@@ -2,3 +2,4 @@
 pub mod delete;
 pub mod last;
 pub mod next;
+pub mod sort;

@@ -39,7 +39,7 @@ module _ (g : Geometry) (t : List ℕ) (c : Call) where
   unfolding tablesLeft
   tables-stay R e =
       either-way (replied g t c) t (stored g (effect g (stateOf g t) c) t)
-      (ap (λ U. stored g U t) e ∙ stored-state g t (R .made) (R .roomy .room))
+      (ap (λ U. stored g U t) e ∙ stored-state g t (R .made) (R .free) (R .roomy .room))
 
 -- the four promises of a call
 abbrev pub Performed : Answer → List ℕ → List ℕ → List ℕ → Geometry → List ℕ → List ℕ → List ℕ → Call → Type 0

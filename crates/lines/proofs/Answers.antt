@@ -17,17 +17,16 @@ use Rattle.geometry.specs.declared.Geometry.{Geometry}
 use Rattle.model.specs.declared.Call.{Call}
 use Rattle.model.specs.declared.Call.the-variants.{Begin, Seal, Fork}
 use Rattle.model.specs.View.{View}
-use Rattle.model.specs.State.{State}
+use Rattle.model.specs.State.{State, withView}
 use Rattle.model.specs.Effects.{begin, seal, fork}
 use Rattle.model.specs.Actions.{Action, doB, doS, doF, done, slotOf, vacant}
 use Rattle.model.specs.Calls.{slot, conditions, result, acted, effect}
 use Rattle.model.specs.Layout.{viewOf, stateOf, stored}
 use Rattle.model.proofs.Fine.{slot-named, not-zero}
-use Rattle.model.proofs.ActionsGood.{spare}
+use Rattle.model.proofs.DoneSound.{spare}
 use Rattle.model.proofs.StoredFacts.{state-ext}
 use Rattle.tables.specs.Ready.{Ready, OutLong}
 use Rattle.tables.specs.Outcome.{replied, tablesLeft, outLeft}
-use Rattle.tables.specs.Puts.{withView}
 use Rattle.tables.proofs.Fields.{num-in}
 use Rattle.lines.specs.declared.verdict.Verdict.{Verdict}
 use Rattle.lines.specs.declared.verdict.Verdict.the-variants.{Refused, Accept}
@@ -98,7 +97,7 @@ module _ {g : Geometry} {t : List ℕ} (R : Ready g t) where
   unfolding stateOf
   on-needs n s f x y z i j =
       let r = room f y z j in
-      let w = slot-named (T .view) (R .good .sound) n (not-zero (slotOf (T .view) n) x) in
+      let w = slot-named (T .view) (R .sound) n (not-zero (slotOf (T .view) n) x) in
       let l : 0 < T .view .num s = omega (arith, w .0, ap (T .view .num) i) in
       (r .0, r .1, num-in g t s l, λ e. let z : ⊥ = omega (arith, r .2, ap (T .view .num) e) in z)
 

@@ -1,23 +1,24 @@
 -- A new record, store by store: its pages by a loop, then the rest of it.
 use mathlib.Core.Path.{_≡_, refl, sym, ap, _∙_}
-use mathlib.Core.List.{List}
-use Prim.Native.Nat.{ℕ, suc, _+_, _*_, _<_}
+use mathlib.Core.List.{List, []}
+use Prim.Native.Nat.{ℕ, suc, _+_, _<_}
 use native.Mathlib.Numerals.{add-one}
 use lib.ListN.{length, getD, set}
 use Rattle.geometry.specs.declared.Geometry.{Geometry}
 use Rattle.model.specs.View.{View, pageOf}
-use Rattle.model.specs.State.{State}
+use Rattle.model.specs.State.{State, withView}
 use Rattle.model.specs.Table.{firstLink}
 use Rattle.model.specs.Effects.{grow, close, begin, seal, fork}
-use Rattle.model.specs.Layout.{recordCell, viewOf, stateOf, stored}
+use Rattle.model.specs.Layout.{openCell, baseCell, pageCell, viewOf, stateOf, stored}
 use Rattle.model.proofs.TabFacts.{via-suc, via-zero}
 use Rattle.model.proofs.LayoutFacts.{stored-length}
 use Rattle.tables.specs.Ready.{Ready}
-use Rattle.tables.specs.Puts.{withView, withLast, withNum, withOpen, withPrev, withBase, withLine, withRow, withPages}
-use Rattle.tables.proofs.Ranges.{entries-le}
+use Rattle.tables.specs.Puts.{withLast, withNum, withOpen, withPrev, withBase, withRow, withPages, withList}
 use Rattle.tables.proofs.Puts.{shaped-row}
-use Rattle.tables.proofs.Steps.{Holds, holds-as, holds-first, holds-length, step-last, step-num-at, step-open, step-prev, step-base, step-line}
-use Rattle.tables.proofs.Reading.{reads-last, reads-base, reads-line, reads-page-at}
+use Rattle.tables.proofs.Steps.{Holds, holds-as, holds-first, holds-length, step-last, step-num, step-open, step-prev, step-base}
+use Rattle.tables.proofs.Lists.{step-dropped, rest-said}
+use Rattle.tables.proofs.Reading.{reads-last, reads-base, reads-page}
+use Rattle.tables.proofs.Matches.{grow-is}
 use Rattle.tables.proofs.Loops.{pages-none, pages-all, pages-other, step-pages, row-ends}
 use Rattle.lines.specs.Growing.{paged, opened, viewed}
 
@@ -29,30 +30,35 @@ module _ (g : Geometry) (t : List ℕ) where
   abbrev pub Paging : ℕ → ℕ → ℕ → List ℕ → Type 0
   Paging f l x u = Holds g t (withPages (stateOf g t) f x (pageOf (stateOf g t .view) l)) u
 
--- the state T with the number n, the links p and q and the line m in slot f
-abbrev pub withOpened : State → ℕ → ℕ → ℕ → ℕ → ℕ → State
-withOpened T f n p q m = withLine (withBase (withPrev (withOpen (withNum (withLast T n) f n) f 1) f p) f q) f m
+-- the state T with the number n, the links p and q and an empty deadlist in slot f
+abbrev pub withOpened : State → ℕ → ℕ → ℕ → ℕ → State
+withOpened T f n p q = withList (withBase (withPrev (withOpen (withNum (withLast T n) f n) f 1) f p) f q) f []
+
+-- its deadlist before it is dropped
+linked-list : (T : State) (f n p q : ℕ) →
+    withBase (withPrev (withOpen (withNum (withLast T n) f n) f 1) f p) f q .view .list f ≡ T .view .list f
+unfolding withBase withPrev withOpen withNum withLast
+linked-list T f n p q = refl
 
 -- the states that the code reaches are the model's
 module _ (T : State) (f : ℕ) where
-  begin-is : withOpened (withRow T f (pageOf (T .view) 0)) f (T .view .last + 1) 0 0 (T .view .last + 1) ≡ withView T (begin (T .view) f)
-  unfolding withLine withBase withPrev withOpen withNum withLast withRow grow begin firstLink
-  begin-is = refl
+  begin-is : withOpened (withRow T f (pageOf (T .view) 0)) f (T .view .last + 1) 0 0 ≡ withView T (begin (T .view) f)
+  unfolding begin firstLink
+  begin-is = grow-is T f 0 0
 
-  fork-is : (s : ℕ) →
-      withOpened (withRow T f (pageOf (T .view) (suc s))) f (T .view .last + 1) 0 (suc s) (T .view .last + 1) ≡ withView T (fork (T .view) s f)
-  unfolding withLine withBase withPrev withOpen withNum withLast withRow grow fork firstLink
-  fork-is s = refl
+  fork-is : (s : ℕ) → withOpened (withRow T f (pageOf (T .view) (suc s))) f (T .view .last + 1) 0 (suc s) ≡ withView T (fork (T .view) s f)
+  unfolding fork firstLink
+  fork-is s = grow-is T f 0 (suc s)
 
   seal-is : (s : ℕ) →
-      withOpened (withOpen (withRow T f (pageOf (T .view) (suc s))) s 0) f (T .view .last + 1) (suc s) (T .view .base s) (T .view .line s)
+      withOpened (withOpen (withRow T f (pageOf (T .view) (suc s))) s 0) f (T .view .last + 1) (suc s) (T .view .base s)
       ≡ withView T (seal (T .view) s f)
-  unfolding withLine withBase withPrev withOpen withNum withLast withRow grow close seal firstLink
+  unfolding withList withBase withPrev withOpen withNum withLast withRow grow close seal firstLink
   seal-is s = refl
 
 module _ {g : Geometry} {t : List ℕ} (R : Ready g t) where
   first : Holds g t (stateOf g t) t
-  first = holds-first g t (R .roomy) (R .made) (entries-le R)
+  first = holds-first R
 
   pub paged-holds : (f l : ℕ) (u : List ℕ) → f < g .records → u ≡ paged g t f l → Paged g t f l u
   unfolding paged
@@ -64,16 +70,16 @@ module _ {g : Geometry} {t : List ℕ} (R : Ready g t) where
   paging-first f l = holds-as g t refl (sym (pages-none (stateOf g t) f _)) first
 
   paging-next : (f l x v : ℕ) {u : List ℕ} → Paging g t f l x u → f < g .records → x < g .pages → v ≡ pageOf (stateOf g t .view) l x →
-      Paging g t f l (x + 1) (set u (32 + 272 * f + 16 + x) v)
+      Paging g t f l (x + 1) (set u (pageCell f x) v)
   paging-next f l x v H hf hx e = rw add-one (step-pages g t (R .roomy) (stateOf g t) f x v _ H hf hx e)
 
   pub copying : (f s x : ℕ) (u : List ℕ) → Paging g t f (suc s) x u → f < g .records → s < g .records → (s ≡ f → ⊥) → x < g .pages →
-      Paging g t f (suc s) (x + 1) (set u (32 + 272 * f + 16 + x) (getD u (32 + 272 * s + 16 + x) 0))
+      Paging g t f (suc s) (x + 1) (set u (pageCell f x) (getD u (pageCell s x) 0))
   copying f s x u H hf hs n hx =
       paging-next f (suc s) x _ H hf hx
-      (reads-page-at g t (R .roomy) H s x hs hx ∙ pages-other (stateOf g t) f _ x s x n ∙ sym (via-suc (λ r. stateOf g t .view .page r x) s))
+      (reads-page g t (R .roomy) H s x hs hx ∙ pages-other (stateOf g t) f _ x s x n ∙ sym (via-suc (λ r. stateOf g t .view .page r x) s))
 
-  pub clearing : (f x : ℕ) (u : List ℕ) → Paging g t f 0 x u → f < g .records → x < g .pages → Paging g t f 0 (x + 1) (set u (32 + 272 * f + 16 + x) 0)
+  pub clearing : (f x : ℕ) (u : List ℕ) → Paging g t f 0 x u → f < g .records → x < g .pages → Paging g t f 0 (x + 1) (set u (pageCell f x) 0)
   clearing f x u H hf hx = paging-next f 0 x 0 H hf hx (sym (via-zero (λ r. stateOf g t .view .page r x)))
 
   pub paging-length : (f l x : ℕ) (u : List ℕ) → Paging g t f l x u → length u ≡ length t
@@ -88,13 +94,14 @@ module _ {g : Geometry} {t : List ℕ} (R : Ready g t) where
 
   -- ── the rest ──
 
-  pub opened-holds : (T : State) (u : List ℕ) (f p q m : ℕ) → Holds g t T u → f < g .records →
-      Holds g t (withOpened T f (getD u 6 0 + 1) p q m) (opened u f p q m)
+  pub opened-holds : (T : State) (u : List ℕ) (f p q : ℕ) → Holds g t T u → f < g .records → T .view .list f ≡ stateOf g t .view .list f →
+      Holds g t (withOpened T f (getD u 6 0 + 1) p q) (opened u f p q)
   unfolding opened
-  opened-holds T u f p q m H h =
+  opened-holds T u f p q H h e =
       let n : ℕ = getD u 6 0 + 1 in
       let r = R .roomy in
-      step-line g t r (step-base g t r (step-prev g t r (step-open g t r (step-num-at g t r (step-last g t r H n) f n h) f 1 h) f p h) f q h) f m h
+      step-dropped g t r (step-base g t r (step-prev g t r (step-open g t r (step-num g t r (step-last g t r H n) f n h) f 1 h) f p h) f q h) f h
+      (rest-said g t _ f h (linked-list T f n p q ∙ e) 0)
 
 pub viewed-length : (g : Geometry) (t u : List ℕ) (K : View) → u ≡ viewed g t K → length u ≡ length t
 unfolding viewed
@@ -111,25 +118,30 @@ module _ {g : Geometry} {t : List ℕ} (R : Ready g t) (f : ℕ) (p : List ℕ) 
   unfolding withRow stateOf viewOf
   paged-last l e = reads-last g t (R .roomy) (paged-holds R f l p hf e)
 
+  -- and so is the deadlist
+  paged-list : (l : ℕ) → withRow T f (pageOf (T .view) l) .view .list f ≡ T .view .list f
+  unfolding withRow
+  paged-list l = refl
+
   last-at : getD t 6 0 ≡ T .view .last
   unfolding stateOf viewOf
   last-at = refl
 
-  pub begun : (u : List ℕ) → p ≡ paged g t f 0 → u ≡ opened p f 0 0 (getD p 6 0 + 1) → u ≡ viewed g t (begin (T .view) f)
+  pub begun : (u : List ℕ) → p ≡ paged g t f 0 → u ≡ opened p f 0 0 → u ≡ viewed g t (begin (T .view) f)
   unfolding viewed
   begun u e d =
       let n : getD p 6 0 ≡ T .view .last = paged-last 0 e ∙ last-at in
-      d ∙ opened-holds R _ p f 0 0 (getD p 6 0 + 1) (paged-holds R f 0 p hf e) hf .is ∙ ap (λ U. stored g U t) (rw n (begin-is T f))
+      d ∙ opened-holds R _ p f 0 0 (paged-holds R f 0 p hf e) hf (paged-list 0) .is ∙ ap (λ U. stored g U t) (rw n (begin-is T f))
 
-  pub forked : (s l : ℕ) (u : List ℕ) → p ≡ paged g t f (suc s) → u ≡ opened p f 0 l (getD p 6 0 + 1) → l ≡ suc s →
+  pub forked : (s l : ℕ) (u : List ℕ) → p ≡ paged g t f (suc s) → u ≡ opened p f 0 l → l ≡ suc s →
       u ≡ viewed g t (fork (T .view) s f)
   unfolding viewed
   forked s l u e d i =
       let n : getD p 6 0 ≡ T .view .last = paged-last (suc s) e ∙ last-at in
-      d ∙ opened-holds R _ p f 0 l (getD p 6 0 + 1) (paged-holds R f (suc s) p hf e) hf .is ∙ ap (λ U. stored g U t) (rw (n, i) (fork-is T f s))
+      d ∙ opened-holds R _ p f 0 l (paged-holds R f (suc s) p hf e) hf (paged-list (suc s)) .is ∙ ap (λ U. stored g U t) (rw (n, i) (fork-is T f s))
 
   -- S: v are the tables with w as the mark of s, which is 0 for sealed
-  module _ (s w : ℕ) (v : List ℕ) (hs : s < g .records) (e : p ≡ paged g t f (suc s)) (a : v ≡ set p (recordCell s 1) w) where
+  module _ (s w : ℕ) (v : List ℕ) (hs : s < g .records) (e : p ≡ paged g t f (suc s)) (a : v ≡ set p (openCell s) w) where
     closed : Holds g t (withOpen (withRow T f (pageOf (T .view) (suc s))) s w) v
     closed = holds-as g t a refl (step-open g t (R .roomy) (paged-holds R f (suc s) p hf e) s w hs)
 
@@ -137,17 +149,17 @@ module _ {g : Geometry} {t : List ℕ} (R : Ready g t) (f : ℕ) (p : List ℕ) 
     unfolding withOpen withRow stateOf viewOf
     closed-last = reads-last g t (R .roomy) closed
 
-    closed-base : getD v (recordCell s 3) 0 ≡ T .view .base s
+    closed-base : getD v (baseCell s) 0 ≡ T .view .base s
     unfolding withOpen withRow
     closed-base = reads-base g t (R .roomy) closed s hs
 
-    closed-line : getD v (recordCell s 4) 0 ≡ T .view .line s
+    closed-list : withOpen (withRow T f (pageOf (T .view) (suc s))) s w .view .list f ≡ T .view .list f
     unfolding withOpen withRow
-    closed-line = reads-line g t (R .roomy) closed s hs
+    closed-list = refl
 
-    pub sealed : (l : ℕ) (u : List ℕ) → u ≡ opened v f l (getD v (recordCell s 3) 0) (getD v (recordCell s 4) 0) → l ≡ suc s → w ≡ 0 →
+    pub sealed : (l : ℕ) (u : List ℕ) → u ≡ opened v f l (getD v (baseCell s) 0) → l ≡ suc s → w ≡ 0 →
         u ≡ viewed g t (seal (T .view) s f)
     unfolding viewed
     sealed l u d i z =
         let n : getD v 6 0 ≡ T .view .last = closed-last ∙ last-at in
-        d ∙ opened-holds R _ v f l _ _ closed hf .is ∙ ap (λ U. stored g U t) (rw (n, i, z, closed-base, closed-line) (seal-is T f s))
+        d ∙ opened-holds R _ v f l _ closed hf closed-list .is ∙ ap (λ U. stored g U t) (rw (n, i, z, closed-base) (seal-is T f s))

@@ -14,7 +14,7 @@ use Rattle.geometry.specs.declared.Geometry.{Geometry}
 use Rattle.model.specs.declared.Call.the-variants.{Begin, Seal, Fork}
 use Rattle.model.specs.Actions.{slotOf, vacant}
 use Rattle.model.specs.Calls.{slot, conditions}
-use Rattle.model.specs.Layout.{recordCell, viewOf, stateOf}
+use Rattle.model.specs.Layout.{openCell, viewOf, stateOf}
 use Rattle.tables.proofs.Fields.{last-is, open-is}
 use Rattle.lines.specs.declared.verdict.Verdict.{Verdict}
 use Rattle.lines.specs.declared.verdict.Verdict.the-variants.{Refused, Accept}
@@ -92,7 +92,7 @@ module _ (g : Geometry) (t : List ℕ) (n e : ℕ) (is : e ≡ slotOf (viewOf g 
 
   -- whether it is open
   module _ (m : e ≡ 0 → ⊥) (l : e ≤ g .records) where
-    open-at : viewOf g t .isOpen (pred (slotOf (viewOf g t) n)) ≡ getD t (recordCell (e - 1) 1) 0
+    open-at : viewOf g t .isOpen (pred (slotOf (viewOf g t) n)) ≡ getD t (openCell (e - 1)) 0
     open-at =
         let d : e - 1 ≡ pred (slotOf (viewOf g t) n) = omega arith in
         rw (← d) (open-is g t (e - 1) (omega arith))
@@ -106,20 +106,20 @@ module _ (g : Geometry) (t : List ℕ) (n e : ℕ) (is : e ≡ slotOf (viewOf g 
   fork-none z = on-none _ z
 
   module _ (m : e ≡ 0 → ⊥) (l : e ≤ g .records) where
-    pub seal-sealed : getD t (recordCell (e - 1) 1) 0 ≡ 0 → Refused 9 ≡ verdict g t (Seal n) (slot (stateOf g t) n)
+    pub seal-sealed : getD t (openCell (e - 1)) 0 ≡ 0 → Refused 9 ≡ verdict g t (Seal n) (slot (stateOf g t) n)
     unfolding verdict stateOf
     seal-sealed z = on-wrong _ m (eq-eqb (viewOf g t .isOpen (pred (slotOf (viewOf g t) n))) 0 (open-at m l ∙ z))
 
-    pub seal-room : (r : Verdict) → (getD t (recordCell (e - 1) 1) 0 ≡ 0 → ⊥) → r ≡ verdict g t Begin (e - 1) →
+    pub seal-room : (r : Verdict) → (getD t (openCell (e - 1)) 0 ≡ 0 → ⊥) → r ≡ verdict g t Begin (e - 1) →
         r ≡ verdict g t (Seal n) (slot (stateOf g t) n)
     unfolding verdict stateOf
     seal-room r z h = on-room _ r m (ne-eqb (viewOf g t .isOpen (pred (slotOf (viewOf g t) n))) 0 (λ k. z (sym (open-at m l) ∙ k))) h
 
-    pub fork-open : 0 < getD t (recordCell (e - 1) 1) 0 → Refused 9 ≡ verdict g t (Fork n) (slot (stateOf g t) n)
+    pub fork-open : 0 < getD t (openCell (e - 1)) 0 → Refused 9 ≡ verdict g t (Fork n) (slot (stateOf g t) n)
     unfolding verdict stateOf
     fork-open z = on-wrong _ m (lt-ltb 0 (viewOf g t .isOpen (pred (slotOf (viewOf g t) n))) (omega (arith, open-at m l)))
 
-    pub fork-room : (r : Verdict) → getD t (recordCell (e - 1) 1) 0 ≤ 0 → r ≡ verdict g t Begin (e - 1) →
+    pub fork-room : (r : Verdict) → getD t (openCell (e - 1)) 0 ≤ 0 → r ≡ verdict g t Begin (e - 1) →
         r ≡ verdict g t (Fork n) (slot (stateOf g t) n)
     unfolding verdict stateOf
     fork-room r z h = on-room _ r m (le-ltb 0 (viewOf g t .isOpen (pred (slotOf (viewOf g t) n))) (omega (arith, open-at m l))) h

@@ -1,12 +1,20 @@
-// A new record in an empty slot: its pages, then its number, its links and its line; and what B, S and F do with it.
+// A new record in an empty slot: its pages, then its number, its links and its empty deadlist; and what B, S and F do with it.
 ghost use mathlib.Core.Path.{_≡_};
-ghost use Prim.Native.Nat.{suc, _+_, _*_, _<_};
+ghost use Prim.Native.Nat.{suc, _+_, _≤_, _<_};
 ghost use lib.ListN.{length, getD};
 ghost use Rattle.model.specs.Effects.{begin, seal, fork};
 ghost use Rattle.model.specs.Layout.{stateOf};
 ghost use Rattle.tables.specs.Ready.{Ready};
 ghost use Rattle.lines.specs.Growing.{paged, opened, viewed};
 use geometry::Geometry;
+use tables::cells::BASE;
+use tables::cells::LAST;
+use tables::cells::LENGTH;
+use tables::cells::NUMBER;
+use tables::cells::OPEN;
+use tables::cells::PAGES;
+use tables::cells::PREV;
+use tables::cells::ROW;
 
 // The pages of slot f become those of slot s.
 fn copy_pages(t: &mut [u32], g: Geometry, f: usize, s: usize)
@@ -15,7 +23,7 @@ fn copy_pages(t: &mut [u32], g: Geometry, f: usize, s: usize)
 {
     let mut x: usize = 0;
     while x < g.pages {
-        t[32 + 272 * f + 16 + x] = t[32 + 272 * s + 16 + x];
+        t[PAGES + ROW * f + x] = t[PAGES + ROW * s + x];
         x += 1;
     }
 }
@@ -27,24 +35,24 @@ fn clear_pages(t: &mut [u32], g: Geometry, f: usize)
 {
     let mut x: usize = 0;
     while x < g.pages {
-        t[32 + 272 * f + 16 + x] = 0;
+        t[PAGES + ROW * f + x] = 0;
         x += 1;
     }
 }
 
-// The record in slot f is open, of the next number, and has these links and this line. Gives its number.
-fn open_record(t: &mut [u32], f: usize, prev: u32, base: u32, line: u32) -> u32
-    requires { ⌜ (f < 64) × (36 + 272 * f < length (now t)) × (getD (now t) 6 0 < 999999) ⌝ }
-    ensures is { λ r. ⌜ now (t .exit) ≡ opened (now (t .entry)) f prev base line ⌝ }
+// The record in slot f is open, of the next number, with these links and an empty deadlist. Gives its number.
+fn open_record(t: &mut [u32], f: usize, prev: u32, base: u32) -> u32
+    requires { ⌜ (f < 64) × (2048 ≤ length (now t)) × (getD (now t) 6 0 < 999999) ⌝ }
+    ensures is { λ r. ⌜ now (t .exit) ≡ opened (now (t .entry)) f prev base ⌝ }
     ensures number { λ r. ⌜ r ≡ getD (now (t .entry)) 6 0 + 1 ⌝ }
 {
-    let number = t[6] + 1;
-    t[6] = number;
-    t[32 + 272 * f] = number;
-    t[32 + 272 * f + 1] = 1;
-    t[32 + 272 * f + 2] = prev;
-    t[32 + 272 * f + 3] = base;
-    t[32 + 272 * f + 4] = line;
+    let number = t[LAST] + 1;
+    t[LAST] = number;
+    t[NUMBER + f] = number;
+    t[OPEN + f] = 1;
+    t[PREV + f] = prev;
+    t[BASE + f] = base;
+    t[LENGTH + f] = 0;
     number
 }
 
@@ -55,8 +63,7 @@ pub fn begin_at(t: &mut [u32], g: Geometry, f: usize) -> u32
     ensures number { λ r. ⌜ r ≡ getD (now (t .entry)) 6 0 + 1 ⌝ }
 {
     clear_pages(t, g, f);
-    let line = t[6] + 1;
-    open_record(t, f, 0, 0, line)
+    open_record(t, f, 0, 0)
 }
 
 // S on the record in slot s: it is sealed, and the new one follows it.
@@ -66,10 +73,9 @@ pub fn seal_at(t: &mut [u32], g: Geometry, f: usize, s: usize) -> u32
     ensures number { λ r. ⌜ r ≡ getD (now (t .entry)) 6 0 + 1 ⌝ }
 {
     copy_pages(t, g, f, s);
-    t[32 + 272 * s + 1] = 0;
-    let base = t[32 + 272 * s + 3];
-    let line = t[32 + 272 * s + 4];
-    open_record(t, f, (s + 1) as u32, base, line)
+    t[OPEN + s] = 0;
+    let base = t[BASE + s];
+    open_record(t, f, (s + 1) as u32, base)
 }
 
 // F on the record in slot s: it is the base of a new line.
@@ -79,6 +85,5 @@ pub fn fork_at(t: &mut [u32], g: Geometry, f: usize, s: usize) -> u32
     ensures number { λ r. ⌜ r ≡ getD (now (t .entry)) 6 0 + 1 ⌝ }
 {
     copy_pages(t, g, f, s);
-    let line = t[6] + 1;
-    open_record(t, f, 0, (s + 1) as u32, line)
+    open_record(t, f, 0, (s + 1) as u32)
 }

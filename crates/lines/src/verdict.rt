@@ -3,9 +3,11 @@ ghost use mathlib.Core.Path.{_≡_};
 ghost use Rattle.model.specs.declared.Call.the-variants.{Begin, Seal, Fork};
 ghost use Rattle.model.specs.Layout.{stateOf};
 ghost use Rattle.model.specs.Calls.{slot};
-ghost use Rattle.tables.specs.Ready.{Roomy};
+ghost use Rattle.tables.specs.Ready.{Roomy, Ready};
 ghost use Rattle.lines.specs.Verdicts.{verdict};
 use geometry::Geometry;
+use tables::cells::LAST;
+use tables::cells::OPEN;
 use tables::find::slot_of;
 use tables::find::vacant_slot;
 
@@ -24,7 +26,7 @@ pub fn room(t: &[u32], g: Geometry, s: usize) -> Verdict
     if empty == 0 {
         return Verdict::Refused(11);
     }
-    if 999999 <= t[6] {
+    if 999999 <= t[LAST] {
         return Verdict::Refused(12);
     }
     Verdict::Accept(s, empty - 1)
@@ -32,14 +34,14 @@ pub fn room(t: &[u32], g: Geometry, s: usize) -> Verdict
 
 // The verdict on S of the record of number n: 9 if it is sealed.
 pub fn sealing(t: &[u32], g: Geometry, n: u32) -> Verdict
-    requires { ⌜ Roomy g (now t) ⌝ }
+    requires { ⌜ Ready g (now t) ⌝ }
     ensures { λ r. ⌜ r ≡ verdict g (now (t .entry)) (Seal n) (slot (stateOf g (now (t .entry))) n) ⌝ }
 {
     let link = slot_of(t, g, n);
     if link == 0 {
         return Verdict::Refused(8);
     }
-    if t[32 + 272 * (link - 1) + 1] == 0 {
+    if t[OPEN + (link - 1)] == 0 {
         return Verdict::Refused(9);
     }
     room(t, g, link - 1)
@@ -47,14 +49,14 @@ pub fn sealing(t: &[u32], g: Geometry, n: u32) -> Verdict
 
 // The verdict on F: 9 if the record is open.
 pub fn forking(t: &[u32], g: Geometry, n: u32) -> Verdict
-    requires { ⌜ Roomy g (now t) ⌝ }
+    requires { ⌜ Ready g (now t) ⌝ }
     ensures { λ r. ⌜ r ≡ verdict g (now (t .entry)) (Fork n) (slot (stateOf g (now (t .entry))) n) ⌝ }
 {
     let link = slot_of(t, g, n);
     if link == 0 {
         return Verdict::Refused(8);
     }
-    if 0 < t[32 + 272 * (link - 1) + 1] {
+    if 0 < t[OPEN + (link - 1)] {
         return Verdict::Refused(9);
     }
     room(t, g, link - 1)

@@ -12,22 +12,23 @@ use Rattle.answer.specs.Reply.{Reply, replyOf, accepted, refused}
 use Rattle.answer.specs.Refusal.{leaves}
 use Rattle.geometry.specs.declared.Geometry.{Geometry}
 use Rattle.geometry.specs.Limits.{blocks}
+use Rattle.choice.specs.Words.{freeIn}
 use Rattle.log.specs.Word.{writeAt, wordBytes, bytesOf}
-use Rattle.log.specs.Marks.{heldIn, marksFor}
+use Rattle.log.specs.Runs.{runs}
 use Rattle.log.specs.Compress as log
 use Rattle.log.proofs.Tools.{take-sets}
 use Rattle.model.specs.declared.Call.{Call}
 use Rattle.model.specs.declared.Call.the-variants.{Barrier, Compress, FreeList}
-use Rattle.model.specs.Held.{held}
 use Rattle.model.specs.Layout.{stateOf, stored}
 use Rattle.model.specs.Memory.{writtenAt}
-use Rattle.model.specs.Calls.{compressed, freeList, logged, result, written, effect}
+use Rattle.model.specs.Calls.{pairs, compressed, freeList, logged, result, written, effect}
 use Rattle.model.proofs.RoomAfterC.{compressed-short}
 use Rattle.tables.specs.Ready.{Ready, OutLong}
 use Rattle.tables.specs.Outcome.{replied, tablesLeft, logLeft, outLeft}
-use Rattle.tables.specs.Puts.{withUsed}
 use Rattle.tables.proofs.Stores.{store-used}
-use Rattle.logging.proofs.Marking.{marks-compressed}
+use Rattle.logging.proofs.Births.{words, kept, free-is}
+use Rattle.logging.proofs.Told.{runs-same, kept-compressed}
+use Rattle.logging.proofs.Listing.{pairsFrom}
 
 -- ── any call, by its reply ──
 
@@ -63,12 +64,22 @@ module _ (g : Geometry) (t : List ℕ) (c : Call) where
 
 -- ── L ──
 
-pub listed : (g : Geometry) (t out out′ : List ℕ) (n : ℕ) → OutLong g out → n ≡ length (freeList g (stateOf g t))
-    → out′ ≡ sets out 0 (freeList g (stateOf g t)) → length (freeList g (stateOf g t)) ≤ 2 * blocks g
-    → (replyOf (Done n) out′ ≡ replied g t FreeList) × (out′ ≡ outLeft g t out FreeList)
-unfolding replied
-listed g t out out′ n long e eo s =
-    (rw (e, eo) (reply-done g t FreeList refl out (omega arith)), eo ∙ sym (out-done g t FreeList refl out))
+-- the pairs of the runs that the free words tell
+abbrev pub told : Geometry → List ℕ → List ℕ
+told g t = pairsFrom (g .per) (freeIn (words t)) 0 (blocks g)
+
+module _ {g : Geometry} {t : List ℕ} (R : Ready g t) where
+  told-is : told g t ≡ freeList g (stateOf g t)
+  unfolding freeList runs
+  told-is = ap pairs (runs-same (g .per) _ _ 0 0 (blocks g) (λ i l h. free-is R i (omega arith)))
+
+  pub listed : (out out′ : List ℕ) (n : ℕ) → OutLong g out → n ≡ length (told g t) → out′ ≡ sets out 0 (told g t) → n ≤ 2 * blocks g →
+      (replyOf (Done n) out′ ≡ replied g t FreeList) × (out′ ≡ outLeft g t out FreeList)
+  unfolding replied
+  listed out out′ n long e eo s =
+      let is : n ≡ length (freeList g (stateOf g t)) = e ∙ ap length told-is in
+      let all : out′ ≡ sets out 0 (freeList g (stateOf g t)) = eo ∙ ap (sets out 0) told-is in
+      (rw (is, all) (reply-done g t FreeList refl out (omega arith)), all ∙ sym (out-done g t FreeList refl out))
 
 -- ── Y ──
 
@@ -88,47 +99,43 @@ module _ (g : Geometry) (t log : List ℕ) (used : ℕ) (eu : used ≡ getD t 9 
       (λ out. sym e, (tables-refused g t Barrier 14 e, log-refused g t Barrier 14 e log))
 
   pub barrier-done : (log′ : List ℕ) → Ready g t → 1 ≤ g .words - used → log′ ≡ writeAt log (8 * used) (wordBytes 3) → Left (Done 0) (set t 9 (used + 1)) log′
-  unfolding replied replyOf logged withUsed
+  unfolding replied replyOf logged
   barrier-done log′ R h el =
       let a : replied g t Barrier ≡ accepted [] = rw (used-is, le-ltb (g .words - used) 1 h) in (
         λ out. sym a,
         (
-          store-used g t (R .roomy) (R .made) (used + 1) ∙ rw (sym used-is) (sym (tables-done g t Barrier a)),
+          store-used g t (R .roomy) (R .made) (R .free) (used + 1) ∙ rw (sym used-is) (sym (tables-done g t Barrier a)),
           el ∙ rw (sym used-is) (ap (writeAt log (8 * stateOf g t .used)) (sym (append-nil (wordBytes 3))) ∙ sym (log-done g t Barrier a log)),
         ),
       )
 
--- ── C, with the marks m of the held blocks and n bytes written ──
+-- ── C, with n bytes written ──
 
-module _ (g : Geometry) (t : List ℕ) (R : Ready g t) (m : List ℕ) (n : ℕ) (em : m ≡ marksFor (held (stateOf g t .view)) (blocks g))
-    (en : n ≡ 8 * length (log.compressed (g .arenas) (g .per) (heldIn m))) where
+module _ (g : Geometry) (t : List ℕ) (R : Ready g t) (n : ℕ) (en : n ≡ 8 * length (log.compressed (g .arenas) (g .per) (kept (words t)))) where
   abbrev anew : List ℕ
   anew = compressed g (stateOf g t)
-
-  anew-is : log.compressed (g .arenas) (g .per) (heldIn m) ≡ anew
-  anew-is = marks-compressed g (stateOf g t) m (R .roomy .inside .blocks-most) em
 
   accepts : replied g t Compress ≡ accepted (length anew ∷ [])
   unfolding replied
   accepts = rw (le-ltb (g .words) (length anew) (omega (arith, compressed-short g (stateOf g t), R .roomy .inside .words-least)))
 
   pub words-are : n / 8 ≡ length anew
-  words-are = let e : n ≡ 8 * length anew = en ∙ ap (λ (l : List ℕ). 8 * length l) anew-is in omega arith
+  words-are = let e : n ≡ 8 * length anew = en ∙ ap (λ (l : List ℕ). 8 * length l) (kept-compressed R) in omega arith
 
   pub words-few : n / 8 ≤ 8192
   words-few = omega (arith, words-are, compressed-short g (stateOf g t), R .roomy .inside .blocks-most)
 
-  pub compressed-done : (log₀ log′ out : List ℕ) → OutLong g out → log′ ≡ writeAt log₀ 0 (bytesOf (log.compressed (g .arenas) (g .per) (heldIn m)))
+  pub compressed-done : (log₀ log′ out : List ℕ) → OutLong g out → log′ ≡ writeAt log₀ 0 (bytesOf (log.compressed (g .arenas) (g .per) (kept (words t))))
       → (replyOf (Done 1) (set out 0 (n / 8)) ≡ replied g t Compress) × ((set t 9 (n / 8) ≡ tablesLeft g t Compress)
       × ((log′ ≡ logLeft g t log₀ Compress) × (set out 0 (n / 8) ≡ outLeft g t out Compress)))
-  unfolding logged withUsed
+  unfolding logged
   compressed-done log₀ log′ out long el =
       rw words-are (
         reply-done g t Compress accepts out (omega arith),
         (
-          store-used g t (R .roomy) (R .made) (length anew) ∙ sym (tables-done g t Compress accepts),
+          store-used g t (R .roomy) (R .made) (R .free) (length anew) ∙ sym (tables-done g t Compress accepts),
           (
-            el ∙ ap (λ (l : List ℕ). writeAt log₀ 0 (bytesOf l)) anew-is ∙ sym (log-done g t Compress accepts log₀),
+            el ∙ ap (λ (l : List ℕ). writeAt log₀ 0 (bytesOf l)) (kept-compressed R) ∙ sym (log-done g t Compress accepts log₀),
             sym (out-done g t Compress accepts out),
           ),
         ),

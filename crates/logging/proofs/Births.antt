@@ -1,34 +1,45 @@
--- What the number of a block's birth in the tables says: the block is held, or it may be given.
-use mathlib.Core.Path.{_≡_, sym, ap, _∙_}
-use mathlib.Core.Bool.{true, false, not}
+-- What a block's bit of the free words says: the block may be given, or it is held.
+use mathlib.Core.Path.{_≡_, ap, _∙_}
+use mathlib.Core.Bool.{Bool, not}
 use mathlib.Core.List.{List}
-use Prim.Native.Nat.{ℕ, _+_, _*_, _<_}
-use native.Mathlib.Nat.{add-zero}
-use lib.Dec.{eqb}
-use lib.ListN.{getD}
-use borrow.Author.Tests.{eq-eqb, ne-eqb, lt-ltb}
+use Prim.Native.Nat.{ℕ, _-_, _*_, _/_, _%_, _<_, min}
+use native.Mathlib.Omega.{arith}
+use lib.ListN.{length, getD, take, drop, length-drop}
+use lib.Seq.{getD-take, getD-drop, length-take-le}
 use Rattle.geometry.specs.declared.Geometry.{Geometry}
 use Rattle.geometry.specs.Limits.{blocks}
+use Rattle.choice.specs.Words.{freeIn}
+use Rattle.choice.proofs.Births.{says}
 use Rattle.model.specs.Held.{held, available}
-use Rattle.model.specs.Layout.{field, viewOf, stateOf}
+use Rattle.model.specs.Layout.{freeWord, viewOf, stateOf}
+use Rattle.tables.specs.Ready.{Ready}
 
-module _ (g : Geometry) (t : List ℕ) (b : ℕ) (h : b < blocks g) where
-  -- the number of b's birth, at its address as the code spells it
-  abbrev birth : ℕ
-  birth = getD t (32 + 272 * g .records + 8 * b) 0
+-- the free words, as a part of the tables
+abbrev pub words : List ℕ → List ℕ
+words t = take 64 (drop 64 t)
 
-  birth-is : stateOf g t .view .birth b ≡ birth
-  unfolding stateOf viewOf field
-  birth-is = rw (lt-ltb b (blocks g) h, add-zero (32 + 272 * g .records + 8 * b))
+-- a block that the free words keep from being given
+abbrev pub kept : List ℕ → ℕ → Bool
+kept l b = not (freeIn l b)
 
-  pub held-is : held (stateOf g t .view) b ≡ not (eqb birth 0)
-  unfolding held
-  held-is = ap (λ (x : ℕ). not (eqb x 0)) birth-is
+module _ {g : Geometry} {t : List ℕ} (R : Ready g t) where
+  pub words-long : length (words t) ≡ 64
+  words-long = length-take-le 64 (drop 64 t) (omega (arith, length-drop 64 t, R .roomy .room))
 
-  pub is-free : birth ≡ 0 → available (stateOf g t .view) b ≡ true
-  unfolding available
-  is-free e = eq-eqb (stateOf g t .view .birth b) 0 (birth-is ∙ e)
+  word-at : (k : ℕ) → k < 64 → getD (words t) k 0 ≡ freeWord (stateOf g t .view) k
+  word-at k h = getD-take 64 (drop 64 t) k 0 h ∙ getD-drop 64 t k 0 ∙ R .free k h
 
-  pub not-free : (birth ≡ 0 → ⊥) → available (stateOf g t .view) b ≡ false
-  unfolding available
-  not-free n = ne-eqb (stateOf g t .view .birth b) 0 (λ e. n (sym birth-is ∙ e))
+  low : (b : ℕ) → b < blocks g → b / 32 < 64
+  low b h = omega (arith, R .roomy .inside .blocks-most)
+
+  -- b is one of the blocks that its word speaks of
+  inside : (b n : ℕ) → b < n → b % 32 < min 32 (n - 32 * (b / 32))
+  inside b n h = omega arith
+
+  pub free-is : (b : ℕ) → b < blocks g → freeIn (words t) b ≡ available (stateOf g t .view) b
+  unfolding freeWord stateOf viewOf
+  free-is b h = says (available (stateOf g t .view)) (words t) _ b (word-at (b / 32) (low b h)) (inside b _ h)
+
+  pub kept-is : (b : ℕ) → b < blocks g → kept (words t) b ≡ held (stateOf g t .view) b
+  unfolding held available
+  kept-is b h = ap not (free-is b h)

@@ -16,15 +16,15 @@ use Rattle.log.specs.Word.{writeAt, bytesOf, released}
 use Rattle.log.proofs.Writing.{write-none}
 use Rattle.model.specs.declared.Call.the-variants.{Erase}
 use Rattle.model.specs.View.{View, predNum, baseNum}
+use Rattle.model.specs.State.{withUsed}
 use Rattle.model.specs.Effects.{Fate, freed, marked, kept, fate}
 use Rattle.model.specs.Held.{freedOne, erased}
 use Rattle.model.specs.Actions.{doE, slotOf}
 use Rattle.model.specs.Calls.{slot, written, conditions, acted}
-use Rattle.model.specs.Layout.{recordCell, viewOf, stateOf, stored}
+use Rattle.model.specs.Layout.{openCell, pageCell, viewOf, stateOf, stored}
 use Rattle.model.proofs.Fine.{asks-E}
 use Rattle.tables.specs.Ready.{Ready, LogLong, OutLong}
 use Rattle.tables.specs.Outcome.{replied, tablesLeft, logLeft, outLeft}
-use Rattle.tables.specs.Puts.{withUsed}
 use Rattle.tables.proofs.Fields
 use Rattle.tables.proofs.Ranges
 use Rattle.tables.proofs.Steps.{step-used}
@@ -49,14 +49,14 @@ module _ (g : Geometry) (t : List ℕ) (n x w : ℕ) (ew : w ≡ x) where
   erase-8 l h e z = Looking.cond-next _ _ _ _ (lt-leb (g .pages) x (omega arith)) (Looking.cond-here _ _ _ (Looking.eight-yes g t n l e z))
 
   module _ (R : Ready g t) (l : ℕ) (h : w < g .pages) (e : l ≡ slotOf (viewOf g t) n) (used : l ≡ 0 → ⊥) where
-    pub erase-9 : getD t (recordCell (l - 1) 1) 0 ≡ 0 → replied g t (Erase n x) ≡ refused 9
+    pub erase-9 : getD t (openCell (l - 1)) 0 ≡ 0 → replied g t (Erase n x) ≡ refused 9
     unfolding replied
     erase-9 o =
         Looking.cond-next _ _ _ _ (lt-leb (g .pages) x (omega arith)) (Looking.cond-next _ _ _ _ (Looking.eight-no R n l e used)
         (Looking.cond-here _ _ _ (Looking.nine-yes R n l e used o)))
 
     -- u log words are used, f blocks are freed
-    module _ (o : getD t (recordCell (l - 1) 1) 0 ≡ 0 → ⊥) (u v f : ℕ) (eu : u ≡ getD t 9 0) (ev : v ≡ x)
+    module _ (o : getD t (openCell (l - 1)) 0 ≡ 0 → ⊥) (u v f : ℕ) (eu : u ≡ getD t 9 0) (ev : v ≡ x)
         (ef : f ≡ length (erased (viewOf g t) (l - 1) (viewOf g t .page (l - 1) v))) where
       words-are : length (written g (stateOf g t) (Erase n x)) ≡ f
       words-are =
@@ -123,8 +123,8 @@ erased-few K s l = cases (same? (length (erased K s l)) 1) (λ e. omega arith) (
 pub few-freed : (K : View) (s l f : ℕ) → f ≡ length (erased K s l) → f ≤ 1
 few-freed K s l f e = omega (arith, erased-few K s l)
 
-module _ {g : Geometry} {t : List ℕ} {s x : ℕ} (A : Target g t s x) (l f : ℕ) (e : l ≡ getD t (Fields.pageCell s x) 0)
-    (ef : f ≡ length (erased (viewOf g t) s (viewOf g t .page s x))) where
+module _ {g : Geometry} {t : List ℕ} {s x : ℕ} (A : Target g t s x) (l f : ℕ) (e : l ≡ getD t (pageCell s x) 0)
+    (ef : f ≡ length (freesOf g t s x)) where
   pub frees-one : f ≡ 1 → freesOf g t s x ≡ (l - 1) ∷ []
   unfolding stateOf
   frees-one i =
@@ -158,7 +158,7 @@ module _ {g : Geometry} {t : List ℕ} {s x : ℕ} (A : Target g t s x) (l f : �
   module _ (u : List ℕ) (eu : u ≡ stored g (emptied g t s x) t) where
     -- nothing is freed
     pub none-tables : (f ≡ 1 → ⊥) → u ≡ stored g (acted (stateOf g t) (doE s x) (length (map released (freesOf g t s x)))) t
-    unfolding acted emptied withUsed
+    unfolding acted emptied
     none-tables i =
         let k : stateOf g t .used ≡ stateOf g t .used + length (map released (freesOf g t s x)) = omega (arith, ap (λ v. length (map released v)) (frees-none i)) in
         eu ∙ ap (λ k. stored g (withUsed (emptied g t s x) k) t) k
@@ -178,7 +178,7 @@ module _ {g : Geometry} {t : List ℕ} {s x : ℕ} (A : Target g t s x) (l f : �
           (Killing.emptied-room A u eu, omega arith, omega arith)
 
       pub one-tables : set u 9 (getD u 9 0 + 1) ≡ stored g (acted (stateOf g t) (doE s x) (length (map released (freesOf g t s x)))) t
-      unfolding acted emptied withUsed stateOf
+      unfolding acted emptied stateOf
       one-tables =
           let k : getD u 9 0 + 1 ≡ stateOf g t .used + length (map released (freesOf g t s x)) =
           omega (arith, Killing.emptied-used A u eu, ap (λ v. length (map released v)) (frees-one i)) in

@@ -17,16 +17,15 @@ use Rattle.choice.specs.declared.Found.{Found}
 use Rattle.choice.specs.declared.Found.the-variants.{At, Nothing}
 use Rattle.log.specs.Word.{writeAt, bytesOf, allocated, released}
 use Rattle.model.specs.declared.Call.the-variants.{Write}
+use Rattle.model.specs.State.{withUsed}
 use Rattle.model.specs.Held.{erased}
 use Rattle.model.specs.Actions.{doW, slotOf}
 use Rattle.model.specs.Calls.{slot, found, block, blockOf, isNothing, written, conditions, acted, given}
-use Rattle.model.specs.Layout.{recordCell, viewOf, stateOf, stored}
+use Rattle.model.specs.Layout.{openCell, pageCell, viewOf, stateOf, stored}
 use Rattle.model.proofs.ChoiceFacts.{found-free}
 use Rattle.model.proofs.Fine.{asks-W}
 use Rattle.tables.specs.Ready.{Ready, LogLong, OutLong}
 use Rattle.tables.specs.Outcome.{replied, tablesLeft, logLeft, outLeft}
-use Rattle.tables.specs.Puts.{withUsed}
-use Rattle.tables.proofs.Fields
 use Rattle.tables.proofs.Ranges
 use Rattle.tables.proofs.Steps.{Holds, step-used}
 use Rattle.tables.proofs.Reading.{reads-used}
@@ -65,14 +64,14 @@ module _ (g : Geometry) (t : List ℕ) (n x k w : ℕ) (ew : w ≡ x) where
       write-8 z = Looking.cond-next _ _ _ _ five (Looking.cond-next _ _ _ _ six (Looking.cond-here _ _ _ (Looking.eight-yes g t n l e z)))
 
       module _ (R : Ready g t) (used : l ≡ 0 → ⊥) where
-        pub write-9 : getD t (recordCell (l - 1) 1) 0 ≡ 0 → replied g t (Write n x k) ≡ refused 9
+        pub write-9 : getD t (openCell (l - 1)) 0 ≡ 0 → replied g t (Write n x k) ≡ refused 9
         unfolding replied
         write-9 o =
             Looking.cond-next _ _ _ _ five (Looking.cond-next _ _ _ _ six (Looking.cond-next _ _ _ _ (Looking.eight-no R n l e used)
             (Looking.cond-here _ _ _ (Looking.nine-yes R n l e used o))))
 
         -- r is what was found
-        module _ (o : getD t (recordCell (l - 1) 1) 0 ≡ 0 → ⊥) (r : Found) (er : r ≡ found g (stateOf g t) k) where
+        module _ (o : getD t (openCell (l - 1)) 0 ≡ 0 → ⊥) (r : Found) (er : r ≡ found g (stateOf g t) k) where
           pub write-13 : r ≡ Nothing → replied g t (Write n x k) ≡ refused 13
           unfolding replied
           write-13 z =
@@ -126,8 +125,8 @@ module _ (g : Geometry) (t : List ℕ) (n x k w : ℕ) (ew : w ≡ x) where
 
 -- ── the action; l is the page's link as it was read, f how many blocks are freed, u the tables with the page filled ──
 
-module _ {g : Geometry} {t : List ℕ} {s x a o : ℕ} (A : Target g t s x) (P : Spot g t a o) (l f : ℕ) (e : l ≡ getD t (Fields.pageCell s x) 0)
-    (ef : f ≡ length (erased (viewOf g t) s (viewOf g t .page s x))) where
+module _ {g : Geometry} {t : List ℕ} {s x a o : ℕ} (A : Target g t s x) (P : Spot g t a o) (l f : ℕ) (e : l ≡ getD t (pageCell s x) 0)
+    (ef : f ≡ length (freesOf g t s x)) where
   abbrev b : ℕ
   b = a * g .per + o
 
@@ -155,7 +154,7 @@ module _ {g : Geometry} {t : List ℕ} {s x a o : ℕ} (A : Target g t s x) (P :
     -- d words are counted
     filled-tables : (d : ℕ) → d ≡ suc (length (map released (freesOf g t s x))) →
         set u 9 (getD u 9 0 + d) ≡ stored g (given g (acted (stateOf g t) (doW s x b) (suc (length (map released (freesOf g t s x))))) (At a o)) t
-    unfolding filled given acted withUsed stateOf
+    unfolding filled given acted stateOf
     filled-tables d ed =
         let k : getD u 9 0 + d ≡ stateOf g t .used + suc (length (map released (freesOf g t s x))) = omega (arith, filled-used) in
         step-used g t (A .ready .roomy) filled-holds (getD u 9 0 + d) .is ∙ ap (λ k. stored g (withUsed (filled g t s x a o) k) t) k

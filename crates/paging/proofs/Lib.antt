@@ -1,6 +1,4 @@
 -- The calls on pages: laws behind their functions' proofs.
-pub mod Joining
-pub mod Moving
 pub mod Killing
 pub mod Answers
 pub mod Looking

@@ -13,10 +13,11 @@ use Rattle.answer.specs.declared.Answer.the-variants.{Done}
 use Rattle.geometry.specs.declared.Geometry.{Geometry}
 use Rattle.geometry.specs.Limits.{blocks}
 use Rattle.model.specs.declared.Call.the-variants.{Read}
+use Rattle.model.specs.Lists.{onPage}
 use Rattle.model.specs.Actions.{slotOf}
-use Rattle.model.specs.Calls.{slot, onPage, conditions}
+use Rattle.model.specs.Calls.{slot, conditions}
 use Rattle.model.specs.Held.{erased}
-use Rattle.model.specs.Layout.{recordCell, viewOf, stateOf}
+use Rattle.model.specs.Layout.{openCell, pageCell, viewOf, stateOf}
 use Rattle.model.proofs.Fine.{Fine, slot-named}
 use Rattle.tables.specs.Ready.{Ready, OutLong}
 use Rattle.tables.specs.Outcome.{replied, outLeft}
@@ -27,7 +28,7 @@ use Rattle.paging.proofs.Answers
 
 pub ready-fine : {g : Geometry} {t : List ℕ} → Ready g t → Fine g (stateOf g t)
 unfolding stateOf viewOf
-ready-fine R = record { good = R .good; slots = refl; pages = refl; blocks = refl; range = R .range }
+ready-fine R = record { sound = R .sound; slots = refl; pages = refl; blocks = refl; range = R .range }
 
 -- no more log words are used than there are
 pub used-le : {g : Geometry} {t : List ℕ} → Ready g t → getD t 9 0 ≤ g .words
@@ -61,14 +62,14 @@ module _ {g : Geometry} {t : List ℕ} (R : Ready g t) (n l : ℕ) (e : l ≡ sl
   unfolding stateOf
   eight-no = ne-eqb (slotOf (viewOf g t) n) 0 (λ z. used (e ∙ z))
 
-  named-open : stateOf g t .view .isOpen (slot (stateOf g t) n) ≡ getD t (recordCell (l - 1) 1) 0
+  named-open : stateOf g t .view .isOpen (slot (stateOf g t) n) ≡ getD t (openCell (l - 1)) 0
   unfolding stateOf
   named-open = ap (viewOf g t .isOpen) slot-is ∙ Fields.open-is g t (l - 1) (Ranges.slot-in R (l - 1) named-live)
 
-  pub nine-yes : getD t (recordCell (l - 1) 1) 0 ≡ 0 → eqb (stateOf g t .view .isOpen (slot (stateOf g t) n)) 0 ≡ true
+  pub nine-yes : getD t (openCell (l - 1)) 0 ≡ 0 → eqb (stateOf g t .view .isOpen (slot (stateOf g t) n)) 0 ≡ true
   nine-yes o = eq-eqb _ 0 (named-open ∙ o)
 
-  pub nine-no : (getD t (recordCell (l - 1) 1) 0 ≡ 0 → ⊥) → eqb (stateOf g t .view .isOpen (slot (stateOf g t) n)) 0 ≡ false
+  pub nine-no : (getD t (openCell (l - 1)) 0 ≡ 0 → ⊥) → eqb (stateOf g t .view .isOpen (slot (stateOf g t) n)) 0 ≡ false
   nine-no o = ne-eqb _ 0 (λ z. o (sym named-open ∙ z))
 
   -- how many blocks page x of it frees; v is x as it was read
@@ -94,7 +95,7 @@ module _ (g : Geometry) (t : List ℕ) (n x w : ℕ) (ew : w ≡ x) where
     read-none-holds = (lt-leb (g .pages) x (omega arith), (ne-eqb (slotOf (viewOf g t) n) 0 (λ z. used (e ∙ z)), tt))
 
     -- b is the page's link as it was read
-    module _ (v b : ℕ) (ev : v ≡ x) (eb : b ≡ getD t (Fields.pageCell (l - 1) v) 0) where
+    module _ (v b : ℕ) (ev : v ≡ x) (eb : b ≡ getD t (pageCell (l - 1) v) 0) where
       pub read-le : b ≤ blocks g
       read-le = omega (arith, eb, Ranges.page-cell-le R (l - 1) (named-live R n l e used) v (omega arith))
 

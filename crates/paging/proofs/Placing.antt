@@ -1,29 +1,32 @@
 -- A free block goes on a page: the stores of its rows, its mark and its turn.
-use mathlib.Core.Path.{_≡_, refl, ap, _∙_}
+use mathlib.Core.Path.{_≡_, refl, sym, ap, _∙_}
 use mathlib.Core.List.{List}
 use Prim.Native.Nat.{ℕ, suc, _+_, _*_, _<_}
 use native.Mathlib.Omega.{arith}
 use native.Mathlib.Numerals.{add-one}
-use lib.ListN.{getD, set}
+use lib.ListN.{length, getD, set}
 use Rattle.geometry.specs.declared.Geometry.{Geometry}
 use Rattle.geometry.specs.Limits.{blocks}
 use Rattle.choice.specs.declared.Found.the-variants.{At}
 use Rattle.choice.specs.declared.Turn.{Turn}
 use Rattle.choice.specs.Turn.{next, turned}
-use Rattle.model.specs.State.{State}
-use Rattle.model.specs.Effects.{place, write}
+use Rattle.model.specs.State.{State, withView}
+use Rattle.model.specs.Effects.{place, erase, write}
 use Rattle.model.specs.Actions.{doW, Asks}
 use Rattle.model.specs.Calls.{marksAfter, given}
-use Rattle.model.specs.Layout.{blockCell, viewOf, stateOf, stored}
+use Rattle.model.specs.Layout.{numCell, pageCell, viewOf, stateOf, stored}
+use Rattle.model.proofs.BookFacts.{erase-paged}
 use Rattle.model.proofs.Shape.{Shaped}
 use Rattle.model.proofs.Sizes.{done-sized}
 use Rattle.model.proofs.DoneShaped.{done-shaped}
 use Rattle.tables.specs.Ready.{Roomy}
-use Rattle.tables.specs.Puts.{withView, withPage, withBirth, withHome, withLeaf, withMark, withCounter, withWrites}
+use Rattle.tables.specs.Births.{gave}
+use Rattle.tables.specs.Puts.{withPage, withBirth, withMark, withCounter, withWrites}
+use Rattle.tables.proofs.Fields
 use Rattle.tables.proofs.Puts.{shaped-mark, shaped-counter, shaped-writes}
 use Rattle.tables.proofs.Chain.{tail-longer}
-use Rattle.tables.proofs.Steps.{Holds, holds-first, holds-roomy, holds-made, step-to, step-page-at, step-birth-at, step-home, step-leaf, step-mark, step-counter, step-writes}
-use Rattle.tables.proofs.Reading.{reads-num-at, reads-count, reads-counter, reads-writes}
+use Rattle.tables.proofs.Steps.{Holds, holds-first, holds-from, holds-roomy, holds-made, holds-free, holds-says, step-to, step-page, step-given, step-mark, step-counter, step-writes}
+use Rattle.tables.proofs.Reading.{reads-counter, reads-writes}
 use Rattle.tables.proofs.Matches.{place-is}
 use Rattle.paging.specs.Target.{Target}
 use Rattle.paging.specs.Kill.{emptied}
@@ -32,41 +35,38 @@ use Rattle.paging.proofs.Killing
 
 -- tables that hold a state can be stored into
 kept : (g : Geometry) (t : List ℕ) (T : State) (u : List ℕ) → Roomy g t → Holds g t T u → Kept g u
+unfolding stateOf
 kept g t T u roomy H = record {
   roomy = holds-roomy g t roomy H;
   made = holds-made g t roomy H;
-  few = omega (arith, reads-count g t roomy H, H .shaped .view .seq, H .shaped .blocks);
+  free = holds-free g t roomy H;
+  short = λ s. omega (arith, H .shaped .view .short s, H .shaped .pages, ap (λ U. length (U .view .list s)) (holds-says g t roomy H));
 }
 
 kept-holds : {g : Geometry} {t : List ℕ} → Kept g t → Holds g t (stateOf g t) t
-kept-holds {g} {t} k = holds-first g t (k .roomy) (k .made) (k .few)
+kept-holds {g} {t} k = holds-from g t (k .roomy) (k .made) (k .free) (k .short)
 
--- ── the block's rows ──
+-- ── the block's page and birth ──
 
-module _ {g : Geometry} {t : List ℕ} (k : Kept g t) (s x b : ℕ) (hs : s < g .records) (hx : x < g .pages) (hb : b < blocks g) where
+module _ {g : Geometry} {t : List ℕ} (k : Kept g t) (s x b : ℕ) (hs : s < g .records) (live : 0 < viewOf g t .num s) (hx : x < g .pages) (hb : b < blocks g) where
   abbrev T : State
   T = stateOf g t
 
-  abbrev u : List ℕ
-  u = set t (32 + 272 * s + 16 + x) (b + 1)
+  paged : Holds g t (withPage T s x (b + 1)) (set t (pageCell s x) (b + 1))
+  paged = step-page g t (k .roomy) (kept-holds k) s x (b + 1) hs hx
 
-  paged : Holds g t (withPage T s x (b + 1)) u
-  paged = step-page-at g t (k .roomy) (kept-holds k) s x (b + 1) hs hx
+  pub paged-roomy : Roomy g (set t (pageCell s x) (b + 1))
+  paged-roomy = holds-roomy g t (k .roomy) paged
 
-  number : getD u (32 + 272 * s) 0 ≡ T .view .num s
-  unfolding withPage
-  number = reads-num-at g t (k .roomy) paged s hs
-
-  pub block-put :
-      set (set (set (set t (32 + 272 * s + 16 + x) (b + 1)) (32 + 272 * g .records + 8 * b) (getD (set t (32 + 272 * s + 16 + x) (b + 1)) (32 + 272 * s) 0))
-      (blockCell (g .records) b 1) s) (blockCell (g .records) b 2) x
-      ≡ stored g (placed (stateOf g t) s x b) t
-  unfolding placed
-  block-put =
-      let v : ℕ = getD u (32 + 272 * s) 0 in
-      step-leaf g t (k .roomy) (step-home g t (k .roomy) (step-birth-at g t (k .roomy) paged b v hb) b s hb) b x hb .is ∙
-      ap (λ w. stored g (withLeaf (withHome (withBirth (withPage T s x w) b v) b s) b x) t) (add-one b) ∙
-      ap (λ w. stored g (withLeaf (withHome (withBirth (withPage T s x (suc b)) b w) b s) b x) t) number ∙
+  -- v is the record's number as it was read
+  pub block-put : (v : ℕ) (u : List ℕ) → v ≡ getD t (numCell s) 0 → u ≡ gave (g .records) (set t (pageCell s x) (b + 1)) b v →
+      u ≡ stored g (placed (stateOf g t) s x b) t
+  unfolding placed stateOf
+  block-put v u ev eu =
+      let e : viewOf g t .num s ≡ v = Fields.num-is g t s hs ∙ sym ev in
+      eu ∙ step-given g t (k .roomy) paged b v hb (omega arith) .is ∙
+      ap (λ w. stored g (withBirth (withPage T s x w) b v) t) (add-one b) ∙
+      ap (λ w. stored g (withBirth (withPage T s x (suc b)) b w) t) (sym e) ∙
       ap (λ U. stored g U t) (place-is T s x b)
 
 -- ── the mark and the turn ──
@@ -116,10 +116,10 @@ module _ {g : Geometry} {t : List ℕ} {s x a o : ℕ} (A : Target g t s x) (P :
 
   written-shaped : Shaped g W
   written-shaped =
-      let S = Killing.ready-holds (A .ready) .shaped in
+      let S = holds-first (A .ready) .shaped in
       let z = done-sized (stateOf g t .view) (doW s x b) in
       record {
-        view = done-shaped (stateOf g t .view) (doW s x b) (A .ready .good) asks (S .view);
+        view = done-shaped (stateOf g t .view) (doW s x b) (A .ready .sound) asks (S .view);
         slots = z .slots ∙ S .slots;
         pages = z .pages ∙ S .pages;
         blocks = z .blocks ∙ S .blocks;
@@ -131,13 +131,24 @@ module _ {g : Geometry} {t : List ℕ} {s x a o : ℕ} (A : Target g t s x) (P :
     pub emptied-kept : Kept g u
     emptied-kept = kept g t (emptied g t s x) u (A .ready .roomy) (Killing.emptied-holds A u eu)
 
+    pub emptied-live : 0 < viewOf g u .num s
+    unfolding emptied erase stateOf
+    emptied-live =
+        let K = stateOf g t .view in
+        omega (
+          arith,
+          A .live,
+          ap (λ U. U .view .num s) (holds-says g t (A .ready .roomy) (Killing.emptied-holds A u eu)),
+          erase-paged K s x (K .page s x) refl .num s,
+        )
+
     -- v: the block is on it
     module _ (v : List ℕ) (ev : v ≡ stored g (placed (stateOf g u) s x (a * g .per + o)) u) where
       block-holds : Holds g t W v
       unfolding emptied placed write place
       block-holds =
           step-to g t (A .ready .roomy) (Killing.emptied-holds A u eu) (λ U. placed U s x b) v ev written-shaped
-          (tail-longer g t (emptied g t s x) W (omega arith))
+          (λ r h. tail-longer g t (emptied g t s x) W r (omega arith))
 
       pub block-kept : Kept g v
       block-kept = kept g t W v (A .ready .roomy) block-holds
@@ -152,7 +163,7 @@ module _ {g : Geometry} {t : List ℕ} {s x a o : ℕ} (A : Target g t s x) (P :
       unfolding filled given
       page-filled w ew =
           step-to g t (A .ready .roomy) block-holds (λ U. given g U (At a o)) w ew (given-shaped g W a o written-shaped (P .arena))
-          (tail-longer g t W (given g W (At a o)) (omega arith)) .is
+          (λ r h. tail-longer g t W (given g W (At a o)) r (omega arith)) .is
 
   -- the tables with the page filled hold that state
   pub filled-shaped : Shaped g (filled g t s x a o)

@@ -2,10 +2,9 @@
 use mathlib.Core.Path.{_≡_, refl, sym, ap, ap₂, _∙_}
 use mathlib.Core.Bool.{Bool, cond}
 use mathlib.Core.List.{List}
-use Prim.Native.Nat.{ℕ, zero, suc, _+_, _-_, _*_, _%_, _≤_, _<_}
+use Prim.Native.Nat.{ℕ, zero, suc, _+_, _-_, _*_, _/_, _%_, _≤_, _<_, min}
 use native.Mathlib.Nat.{mod-lt}
 use native.Mathlib.Omega.{arith}
-use lib.Dec.{eqb}
 use lib.ListN.{length, getD, take, drop, length-drop}
 use lib.Seq.{getD-take, getD-drop, length-take-le}
 use Rattle.geometry.specs.declared.Geometry.{Geometry}
@@ -13,11 +12,12 @@ use Rattle.geometry.specs.Limits.{blocks}
 use Rattle.choice.specs.declared.Found.{Found}
 use Rattle.choice.specs.declared.Found.the-variants.{At}
 use Rattle.choice.specs.Search.{orElse, firstFree, inArena, inArenas, chosen}
-use Rattle.choice.specs.Rows.{freeIn, markIn, Fine}
+use Rattle.choice.specs.Words.{freeIn, markIn, wordOf, Fine}
 use Rattle.choice.proofs.Ranges.{block-inside}
+use Rattle.choice.proofs.Births.{says}
 use Rattle.model.specs.Held.{available}
 use Rattle.model.specs.Calls.{found}
-use Rattle.model.specs.Layout.{stateOf}
+use Rattle.model.specs.Layout.{freeWord, viewOf, stateOf}
 use Rattle.tables.specs.Ready.{Ready}
 use Rattle.tables.proofs.Fields
 
@@ -57,11 +57,8 @@ part-long : (t : List ℕ) (i n : ℕ) → i + n ≤ length t → length (take n
 part-long t i n h = length-take-le n (drop i t) (omega (arith, length-drop i t))
 
 module _ {g : Geometry} {t : List ℕ} (R : Ready g t) where
-  abbrev start : ℕ
-  start = 32 + 272 * g .records
-
-  abbrev rows : List ℕ
-  rows = take (length t - start) (drop start t)
+  abbrev words : List ℕ
+  words = take 64 (drop 64 t)
 
   abbrev marks : List ℕ
   marks = take 16 (drop 16 t)
@@ -69,20 +66,23 @@ module _ {g : Geometry} {t : List ℕ} (R : Ready g t) where
   mark-at : (a : ℕ) → a < g .arenas → getD marks a 0 ≡ stateOf g t .mark a
   mark-at a h = part-at t 16 16 a (omega (arith, R .roomy .inside .arenas-most)) ∙ sym (Fields.mark-is g t a h)
 
-  free-at : (b : ℕ) → b < blocks g → freeIn rows b ≡ available (stateOf g t .view) b
-  unfolding freeIn available stateOf
-  free-at b h =
-      ap (λ v. eqb v 0) (part-at t start (length t - start) (8 * b) (omega (arith, R .roomy .room)) ∙ sym (Fields.birth-is g t b h))
+  word-at : (k : ℕ) → k < 64 → getD words k 0 ≡ wordOf (available (stateOf g t .view)) (32 * k) (min 32 (blocks g - 32 * k))
+  unfolding freeWord stateOf viewOf
+  word-at k h = part-at t 64 64 k h ∙ R .free k h
 
-  pub search-fine : (c k : ℕ) → c ≡ getD t 7 0 → k ≤ 2 →
-      Fine (take (length t - (32 + 272 * g .records)) (drop (32 + 272 * g .records) t)) (take 16 (drop 16 t)) (g .arenas) (g .per) c k
+  free-at : (b : ℕ) → b < blocks g → freeIn words b ≡ available (stateOf g t .view) b
+  free-at b h =
+      says (available (stateOf g t .view)) words (min 32 (blocks g - 32 * (b / 32))) b
+      (word-at (b / 32) (omega (arith, R .roomy .inside .blocks-most))) (omega arith)
+
+  pub search-fine : (c k : ℕ) → c ≡ getD t 7 0 → k ≤ 2 → Fine (take 64 (drop 64 t)) (take 16 (drop 16 t)) (g .arenas) (g .per) c k
   unfolding stateOf
   search-fine c k e h = record {
     arenas-least = R .roomy .inside .arenas-least;
     arenas-most = R .roomy .inside .arenas-most;
     per-least = R .roomy .inside .per-least;
     per-most = R .roomy .inside .per-most;
-    rows-long = omega (arith, R .roomy .room, part-long t start (length t - start) (omega (arith, R .roomy .room)));
+    words-long = omega (arith, R .roomy .inside .blocks-most, part-long t 64 64 (omega (arith, R .roomy .room)));
     marks-long = omega (arith, R .roomy .inside .arenas-most, part-long t 16 16 (omega (arith, R .roomy .room)));
     marks-low = λ a l. omega (arith, mark-at a l, R .range .marks a);
     counter-low = omega (arith, R .range .counter);
@@ -90,11 +90,10 @@ module _ {g : Geometry} {t : List ℕ} (R : Ready g t) where
   }
 
   pub search-is : (r : Found) (c k v : ℕ) → c ≡ getD t 7 0 → k ≡ v →
-      r ≡ chosen (freeIn (take (length t - (32 + 272 * g .records)) (drop (32 + 272 * g .records) t))) (markIn (take 16 (drop 16 t))) (g .arenas) (g .per) (c + k) →
-      r ≡ found g (stateOf g t) v
+      r ≡ chosen (freeIn (take 64 (drop 64 t))) (markIn (take 16 (drop 16 t))) (g .arenas) (g .per) (c + k) → r ≡ found g (stateOf g t) v
   unfolding found markIn
   search-is r c k v e ek d =
-      d ∙ chosen-same (freeIn rows) (available (stateOf g t .view)) (markIn marks) (stateOf g t .mark) (g .arenas) (g .per)
+      d ∙ chosen-same (freeIn words) (available (stateOf g t .view)) (markIn marks) (stateOf g t .mark) (g .arenas) (g .per)
       free-at mark-at (λ a l. omega (arith, mark-at a l, R .range .marks a)) (c + k) (R .roomy .inside .arenas-least) ∙
       ap (λ f. chosen (available (stateOf g t .view)) (stateOf g t .mark) (g .arenas) (g .per) f)
       (omega (arith, Fields.counter-is g t))

@@ -5,7 +5,7 @@ use Prim.Native.Nat.{ℕ, _+_, _*_, _≤_}
 use native.Mathlib.Omega.{arith}
 use lib.ListN.{length, set}
 use Rattle.log.specs.Word.{writeAt, wordBytes, bytesOf}
-use Rattle.log.proofs.Writing.{length-word, length-write, write-write}
+use Rattle.log.proofs.Writing.{length-word, write-write}
 
 -- the count in the tables
 pub counted : (t : List ℕ) (d u used : ℕ) → used ≡ u → set t 9 (used + d) ≡ set t 9 (u + d)
@@ -15,9 +15,6 @@ counted t d u used e = ap (λ k. set t 9 (k + d)) e
 module _ (l : List ℕ) (u : ℕ) where
   pub one-word : (w used : ℕ) (m : List ℕ) → used ≡ u → m ≡ writeAt l (8 * used) (wordBytes w) → m ≡ writeAt l (8 * u) (bytesOf (w ∷ []))
   one-word w used m e d = rw (← e, append-nil) d
-
-  pub one-long : (w used : ℕ) (m : List ℕ) → used ≡ u → 8 * u + 8 ≤ length l → m ≡ writeAt l (8 * used) (wordBytes w) → length m ≡ length l
-  one-long w used m e h d = ap length d ∙ length-write l (8 * used) (wordBytes w) (omega (arith, length-word w))
 
   pub two-words : (w v used : ℕ) (m k : List ℕ) → used ≡ u → 8 * u + 16 ≤ length l → m ≡ writeAt l (8 * used) (wordBytes w) →
       k ≡ writeAt m (8 * used + 8) (wordBytes v) → k ≡ writeAt l (8 * u) (bytesOf (w ∷ v ∷ []))

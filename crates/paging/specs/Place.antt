@@ -2,23 +2,23 @@
 use mathlib.Core.Path.{_≡_}
 use mathlib.Core.List.{List}
 use Prim.Native.Nat.{ℕ, _+_, _*_, _≤_, _<_}
-use lib.ListN.{getD}
+use lib.ListN.{length}
 use Rattle.geometry.specs.declared.Geometry.{Geometry}
 use Rattle.geometry.specs.Limits.{blocks}
 use Rattle.choice.specs.declared.Found.the-variants.{At}
-use Rattle.model.specs.State.{State}
+use Rattle.model.specs.State.{State, withView}
 use Rattle.model.specs.SoundStore.{MadeFor}
 use Rattle.model.specs.Effects.{place, write}
 use Rattle.model.specs.Calls.{given}
 use Rattle.model.specs.Layout.{viewOf, stateOf}
-use Rattle.tables.specs.Ready.{Roomy}
-use Rattle.tables.specs.Puts.{withView}
+use Rattle.tables.specs.Ready.{Roomy, FreeWords}
 
--- tables with room, made for g, that hold no more entries than blocks: what single stores ask
+-- tables with room, made for g, that say which blocks are free and no deadlist longer than there are pages: what single stores ask
 pub record Kept (g : Geometry) (t : List ℕ) : Type 0 where
   pub roomy : Roomy g t
   pub made : MadeFor g t
-  pub few : getD t 10 0 ≤ blocks g
+  pub free : FreeWords g t
+  pub short : (s : ℕ) → length (viewOf g t .list s) ≤ g .pages
 
 -- the block at offset o of arena a is free
 pub record Spot (g : Geometry) (t : List ℕ) (a o : ℕ) : Type 0 where

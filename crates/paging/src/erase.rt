@@ -18,6 +18,10 @@ use crate::kill::kill_on;
 use crate::words::log_one;
 use answer::Answer;
 use geometry::Geometry;
+use tables::cells::OPEN;
+use tables::cells::PAGES;
+use tables::cells::ROW;
+use tables::cells::USED;
 use tables::find::slot_of;
 use tables::find::wide;
 use tables::links::frees_on;
@@ -40,10 +44,10 @@ fn erase_verdict(t: &[u32], g: Geometry, n: u32, page: u32) -> Verdict
         return Verdict::Refused(8);
     }
     let s = link - 1;
-    if t[32 + 272 * s + 1] == 0 {
+    if t[OPEN + s] == 0 {
         return Verdict::Refused(9);
     }
-    if g.words - wide(t[9]) < frees_on(t, g, s, wide(page)) {
+    if g.words - wide(t[USED]) < frees_on(t, g, s, wide(page)) {
         return Verdict::Refused(14);
     }
     Verdict::Accept(s)
@@ -64,10 +68,8 @@ fn erase_page(
     ensures log { λ r. ⌜ now (log .exit) ≡ writeAt (now (log .entry)) (8 * stateOf g (now (t .entry)) .used) (bytesOf (map released (freesOf g (now (t .entry)) s x))) ⌝ }
     ensures out { λ r. ⌜ now (out .exit) ≡ sets (now (out .entry)) 0 (freesOf g (now (t .entry)) s x) ⌝ }
 {
-    let link = wide(t[32 + 272 * s + 16 + x]);
-    let frees = frees_on(t, g, s, x);
-    kill_on(t, g, s, x);
-    if frees == 1 {
+    let link = wide(t[PAGES + ROW * s + x]);
+    if kill_on(t, g, s, x) == 1 {
         let b = link - 1;
         log_one(t, log, (b * 16384 + 2) as u64);
         out[0] = b as u32;

@@ -1,13 +1,13 @@
-// A free block goes on a page: its search, its rows, and the mark and the turn that it moves.
+// A free block goes on a page: its search, its birth, and the mark and the turn that it moves.
 ghost use mathlib.Core.Path.{_≡_};
 ghost use Prim.Native.Nat.{_+_, _*_, _<_, _≤_};
-ghost use lib.ListN.{getD};
+ghost use lib.ListN.{length, getD};
 ghost use Rattle.geometry.specs.Limits.{blocks};
 ghost use Rattle.choice.specs.declared.Found.the-variants.{At};
 ghost use Rattle.model.specs.Calls.{found, given};
-ghost use Rattle.model.specs.Layout.{stateOf, stored};
+ghost use Rattle.model.specs.Layout.{viewOf, stateOf, stored};
 ghost use Rattle.tables.specs.Ready.{Ready};
-ghost use Rattle.paging.specs.Target.{Target};
+ghost use Rattle.paging.specs.Target.{Target, freesOf};
 ghost use Rattle.paging.specs.Place.{Kept, Spot, placed, filled};
 use crate::kill::kill_on;
 use choice::Found;
@@ -16,6 +16,14 @@ use choice::choose;
 use choice::next_of;
 use choice::turned_by;
 use geometry::Geometry;
+use tables::births::give_block;
+use tables::cells::COUNTER;
+use tables::cells::FREE;
+use tables::cells::MARKS;
+use tables::cells::NUMBER;
+use tables::cells::PAGES;
+use tables::cells::ROW;
+use tables::cells::WRITES;
 use tables::find::wide;
 
 // The block that a write of the kind is given.
@@ -23,26 +31,24 @@ pub fn search(t: &[u32], g: Geometry, kind: u32) -> Found
     requires { ⌜ Ready g (now t) × (kind ≤ 2) ⌝ }
     ensures { λ r. ⌜ r ≡ found g (stateOf g (now (t .entry))) kind ⌝ }
 {
-    let rows = 32 + 272 * g.records;
     choose(
-        &t[rows..],
-        &t[16..32],
+        &t[FREE..FREE + 64],
+        &t[MARKS..MARKS + 16],
         g.arenas,
         g.per,
-        wide(t[7]),
+        wide(t[COUNTER]),
         wide(kind),
     )
 }
 
-// Block b goes on the empty page x of the record in slot s.
+// Block b, born in the record in slot s, goes on its empty page x.
 fn put_block(t: &mut [u32], g: Geometry, s: usize, x: usize, b: usize)
-    requires { ⌜ Kept g (now t) × (s < g .records) × (x < g .pages) × (b < blocks g) ⌝ }
+    requires { ⌜ Kept g (now t) × (s < g .records) × (0 < viewOf g (now t) .num s) × (x < g .pages) × (b < blocks g) ⌝ }
     ensures { λ _. ⌜ now (t .exit) ≡ stored g (placed (stateOf g (now (t .entry))) s x b) (now (t .entry)) ⌝ }
 {
-    t[32 + 272 * s + 16 + x] = (b + 1) as u32;
-    t[32 + 272 * g.records + 8 * b] = t[32 + 272 * s];
-    t[32 + 272 * g.records + 8 * b + 1] = s as u32;
-    t[32 + 272 * g.records + 8 * b + 2] = x as u32;
+    let number = t[NUMBER + s];
+    t[PAGES + ROW * s + x] = (b + 1) as u32;
+    give_block(t, g, b, number);
 }
 
 // The mark of arena a moves behind offset o, and a turn may end.
@@ -52,23 +58,26 @@ fn turn_on(t: &mut [u32], g: Geometry, a: usize, o: usize)
 {
     let turned = turned_by(
         Turn {
-            counter: wide(t[7]),
-            writes: wide(t[8]),
+            counter: wide(t[COUNTER]),
+            writes: wide(t[WRITES]),
         },
         g.arenas,
         g.turn,
     );
-    t[16 + a] = next_of(g.per, o) as u32;
-    t[7] = turned.counter as u32;
-    t[8] = turned.writes as u32;
+    t[MARKS + a] = next_of(g.per, o) as u32;
+    t[COUNTER] = turned.counter as u32;
+    t[WRITES] = turned.writes as u32;
 }
 
 // The block at offset o of arena a goes on page x of the record in slot s; the block that was there is killed.
-pub fn fill_page(t: &mut [u32], g: Geometry, s: usize, x: usize, a: usize, o: usize)
+// How many blocks are freed: 1 or 0.
+pub fn fill_page(t: &mut [u32], g: Geometry, s: usize, x: usize, a: usize, o: usize) -> usize
     requires { ⌜ Target g (now t) s x × Spot g (now t) a o ⌝ }
-    ensures { λ _. ⌜ now (t .exit) ≡ stored g (filled g (now (t .entry)) s x a o) (now (t .entry)) ⌝ }
+    ensures count { λ r. ⌜ r ≡ length (freesOf g (now (t .entry)) s x) ⌝ }
+    ensures tables { λ r. ⌜ now (t .exit) ≡ stored g (filled g (now (t .entry)) s x a o) (now (t .entry)) ⌝ }
 {
-    kill_on(t, g, s, x);
+    let frees = kill_on(t, g, s, x);
     put_block(t, g, s, x, a * g.per + o);
     turn_on(t, g, a, o);
+    frees
 }

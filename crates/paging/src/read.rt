@@ -6,6 +6,8 @@ ghost use Rattle.tables.specs.Ready.{Ready, OutLong};
 ghost use Rattle.tables.specs.Outcome.{replied, outLeft};
 use answer::Answer;
 use geometry::Geometry;
+use tables::cells::PAGES;
+use tables::cells::ROW;
 use tables::find::slot_of;
 use tables::find::wide;
 
@@ -21,7 +23,7 @@ pub fn read(g: Geometry, t: &[u32], out: &mut [u32], n: u32, page: u32) -> Answe
     if link == 0 {
         return Answer::Refused(8);
     }
-    let b = wide(t[32 + 272 * (link - 1) + 16 + wide(page)]);
+    let b = wide(t[PAGES + ROW * (link - 1) + wide(page)]);
     if b == 0 {
         return Answer::Done(0);
     }

@@ -5,6 +5,7 @@ ghost use Prim.Native.Nat.{_+_, _*_, _<_, _≤_};
 ghost use lib.ListN.{length, getD, set};
 ghost use Rattle.log.specs.Word.{writeAt, bytesOf};
 use log::word::append;
+use tables::cells::USED;
 use tables::find::wide;
 
 // Writes one word.
@@ -13,9 +14,9 @@ pub fn log_one(t: &mut [u32], log: &mut [u8], word: u64)
     ensures tables { λ _. ⌜ now (t .exit) ≡ set (now (t .entry)) 9 (getD (now (t .entry)) 9 0 + 1) ⌝ }
     ensures log { λ _. ⌜ now (log .exit) ≡ writeAt (now (log .entry)) (8 * getD (now (t .entry)) 9 0) (bytesOf (word ∷ [])) ⌝ }
 {
-    let used = wide(t[9]);
+    let used = wide(t[USED]);
     append(log, 8 * used, word);
-    t[9] = (used + 1) as u32;
+    t[USED] = (used + 1) as u32;
 }
 
 // Writes two words.
@@ -24,8 +25,8 @@ pub fn log_two(t: &mut [u32], log: &mut [u8], first: u64, second: u64)
     ensures tables { λ _. ⌜ now (t .exit) ≡ set (now (t .entry)) 9 (getD (now (t .entry)) 9 0 + 2) ⌝ }
     ensures log { λ _. ⌜ now (log .exit) ≡ writeAt (now (log .entry)) (8 * getD (now (t .entry)) 9 0) (bytesOf (first ∷ second ∷ [])) ⌝ }
 {
-    let used = wide(t[9]);
+    let used = wide(t[USED]);
     append(log, 8 * used, first);
     append(log, 8 * used + 8, second);
-    t[9] = (used + 2) as u32;
+    t[USED] = (used + 2) as u32;
 }

@@ -23,6 +23,10 @@ use crate::words::log_two;
 use answer::Answer;
 use choice::Found;
 use geometry::Geometry;
+use tables::cells::OPEN;
+use tables::cells::PAGES;
+use tables::cells::ROW;
+use tables::cells::USED;
 use tables::find::slot_of;
 use tables::find::wide;
 use tables::links::frees_on;
@@ -48,14 +52,14 @@ fn write_verdict(t: &[u32], g: Geometry, n: u32, page: u32, kind: u32) -> Verdic
         return Verdict::Refused(8);
     }
     let s = link - 1;
-    if t[32 + 272 * s + 1] == 0 {
+    if t[OPEN + s] == 0 {
         return Verdict::Refused(9);
     }
     let found = search(t, g, kind);
     let Found::At(a, o) = found else {
         return Verdict::Refused(13);
     };
-    if g.words - wide(t[9]) < 1 + frees_on(t, g, s, wide(page)) {
+    if g.words - wide(t[USED]) < 1 + frees_on(t, g, s, wide(page)) {
         return Verdict::Refused(14);
     }
     Verdict::Accept(s, a, o)
@@ -78,9 +82,8 @@ fn write_page(
     ensures log { λ r. ⌜ now (log .exit) ≡ writeAt (now (log .entry)) (8 * stateOf g (now (t .entry)) .used) (bytesOf (allocated (a * g .per + o) ∷ map released (freesOf g (now (t .entry)) s x))) ⌝ }
     ensures out { λ r. ⌜ now (out .exit) ≡ sets (now (out .entry)) 0 ((a * g .per + o) ∷ freesOf g (now (t .entry)) s x) ⌝ }
 {
-    let link = wide(t[32 + 272 * s + 16 + x]);
-    let frees = frees_on(t, g, s, x);
-    fill_page(t, g, s, x, a, o);
+    let link = wide(t[PAGES + ROW * s + x]);
+    let frees = fill_page(t, g, s, x, a, o);
     let b = a * g.per + o;
     out[0] = b as u32;
     if frees == 1 {

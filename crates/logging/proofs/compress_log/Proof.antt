@@ -5,31 +5,38 @@ use borrow.Author.Needs.{needs}
 use Rattle.logging.proofs.compress_log.Statement.{statement}
 use Rattle.logging.proofs.compress_log.Tie as tie
 
-marks-of-requires : tie.Need-marks-of-requires
-marks-of-requires c κs = omega arith
+add-put-kept : tie.Need-add-put-kept
+add-put-kept c = search needs
 
-compress-requires : tie.Need-compress-requires
-compress-requires c κs = omega arith
+sub-put-kept : tie.Need-sub-put-kept
+sub-put-kept c = search needs
+
+part-put-kept-start : tie.Need-part-put-kept-start
+part-put-kept-start c = search needs
+
+part-put-kept-end : tie.Need-part-put-kept-end
+part-put-kept-end c = search needs
+
+put-kept-requires : tie.Need-put-kept-requires
+put-kept-requires c κs = search needs
 
 cast-t : tie.Need-cast-t
 cast-t c =
     let p = c .before .before in
-    let m = p .before .before .before in
-    let s = m .before .before .before .before .before in
-    omega (arith, words-few (s .args .g) (s .args .t .now) (s .pre .0) (m .marks-of .result) (p .compress .result) (m .marks-of .ensures) (p .compress .ensures .0))
+    let s = p .before .before .before .before .before .before .before in
+    omega (arith, words-few (s .args .g) (s .args .t .now) (s .pre .0) (p .put-kept .result) (p .put-kept .ensures .0))
 
 slice-write-t : tie.Need-slice-write-t
-slice-write-t c = omega arith
+slice-write-t c = search needs
 
 cast-out : tie.Need-cast-out
 cast-out c =
     let p = c .before .before in
-    let m = p .before .before .before in
-    let s = m .before .before .before .before .before in
-    omega (arith, words-few (s .args .g) (s .args .t .now) (s .pre .0) (m .marks-of .result) (p .compress .result) (m .marks-of .ensures) (p .compress .ensures .0))
+    let s = p .before .before .before .before .before .before .before in
+    omega (arith, words-few (s .args .g) (s .args .t .now) (s .pre .0) (p .put-kept .result) (p .put-kept .ensures .0))
 
 slice-write-out : tie.Need-slice-write-out
-slice-write-out c = omega arith
+slice-write-out c = search needs
 
 same-length : tie.Need-same-length
 same-length c = search needs
@@ -43,17 +50,19 @@ same-length-3 c = search needs
 returns : tie.Need-returns
 returns c =
     let p = c .before .before in
-    let m = p .before .before .before in
-    let s = m .before .before .before .before .before in
-    compressed-done (s .args .g) (s .args .t .now) (s .pre .0) (m .marks-of .result) (p .compress .result) (m .marks-of .ensures) (p .compress .ensures .0)
-    (s .args .log .now) _ (s .args .out .now) (s .pre .2) (p .compress .ensures .1)
+    let s = p .before .before .before .before .before .before .before in
+    compressed-done (s .args .g) (s .args .t .now) (s .pre .0) (p .put-kept .result) (p .put-kept .ensures .0) (s .args .log .now) _ (s .args .out .now) (s .pre .2)
+    (p .put-kept .ensures .1)
 
 pub compress-log-spec : {M : Type 1} → statement M
 compress-log-spec =
     tie.close
     (tie.spec
-    marks-of-requires
-    compress-requires
+    add-put-kept
+    sub-put-kept
+    part-put-kept-start
+    part-put-kept-end
+    put-kept-requires
     cast-t
     slice-write-t
     cast-out

@@ -23,9 +23,8 @@ delete-record-requires c κs =
     let start = c .before .before .before .before .before .before .before .before .before .before in (
       start .pre .0,
       Calling.accept-out _ _ (start .pre .0) _ _ told _ _ accepted (start .args .out .now) (start .pre .2),
-      Calling.accept-slot _ _ (start .pre .0) _ _ told _ _ accepted,
-      Calling.accept-live _ _ (start .pre .0) _ _ told _ _ accepted,
-      Calling.accept-follower _ _ (start .pre .0) _ _ told _ _ accepted,
+      Calling.accept-asks _ _ (start .pre .0) _ _ told _ _ accepted,
+      Calling.accept-follows _ _ (start .pre .0) _ _ told _ _ accepted,
     )
 
 log-frees-requires : tie.Need-log-frees-requires

@@ -1,82 +1,77 @@
--- A record is deleted, on either way.
+-- A record is taken out of its line, its blocks are freed, and it leaves the store.
 use native.Mathlib.Omega.{arith}
 use borrow.Author.Needs.{needs}
 use mathlib.Core.Path.{ap, _∙_}
-use lib.ListN.{length}
-use lib.Seq.{sets}
-use Rattle.model.specs.Layout.{stateOf, stored}
-use Rattle.tables.specs.Puts.{withView}
-use Rattle.deleting.proofs.Calling
+use lib.ListN.{length, length-set}
+use Rattle.model.proofs.LayoutFacts.{stored-length}
+use Rattle.tables.proofs.Ranges
+use Rattle.deleting.proofs.Leaving
 use Rattle.deleting.proofs.delete.delete_record.Statement.{statement}
 use Rattle.deleting.proofs.delete.delete_record.Tie as tie
 
-pred-number-requires : tie.Need-pred-number-requires
-pred-number-requires c κs =
-    let start = c .before .before .before in
-    (start .pre .0, start .pre .2, start .pre .3)
+unhook-requires : tie.Need-unhook-requires
+unhook-requires c κs = c .before .before .before .before .pre
 
-delete-last-requires : tie.Need-delete-last-requires
-delete-last-requires c κs =
-    let start = c .before .before .before .before .before .before .before in
-    let e = Calling.deleted-last (start .args .g) (start .args .t .now) (start .args .s) (start .args .follower) (c .before .before .if1 .taken) in (start .pre .0, omega (arith, ap length e, start .pre .1), start .pre .2, start .pre .3, c .before .before .before .pred-number .ensures)
+free-all-requires : tie.Need-free-all-requires
+free-all-requires c κs =
+    let start = c .before .before .before .before .before .before .before .before .before .before .before in
+    let out = c .before .before .before .before .before .before .unhook .ensures in (Leaving.leave-roomy (start .pre .0) (start .args .s) (start .pre .2) (start .args .link) (start .pre .3) _ (out .1 .0), Leaving.leave-room (start .pre .0) (start .args .s) (start .pre .2) (start .args .link) (start .pre .3) _ (out .1 .0) _ _ (out .1 .1) (start .pre .1) _ (out .0), Leaving.leave-below (start .pre .0) (start .args .s) (start .pre .2) (start .args .link) (start .pre .3) _ (out .1 .0) _ _ (out .1 .1) (start .pre .1) _ (out .0))
+
+add-t : tie.Need-add-t
+add-t c =
+    let start = c .before .before .before .before .before .before .before .before .before .before .before .before .before .before in
+    let slot = Ranges.slot-in (start .pre .0) (start .args .s) (start .pre .2 .0) in omega arith
+
+mul-t : tie.Need-mul-t
+mul-t c =
+    let start = c .before .before .before .before .before .before .before .before .before .before .before .before .before .before in
+    let slot = Ranges.slot-in (start .pre .0) (start .args .s) (start .pre .2 .0) in omega arith
+
+slice-write-t : tie.Need-slice-write-t
+slice-write-t c =
+    let start = c .before .before .before .before .before .before .before .before .before .before .before .before .before .before in
+    let slot = Ranges.slot-in (start .pre .0) (start .args .s) (start .pre .2 .0) in omega arith
+
+add-t-2 : tie.Need-add-t-2
+add-t-2 c =
+    let start = c .before .before .before .before .before .before .before .before .before .before .before .before .before .before in
+    let slot = Ranges.slot-in (start .pre .0) (start .args .s) (start .pre .2 .0) in omega arith
+
+mul-t-2 : tie.Need-mul-t-2
+mul-t-2 c =
+    let start = c .before .before .before .before .before .before .before .before .before .before .before .before .before .before in
+    let slot = Ranges.slot-in (start .pre .0) (start .args .s) (start .pre .2 .0) in omega arith
+
+slice-write-t-2 : tie.Need-slice-write-t-2
+slice-write-t-2 c =
+    let start = c .before .before .before .before .before .before .before .before .before .before .before .before .before .before in
+    let slot = Ranges.slot-in (start .pre .0) (start .args .s) (start .pre .2 .0) in simp length-set (omega arith)
 
 same-length : tie.Need-same-length
-same-length c = search needs
+same-length c =
+    let start = c .before .before .before .before .before .before .before .before .before .before .before .before .before .before in
+    let out = c .before .before .before .before .before .before .before .before .before .unhook .ensures in ap length (Leaving.leave-tables (start .pre .0) (start .args .s) (start .pre .2) (start .args .link) (start .pre .3) _ (out .1 .0) _ _ (out .1 .1) (start .pre .1) _ (out .0) _ (c .before .before .free-all .ensures)) ∙ stored-length _ _ _
 
 same-length-2 : tie.Need-same-length-2
 same-length-2 c = search needs
 
 returns : tie.Need-returns
 returns c =
-    let made = c .before .before .before .before .delete-last .ensures in
-    let none = c .before .before .before .before .before .before .before .if1 .taken in
-    let start = c .before .before .before .before .before .before .before .before .before .before .before .before in
-    let e = Calling.deleted-last (start .args .g) (start .args .t .now) (start .args .s) (start .args .follower) none in (
-      made .0 ∙ ap length e,
-      (
-        made .1 .0 ∙ ap (λ L. stored (start .args .g) (withView (stateOf (start .args .g) (start .args .t .now)) L) (start .args .t .now)) (Calling.delete-last (start .args .g) (start .args .t .now) (start .args .s) (start .args .follower) none),
-        made .1 .1 ∙ ap (sets (start .args .out .now) 0) e,
-      ),
-    )
-
-sub-delete-next : tie.Need-sub-delete-next
-sub-delete-next c = omega arith
-
-delete-next-requires : tie.Need-delete-next-requires
-delete-next-requires c κs =
-    let start = c .before .before .before .before .before .before .before in
-    let e = Calling.deleted-next (start .args .g) (start .args .t .now) (start .args .s) (start .args .follower) (c .before .before .if1 .left) in (start .pre .0, omega (arith, ap length e, start .pre .1), start .pre .2, start .pre .3, omega arith, c .before .before .before .pred-number .ensures)
-
-same-length-3 : tie.Need-same-length-3
-same-length-3 c = search needs
-
-same-length-4 : tie.Need-same-length-4
-same-length-4 c = search needs
-
-returns-2 : tie.Need-returns-2
-returns-2 c =
-    let some = c .before .before .before .before .before .before .before .if1 .left in
-    let made = c .before .before .before .before .delete-next .ensures in
-    let start = c .before .before .before .before .before .before .before .before .before .before .before .before in
-    let e = Calling.deleted-next (start .args .g) (start .args .t .now) (start .args .s) (start .args .follower) some in (
-      made .0 ∙ ap length e,
-      (
-        made .1 .0 ∙ ap (λ L. stored (start .args .g) (withView (stateOf (start .args .g) (start .args .t .now)) L) (start .args .t .now)) (Calling.delete-next (start .args .g) (start .args .t .now) (start .args .s) (start .args .follower) some),
-        made .1 .1 ∙ ap (sets (start .args .out .now) 0) e,
-      ),
-    )
+    let start = c .before .before .before .before .before .before .before .before .before .before .before .before .before .before in
+    let out = c .before .before .before .before .before .before .before .before .before .unhook .ensures in (out .0, (Leaving.leave-tables (start .pre .0) (start .args .s) (start .pre .2) (start .args .link) (start .pre .3) _ (out .1 .0) _ _ (out .1 .1) (start .pre .1) _ (out .0) _ (c .before .before .free-all .ensures), out .1 .1))
 
 pub delete-record-spec : {M : Type 1} → statement M
 delete-record-spec =
     tie.close
     (tie.spec
-    pred-number-requires
-    delete-last-requires
+    unhook-requires
+    free-all-requires
+    add-t
+    mul-t
+    slice-write-t
+    add-t-2
+    mul-t-2
+    slice-write-t-2
     same-length
     same-length-2
-    returns
-    sub-delete-next
-    delete-next-requires
-    same-length-3
-    same-length-4
-    returns-2)
+    returns)

@@ -1,4 +1,4 @@
--- Whether the log is short: not if there is a word for each block that could be freed, else by their count.
+-- Whether the log is short: not if there is a word for each page, else by the count of the frees.
 use native.Mathlib.Omega.{arith}
 use borrow.Author.Needs.{needs}
 use Rattle.tables.proofs.Fields
@@ -17,13 +17,10 @@ sub-unused c =
     let start = c .before .before .before .before in
     omega (arith, c .before .wide .ensures, Fields.used-is (start .args .g) (start .args .t .now), start .pre .0 .range .used)
 
-most-frees-requires : tie.Need-most-frees-requires
-most-frees-requires c κs = c .before .before .before .before .pre .0 .roomy
-
 returns : tie.Need-returns
 returns c =
     let start = c .before .before .before .before .before .before in
-    Calling.never-short (start .args .g) (start .args .t .now) (start .args .s) (start .args .follower) _ (c .before .before .before .wide .ensures) _ (c .before .most-frees .ensures) (c .if1 .taken)
+    Calling.never-short (start .args .g) (start .args .t .now) (start .args .s) (start .pre .0) (start .args .follower) _ (c .before .before .before .wide .ensures) (c .if1 .taken)
 
 count-frees-requires : tie.Need-count-frees-requires
 count-frees-requires c κs = c .before .before .before .before .before .before .pre
@@ -40,7 +37,6 @@ log-is-short-spec =
     shared-slice-read-wide
     wide-requires
     sub-unused
-    most-frees-requires
     returns
     count-frees-requires
     returns-2)

@@ -10,22 +10,16 @@ use Rattle.lines.proofs.grow.begin_at.Tie as tie
 clear-pages-requires : tie.Need-clear-pages-requires
 clear-pages-requires c κs = search needs
 
-slice-read-line : tie.Need-slice-read-line
-slice-read-line c = search needs
-
-add-line : tie.Need-add-line
-add-line c = omega (arith, Growing.paged-last (c .before .before .before .before .before .before .pre .0) (c .before .before .before .before .before .before .args .f) _ (c .before .before .before .before .before .before .pre .1) _ (c .before .before .before .clear-pages .ensures))
-
 open-record-requires : tie.Need-open-record-requires
-open-record-requires c κs = (omega arith, omega arith, omega (arith, Growing.paged-last (c .before .before .before .before .before .before .before .pre .0) (c .before .before .before .before .before .before .before .args .f) _ (c .before .before .before .before .before .before .before .pre .1) _ (c .before .before .before .before .clear-pages .ensures)))
+open-record-requires c κs = (omega arith, omega arith, omega (arith, Growing.paged-last (c .before .before .before .before .before .before .pre .0) (c .before .before .before .before .before .before .args .f) _ (c .before .before .before .before .before .before .pre .1) _ (c .before .before .before .clear-pages .ensures)))
 
 same-length : tie.Need-same-length
 same-length c = search needs
 
 returns : tie.Need-returns
 returns c =
-    let s = c .before .before .before .before .before .before .before .before .before .before in
-    let e = c .before .before .before .before .before .before .before .clear-pages .ensures in
+    let s = c .before .before .before .before .before .before .before .before .before in
+    let e = c .before .before .before .before .before .before .clear-pages .ensures in
     let o = c .before .before .open-record .ensures in (
       Growing.begun (s .pre .0) (s .args .f) _ (s .pre .1) _ e (o .0),
       o .1 ∙ ap (λ (n : ℕ). n + 1) (Growing.paged-last (s .pre .0) (s .args .f) _ (s .pre .1) _ e),
@@ -36,8 +30,6 @@ begin-at-spec =
     tie.close
     (tie.spec
     clear-pages-requires
-    slice-read-line
-    add-line
     open-record-requires
     same-length
     returns)

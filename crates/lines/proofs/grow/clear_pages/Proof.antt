@@ -24,9 +24,6 @@ add-t c = search needs
 add-t-2 : tie.Need-add-t-2 Inv-loop μ-loop
 add-t-2 c = search needs
 
-add-t-3 : tie.Need-add-t-3 Inv-loop μ-loop
-add-t-3 c = search needs
-
 mul-t-2 : tie.Need-mul-t-2 Inv-loop μ-loop
 mul-t-2 c = search needs
 
@@ -63,7 +60,6 @@ clear-pages-spec =
     mul-t
     add-t
     add-t-2
-    add-t-3
     mul-t-2
     slice-write-t
     add-x

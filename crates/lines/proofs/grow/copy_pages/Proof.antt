@@ -39,12 +39,6 @@ mul-t-3 c = search needs
 add-t-4 : tie.Need-add-t-4 Inv-loop μ-loop
 add-t-4 c = search needs
 
-add-t-5 : tie.Need-add-t-5 Inv-loop μ-loop
-add-t-5 c = search needs
-
-add-t-6 : tie.Need-add-t-6 Inv-loop μ-loop
-add-t-6 c = search needs
-
 mul-t-4 : tie.Need-mul-t-4 Inv-loop μ-loop
 mul-t-4 c = search needs
 
@@ -81,13 +75,11 @@ copy-pages-spec =
     mul-t
     add-t
     add-t-2
-    add-t-3
     mul-t-2
     slice-read-t
     mul-t-3
+    add-t-3
     add-t-4
-    add-t-5
-    add-t-6
     mul-t-4
     slice-write-t
     add-x

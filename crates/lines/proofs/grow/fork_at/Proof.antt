@@ -10,12 +10,6 @@ use Rattle.lines.proofs.grow.fork_at.Tie as tie
 copy-pages-requires : tie.Need-copy-pages-requires
 copy-pages-requires c κs = search needs
 
-slice-read-line : tie.Need-slice-read-line
-slice-read-line c = search needs
-
-add-line : tie.Need-add-line
-add-line c = omega (arith, Growing.paged-last (c .before .before .before .before .before .before .pre .0) (c .before .before .before .before .before .before .args .f) _ (c .before .before .before .before .before .before .pre .1) _ (c .before .before .before .copy-pages .ensures))
-
 add-open-record : tie.Need-add-open-record
 add-open-record c = search needs
 
@@ -23,15 +17,15 @@ cast-open-record : tie.Need-cast-open-record
 cast-open-record c = search needs
 
 open-record-requires : tie.Need-open-record-requires
-open-record-requires c κs = (omega arith, omega arith, omega (arith, Growing.paged-last (c .before .before .before .before .before .before .before .pre .0) (c .before .before .before .before .before .before .before .args .f) _ (c .before .before .before .before .before .before .before .pre .1) _ (c .before .before .before .before .copy-pages .ensures)))
+open-record-requires c κs = (omega arith, omega arith, omega (arith, Growing.paged-last (c .before .before .before .before .before .before .pre .0) (c .before .before .before .before .before .before .args .f) _ (c .before .before .before .before .before .before .pre .1) _ (c .before .before .before .copy-pages .ensures)))
 
 same-length : tie.Need-same-length
 same-length c = search needs
 
 returns : tie.Need-returns
 returns c =
-    let s = c .before .before .before .before .before .before .before .before .before .before in
-    let e = c .before .before .before .before .before .before .before .copy-pages .ensures in
+    let s = c .before .before .before .before .before .before .before .before .before in
+    let e = c .before .before .before .before .before .before .copy-pages .ensures in
     let o = c .before .before .open-record .ensures in (
       Growing.forked (s .pre .0) (s .args .f) _ (s .pre .1) (s .args .s) _ _ e (o .0) (omega arith),
       o .1 ∙ ap (λ (n : ℕ). n + 1) (Growing.paged-last (s .pre .0) (s .args .f) _ (s .pre .1) _ e),
@@ -42,8 +36,6 @@ fork-at-spec =
     tie.close
     (tie.spec
     copy-pages-requires
-    slice-read-line
-    add-line
     add-open-record
     cast-open-record
     open-record-requires

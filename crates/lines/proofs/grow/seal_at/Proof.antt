@@ -2,7 +2,7 @@
 use borrow.Author.Needs.{needs}
 use native.Mathlib.Omega.{arith}
 use mathlib.Core.Path.{_≡_, refl, ap, _∙_}
-use Prim.Native.Nat.{ℕ, _+_, _*_, _<_}
+use Prim.Native.Nat.{ℕ, _+_, _≤_}
 use lib.ListN.{length, getD, set, length-set}
 use Rattle.lines.proofs.Growing
 use Rattle.lines.proofs.grow.seal_at.Statement.{statement}
@@ -17,12 +17,6 @@ mul-t c = search needs
 add-t : tie.Need-add-t
 add-t c = search needs
 
-add-t-2 : tie.Need-add-t-2
-add-t-2 c = search needs
-
-mul-t-2 : tie.Need-mul-t-2
-mul-t-2 c = search needs
-
 slice-write-t : tie.Need-slice-write-t
 slice-write-t c = search needs
 
@@ -32,29 +26,8 @@ mul-base c = search needs
 add-base : tie.Need-add-base
 add-base c = search needs
 
-add-base-2 : tie.Need-add-base-2
-add-base-2 c = search needs
-
-mul-base-2 : tie.Need-mul-base-2
-mul-base-2 c = search needs
-
 slice-read-base : tie.Need-slice-read-base
 slice-read-base c = simp length-set (omega arith)
-
-mul-line : tie.Need-mul-line
-mul-line c = search needs
-
-add-line : tie.Need-add-line
-add-line c = search needs
-
-add-line-2 : tie.Need-add-line-2
-add-line-2 c = search needs
-
-mul-line-2 : tie.Need-mul-line-2
-mul-line-2 c = search needs
-
-slice-read-line : tie.Need-slice-read-line
-slice-read-line c = simp length-set (omega arith)
 
 add-open-record : tie.Need-add-open-record
 add-open-record c = search needs
@@ -64,17 +37,17 @@ cast-open-record c = search needs
 
 open-record-requires : tie.Need-open-record-requires
 open-record-requires c κs =
-    let p = c .before .before .before .before .before .copy-pages in
-    let s = c .before .before .before .before .before .before .before .before in
-    let h : 36 + 272 * s .args .f < length (p .last .0) = omega arith in
-    let e : (w : ℕ) → getD (set (p .last .0) (32 + 272 * s .args .s + 1) w) 6 0 ≡ getD (s .args .t .now) 6 0 =
+    let p = c .before .before .before .before .copy-pages in
+    let s = c .before .before .before .before .before .before .before in
+    let h : 2048 ≤ length (p .last .0) = omega arith in
+    let e : (w : ℕ) → getD (set (p .last .0) (256 + s .args .s) w) 6 0 ≡ getD (s .args .t .now) 6 0 =
     λ w. Growing.closed-last (s .pre .0) (s .args .f) _ (s .pre .1) (s .args .s) w _ (s .pre .3) (p .ensures) refl in
     (omega arith, simp length-set h, rw e (s .pre .2))
 
 returns : tie.Need-returns
 returns c =
-    let s = c .before .before .before .before .before .before .before .before .before .before .before in
-    let e = c .before .before .before .before .before .before .before .before .copy-pages .ensures in
+    let s = c .before .before .before .before .before .before .before .before .before .before in
+    let e = c .before .before .before .before .before .before .before .copy-pages .ensures in
     let o = c .before .before .open-record .ensures in (
       Growing.sealed (s .pre .0) (s .args .f) _ (s .pre .1) (s .args .s) _ _ (s .pre .3) e refl _ _ (o .0) (omega arith) refl,
       o .1 ∙ ap (λ (n : ℕ). n + 1) (Growing.closed-last (s .pre .0) (s .args .f) _ (s .pre .1) (s .args .s) _ _ (s .pre .3) e refl),
@@ -88,21 +61,12 @@ seal-at-spec =
     tie.close
     (tie.spec
     copy-pages-requires
-    mul-t
     add-t
-    add-t-2
-    mul-t-2
+    mul-t
     slice-write-t
-    mul-base
     add-base
-    add-base-2
-    mul-base-2
+    mul-base
     slice-read-base
-    mul-line
-    add-line
-    add-line-2
-    mul-line-2
-    slice-read-line
     add-open-record
     cast-open-record
     open-record-requires

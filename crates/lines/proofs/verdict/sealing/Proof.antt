@@ -19,12 +19,6 @@ mul-if2 c = search needs
 add-if2 : tie.Need-add-if2
 add-if2 c = search needs
 
-add-if2-2 : tie.Need-add-if2-2
-add-if2-2 c = search needs
-
-mul-if2-2 : tie.Need-mul-if2-2
-mul-if2-2 c = search needs
-
 shared-slice-read-if2 : tie.Need-shared-slice-read-if2
 shared-slice-read-if2 c = search needs
 
@@ -51,10 +45,8 @@ sealing-spec =
     slot-of-requires
     returns
     sub-if2
-    mul-if2
     add-if2
-    add-if2-2
-    mul-if2-2
+    mul-if2
     shared-slice-read-if2
     returns-2
     sub-room

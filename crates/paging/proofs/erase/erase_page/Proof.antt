@@ -16,9 +16,6 @@ add-wide c = search needs
 add-wide-2 : tie.Need-add-wide-2
 add-wide-2 c = search needs
 
-add-wide-3 : tie.Need-add-wide-3
-add-wide-3 c = search needs
-
 mul-wide-2 : tie.Need-mul-wide-2
 mul-wide-2 c = search needs
 
@@ -28,26 +25,24 @@ slice-read-wide c = search needs
 wide-requires : tie.Need-wide-requires
 wide-requires c κs = search needs
 
-frees-on-requires : tie.Need-frees-on-requires
-frees-on-requires c κs = search needs
-
 kill-on-requires : tie.Need-kill-on-requires
 kill-on-requires c κs = search needs
 
 sub-b : tie.Need-sub-b
-sub-b c = omega (arith, Erasing.link-pos (c .before .before .before .before .before .before .before .before .before .before .before .before .pre .0) _ _ (c .before .before .before .before .before .before .before .wide .ensures) (c .before .before .before .before .before .frees-on .ensures) (c .if1 .taken))
+sub-b c = omega (arith, Erasing.link-pos (c .before .before .before .before .before .before .before .before .before .before .pre .0) _ _ (c .before .before .before .before .before .wide .ensures) (c .before .before .before .kill-on .ensures .0) (c .if1 .taken))
 
 mul-log-one : tie.Need-mul-log-one
-mul-log-one c = omega (arith, Killing.link-small (c .before .before .before .before .before .before .before .before .before .before .before .before .before .before .pre .0) _ (c .before .before .before .before .before .before .before .before .before .wide .ensures))
+mul-log-one c = omega (arith, Killing.link-small (c .before .before .before .before .before .before .before .before .before .before .before .before .pre .0) _ (c .before .before .before .before .before .before .before .wide .ensures))
 
 add-log-one : tie.Need-add-log-one
-add-log-one c = omega (arith, Killing.link-small (c .before .before .before .before .before .before .before .before .before .before .before .before .before .before .pre .0) _ (c .before .before .before .before .before .before .before .before .before .wide .ensures))
+add-log-one c = omega (arith, Killing.link-small (c .before .before .before .before .before .before .before .before .before .before .before .before .pre .0) _ (c .before .before .before .before .before .before .before .wide .ensures))
 
 log-one-requires : tie.Need-log-one-requires
-log-one-requires c κs = Erasing.one-room (c .before .before .before .before .before .before .before .before .before .before .before .before .before .before .pre .0) _ _ (c .before .before .before .before .before .before .before .before .before .wide .ensures) (c .before .before .before .before .before .before .before .frees-on .ensures) _ (c .before .before .before .before .before .kill-on .ensures) (c .before .before .if1 .taken) (c .before .before .before .before .before .before .before .before .before .before .before .before .before .before .args .log .now) (c .before .before .before .before .before .before .before .before .before .before .before .before .before .before .pre .1) (c .before .before .before .before .before .before .before .before .before .before .before .before .before .before .pre .2)
+log-one-requires c κs = let k = c .before .before .before .before .before .kill-on .ensures in
+    Erasing.one-room (c .before .before .before .before .before .before .before .before .before .before .before .before .pre .0) _ _ (c .before .before .before .before .before .before .before .wide .ensures) (k .0) _ (k .1) (c .before .before .if1 .taken) (c .before .before .before .before .before .before .before .before .before .before .before .before .args .log .now) (c .before .before .before .before .before .before .before .before .before .before .before .before .pre .1) (c .before .before .before .before .before .before .before .before .before .before .before .before .pre .2)
 
 cast-out : tie.Need-cast-out
-cast-out c = omega (arith, Killing.link-small (c .before .before .before .before .before .before .before .before .before .before .before .before .before .before .before .before .before .before .before .pre .0) _ (c .before .before .before .before .before .before .before .before .before .before .before .before .before .before .wide .ensures))
+cast-out c = omega (arith, Killing.link-small (c .before .before .before .before .before .before .before .before .before .before .before .before .before .before .before .before .before .pre .0) _ (c .before .before .before .before .before .before .before .before .before .before .before .before .wide .ensures))
 
 slice-write-out : tie.Need-slice-write-out
 slice-write-out c = search needs
@@ -62,11 +57,11 @@ same-length-3 : tie.Need-same-length-3
 same-length-3 c = search needs
 
 returns : tie.Need-returns
-returns c = let A = c .before .before .before .before .before .before .before .before .before .before .before .before .before .before .before .before .before .before .before .pre .0 in let w = c .before .before .before .before .before .before .before .before .before .before .before .before .before .before .wide .ensures in let f = c .before .before .before .before .before .before .before .before .before .before .before .before .frees-on .ensures in let i = c .before .before .before .before .before .before .before .if1 .taken in (
-  Erasing.one-count A _ _ w f i,
+returns c = let A = c .before .before .before .before .before .before .before .before .before .before .before .before .before .before .before .before .before .pre .0 in let w = c .before .before .before .before .before .before .before .before .before .before .before .before .wide .ensures in let k = c .before .before .before .before .before .before .before .before .before .before .kill-on .ensures in let i = c .before .before .before .before .before .before .before .if1 .taken in let p = c .before .before .before .before .log-one .ensures in (
+  Erasing.one-count A _ _ w (k .0) i,
   (
-    c .before .before .before .before .log-one .ensures .0 ∙ Erasing.one-tables A _ _ w f _ (c .before .before .before .before .before .before .before .before .before .before .kill-on .ensures) i,
-    (Erasing.one-log A _ _ w f _ (c .before .before .before .before .before .before .before .before .before .before .kill-on .ensures) i _ (c .before .before .before .before .before .before .before .before .before .before .before .before .before .before .before .before .before .before .before .args .log .now) _ refl (c .before .before .before .before .log-one .ensures .1), Erasing.one-out A _ _ w f i (c .before .before .before .before .before .before .before .before .before .before .before .before .before .before .before .before .before .before .before .args .out .now)),
+    p .0 ∙ Erasing.one-tables A _ _ w (k .0) _ (k .1) i,
+    (Erasing.one-log A _ _ w (k .0) _ (k .1) i _ (c .before .before .before .before .before .before .before .before .before .before .before .before .before .before .before .before .before .args .log .now) _ refl (p .1), Erasing.one-out A _ _ w (k .0) i (c .before .before .before .before .before .before .before .before .before .before .before .before .before .before .before .before .before .args .out .now)),
   ),
 )
 
@@ -74,11 +69,11 @@ same-length-4 : tie.Need-same-length-4
 same-length-4 c = search needs
 
 returns-2 : tie.Need-returns-2
-returns-2 c = let A = c .before .before .before .before .before .before .before .before .before .before .before .before .pre .0 in let w = c .before .before .before .before .before .before .before .wide .ensures in let f = c .before .before .before .before .before .frees-on .ensures in let i = c .if1 .left in (
-  Erasing.none-count A _ _ w f i,
+returns-2 c = let A = c .before .before .before .before .before .before .before .before .before .before .pre .0 in let w = c .before .before .before .before .before .wide .ensures in let k = c .before .before .before .kill-on .ensures in let i = c .if1 .left in (
+  Erasing.none-count A _ _ w (k .0) i,
   (
-    Erasing.none-tables A _ _ w f _ (c .before .before .before .kill-on .ensures) i,
-    (Erasing.none-log A _ _ w f _ (c .before .before .before .kill-on .ensures) i (c .before .before .before .before .before .before .before .before .before .before .before .before .args .log .now), Erasing.none-out A _ _ w f i (c .before .before .before .before .before .before .before .before .before .before .before .before .args .out .now)),
+    Erasing.none-tables A _ _ w (k .0) _ (k .1) i,
+    (Erasing.none-log A _ _ w (k .0) _ (k .1) i (c .before .before .before .before .before .before .before .before .before .before .args .log .now), Erasing.none-out A _ _ w (k .0) i (c .before .before .before .before .before .before .before .before .before .before .args .out .now)),
   ),
 )
 
@@ -89,11 +84,9 @@ erase-page-spec =
     mul-wide
     add-wide
     add-wide-2
-    add-wide-3
     mul-wide-2
     slice-read-wide
     wide-requires
-    frees-on-requires
     kill-on-requires
     sub-b
     mul-log-one

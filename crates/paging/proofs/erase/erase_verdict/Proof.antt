@@ -27,12 +27,6 @@ mul-if3 c = search needs
 add-if3 : tie.Need-add-if3
 add-if3 c = search needs
 
-add-if3-2 : tie.Need-add-if3-2
-add-if3-2 c = search needs
-
-mul-if3-2 : tie.Need-mul-if3-2
-mul-if3-2 c = search needs
-
 shared-slice-read-if3 : tie.Need-shared-slice-read-if3
 shared-slice-read-if3 c = search needs
 
@@ -69,10 +63,8 @@ erase-verdict-spec =
     slot-of-requires
     returns-2
     sub-s
-    mul-if3
     add-if3
-    add-if3-2
-    mul-if3-2
+    mul-if3
     shared-slice-read-if3
     returns-3
     shared-slice-read-wide

@@ -14,17 +14,18 @@ add-put-block : tie.Need-add-put-block
 add-put-block c = search needs
 
 put-block-requires : tie.Need-put-block-requires
-put-block-requires c κs = let A = c .before .before .before .before .before .before .before .pre .0 in let P = c .before .before .before .before .before .before .before .pre .1 in (Placing.emptied-kept A P _ (c .before .before .before .before .kill-on .ensures), A .slot, A .page, P .block)
+put-block-requires c κs = let A = c .before .before .before .before .before .before .before .pre .0 in let P = c .before .before .before .before .before .before .before .pre .1 in let k = c .before .before .before .before .kill-on .ensures .1 in
+    (Placing.emptied-kept A P _ k, A .slot, Placing.emptied-live A P _ k, A .page, P .block)
 
 turn-on-requires : tie.Need-turn-on-requires
-turn-on-requires c κs = let A = c .before .before .before .before .before .before .before .before .before .before .before .pre .0 in let P = c .before .before .before .before .before .before .before .before .before .before .before .pre .1 in let k = c .before .before .before .before .before .before .before .before .kill-on .ensures in let p = c .before .before .before .put-block .ensures in
+turn-on-requires c κs = let A = c .before .before .before .before .before .before .before .before .before .before .before .pre .0 in let P = c .before .before .before .before .before .before .before .before .before .before .before .pre .1 in let k = c .before .before .before .before .before .before .before .before .kill-on .ensures .1 in let p = c .before .before .before .put-block .ensures in
     (Placing.block-kept A P _ k _ p, P .arena, P .offset, Placing.block-counter A P _ k _ p, Placing.block-writes A P _ k _ p)
 
 same-length : tie.Need-same-length
 same-length c = search needs
 
 returns : tie.Need-returns
-returns c = Placing.page-filled (c .before .before .before .before .before .before .before .before .before .before .before .before .before .before .pre .0) (c .before .before .before .before .before .before .before .before .before .before .before .before .before .before .pre .1) _ (c .before .before .before .before .before .before .before .before .before .before .before .kill-on .ensures) _ (c .before .before .before .before .before .before .put-block .ensures) _ (c .before .before .turn-on .ensures)
+returns c = (c .before .before .before .before .before .before .before .before .before .before .before .kill-on .ensures .0, Placing.page-filled (c .before .before .before .before .before .before .before .before .before .before .before .before .before .before .pre .0) (c .before .before .before .before .before .before .before .before .before .before .before .before .before .before .pre .1) _ (c .before .before .before .before .before .before .before .before .before .before .before .kill-on .ensures .1) _ (c .before .before .before .before .before .before .put-block .ensures) _ (c .before .before .turn-on .ensures))
 
 pub fill-page-spec : {M : Type 1} → statement M
 fill-page-spec =

@@ -5,14 +5,8 @@ use Rattle.paging.proofs.Searching
 use Rattle.paging.proofs.place.search.Statement.{statement}
 use Rattle.paging.proofs.place.search.Tie as tie
 
-mul-rows : tie.Need-mul-rows
-mul-rows c = search needs
-
-add-rows : tie.Need-add-rows
-add-rows c = search needs
-
-mul-choose : tie.Need-mul-choose
-mul-choose c = search needs
+add-choose : tie.Need-add-choose
+add-choose c = search needs
 
 sub-choose : tie.Need-sub-choose
 sub-choose c = search needs
@@ -22,6 +16,9 @@ part-choose-start c = search needs
 
 part-choose-end : tie.Need-part-choose-end
 part-choose-end c = search needs
+
+add-choose-2 : tie.Need-add-choose-2
+add-choose-2 c = search needs
 
 sub-choose-2 : tie.Need-sub-choose-2
 sub-choose-2 c = search needs
@@ -42,21 +39,20 @@ wide-requires-2 : tie.Need-wide-requires-2
 wide-requires-2 c κs = search needs
 
 choose-requires : tie.Need-choose-requires
-choose-requires c κs = Searching.search-fine (c .before .before .before .before .before .before .before .pre .0) _ _ (c .before .wide .ensures) (omega arith)
+choose-requires c κs = Searching.search-fine (c .before .before .before .before .before .before .pre .0) _ _ (c .before .wide .ensures) (omega arith)
 
 returns : tie.Need-returns
-returns c = Searching.search-is (c .before .before .before .before .before .before .before .before .pre .0) _ _ _ _ (c .before .before .wide .ensures) (c .before .wide2 .ensures) (c .choose .ensures)
+returns c = Searching.search-is (c .before .before .before .before .before .before .before .pre .0) _ _ _ _ (c .before .before .wide .ensures) (c .before .wide2 .ensures) (c .choose .ensures)
 
 pub search-spec : {M : Type 1} → statement M
 search-spec =
     tie.close
     (tie.spec
-    mul-rows
-    add-rows
-    mul-choose
+    add-choose
     sub-choose
     part-choose-start
     part-choose-end
+    add-choose-2
     sub-choose-2
     part-choose-start-2
     part-choose-end-2

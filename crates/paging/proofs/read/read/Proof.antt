@@ -33,9 +33,6 @@ add-wide-2 c = search needs
 wide-requires-2 : tie.Need-wide-requires-2
 wide-requires-2 c κs = search needs
 
-add-wide-3 : tie.Need-add-wide-3
-add-wide-3 c = search needs
-
 mul-wide-2 : tie.Need-mul-wide-2
 mul-wide-2 c = search needs
 
@@ -74,9 +71,8 @@ read-spec =
     sub-wide
     mul-wide
     add-wide
-    add-wide-2
     wide-requires-2
-    add-wide-3
+    add-wide-2
     mul-wide-2
     shared-slice-read-wide
     wide-requires-3

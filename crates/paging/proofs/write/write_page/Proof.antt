@@ -1,4 +1,4 @@
--- The page is filled; the block and the one that is freed are logged and given.
+-- The page is filled; the block given and the one freed are logged and given.
 use native.Mathlib.Omega.{arith}
 use borrow.Author.Needs.{needs}
 use mathlib.Core.Path.{refl, _∙_}
@@ -18,9 +18,6 @@ add-wide c = search needs
 add-wide-2 : tie.Need-add-wide-2
 add-wide-2 c = search needs
 
-add-wide-3 : tie.Need-add-wide-3
-add-wide-3 c = search needs
-
 mul-wide-2 : tie.Need-mul-wide-2
 mul-wide-2 c = search needs
 
@@ -29,9 +26,6 @@ slice-read-wide c = search needs
 
 wide-requires : tie.Need-wide-requires
 wide-requires c κs = search needs
-
-frees-on-requires : tie.Need-frees-on-requires
-frees-on-requires c κs = search needs
 
 fill-page-requires : tie.Need-fill-page-requires
 fill-page-requires c κs = search needs
@@ -49,7 +43,7 @@ slice-write-out : tie.Need-slice-write-out
 slice-write-out c = search needs
 
 sub-old : tie.Need-sub-old
-sub-old c = omega (arith, Erasing.link-pos (c .before .before .before .before .before .before .before .before .before .before .before .before .before .pre .0) _ _ (c .before .before .before .before .before .before .before .before .wide .ensures) (c .before .before .before .before .before .before .frees-on .ensures) (c .if1 .taken))
+sub-old c = omega (arith, Erasing.link-pos (c .before .before .before .before .before .before .before .before .before .before .before .pre .0) _ _ (c .before .before .before .before .before .before .wide .ensures) (c .before .before .before .before .fill-page .ensures .0) (c .if1 .taken))
 
 mul-log-two : tie.Need-mul-log-two
 mul-log-two c = search needs
@@ -58,19 +52,20 @@ add-log-two : tie.Need-add-log-two
 add-log-two c = search needs
 
 mul-log-two-2 : tie.Need-mul-log-two-2
-mul-log-two-2 c = omega (arith, Killing.link-small (c .before .before .before .before .before .before .before .before .before .before .before .before .before .before .before .pre .0) _ (c .before .before .before .before .before .before .before .before .before .before .wide .ensures))
+mul-log-two-2 c = omega (arith, Killing.link-small (c .before .before .before .before .before .before .before .before .before .before .before .before .before .pre .0) _ (c .before .before .before .before .before .before .before .before .wide .ensures))
 
 add-log-two-2 : tie.Need-add-log-two-2
-add-log-two-2 c = omega (arith, Killing.link-small (c .before .before .before .before .before .before .before .before .before .before .before .before .before .before .before .pre .0) _ (c .before .before .before .before .before .before .before .before .before .before .wide .ensures))
+add-log-two-2 c = omega (arith, Killing.link-small (c .before .before .before .before .before .before .before .before .before .before .before .before .before .pre .0) _ (c .before .before .before .before .before .before .before .before .wide .ensures))
 
 log-two-requires : tie.Need-log-two-requires
-log-two-requires c κs = Giving.two-room (c .before .before .before .before .before .before .before .before .before .before .before .before .before .before .before .pre .0) (c .before .before .before .before .before .before .before .before .before .before .before .before .before .before .before .pre .1) _ _ (c .before .before .before .before .before .before .before .before .before .before .wide .ensures) (c .before .before .before .before .before .before .before .before .frees-on .ensures) _ (c .before .before .before .before .before .before .fill-page .ensures) (c .before .before .if1 .taken) (c .before .before .before .before .before .before .before .before .before .before .before .before .before .before .before .args .log .now) (c .before .before .before .before .before .before .before .before .before .before .before .before .before .before .before .pre .2) (c .before .before .before .before .before .before .before .before .before .before .before .before .before .before .before .pre .3)
+log-two-requires c κs = let k = c .before .before .before .before .before .before .fill-page .ensures in
+    Giving.two-room (c .before .before .before .before .before .before .before .before .before .before .before .before .before .pre .0) (c .before .before .before .before .before .before .before .before .before .before .before .before .before .pre .1) _ _ (c .before .before .before .before .before .before .before .before .wide .ensures) (k .0) _ (k .1) (c .before .before .if1 .taken) (c .before .before .before .before .before .before .before .before .before .before .before .before .before .args .log .now) (c .before .before .before .before .before .before .before .before .before .before .before .before .before .pre .2) (c .before .before .before .before .before .before .before .before .before .before .before .before .before .pre .3)
 
 cast-out-2 : tie.Need-cast-out-2
-cast-out-2 c = omega (arith, Killing.link-small (c .before .before .before .before .before .before .before .before .before .before .before .before .before .before .before .before .before .before .before .before .pre .0) _ (c .before .before .before .before .before .before .before .before .before .before .before .before .before .before .before .wide .ensures))
+cast-out-2 c = omega (arith, Killing.link-small (c .before .before .before .before .before .before .before .before .before .before .before .before .before .before .before .before .before .before .pre .0) _ (c .before .before .before .before .before .before .before .before .before .before .before .before .before .wide .ensures))
 
 slice-write-out-2 : tie.Need-slice-write-out-2
-slice-write-out-2 c = simp length-set (omega (arith, c .before .before .before .before .before .before .before .before .before .before .before .before .before .before .before .before .before .before .before .before .pre .4))
+slice-write-out-2 c = simp length-set (omega (arith, c .before .before .before .before .before .before .before .before .before .before .before .before .before .before .before .before .before .before .pre .4))
 
 same-length : tie.Need-same-length
 same-length c = search needs
@@ -82,11 +77,11 @@ same-length-3 : tie.Need-same-length-3
 same-length-3 c = search needs
 
 returns : tie.Need-returns
-returns c = let A = c .before .before .before .before .before .before .before .before .before .before .before .before .before .before .before .before .before .before .before .before .pre .0 in let P = c .before .before .before .before .before .before .before .before .before .before .before .before .before .before .before .before .before .before .before .before .pre .1 in let w = c .before .before .before .before .before .before .before .before .before .before .before .before .before .before .before .wide .ensures in let f = c .before .before .before .before .before .before .before .before .before .before .before .before .before .frees-on .ensures in let p = c .before .before .before .before .before .before .before .before .before .before .before .fill-page .ensures in let i = c .before .before .before .before .before .before .before .if1 .taken in (
-  Giving.two-count A P _ _ w f i,
+returns c = let A = c .before .before .before .before .before .before .before .before .before .before .before .before .before .before .before .before .before .before .pre .0 in let P = c .before .before .before .before .before .before .before .before .before .before .before .before .before .before .before .before .before .before .pre .1 in let w = c .before .before .before .before .before .before .before .before .before .before .before .before .before .wide .ensures in let k = c .before .before .before .before .before .before .before .before .before .before .before .fill-page .ensures in let i = c .before .before .before .before .before .before .before .if1 .taken in let p = c .before .before .before .before .log-two .ensures in (
+  Giving.two-count A P _ _ w (k .0) i,
   (
-    c .before .before .before .before .log-two .ensures .0 ∙ Giving.two-tables A P _ _ w f _ p i,
-    (Giving.two-log A P _ _ w f _ p i _ _ (c .before .before .before .before .before .before .before .before .before .before .before .before .before .before .before .before .before .before .before .before .args .log .now) _ refl refl (c .before .before .before .before .log-two .ensures .1), Giving.two-out A P _ _ w f i (c .before .before .before .before .before .before .before .before .before .before .before .before .before .before .before .before .before .before .before .before .args .out .now)),
+    p .0 ∙ Giving.two-tables A P _ _ w (k .0) _ (k .1) i,
+    (Giving.two-log A P _ _ w (k .0) _ (k .1) i _ _ (c .before .before .before .before .before .before .before .before .before .before .before .before .before .before .before .before .before .before .args .log .now) _ refl refl (p .1), Giving.two-out A P _ _ w (k .0) i (c .before .before .before .before .before .before .before .before .before .before .before .before .before .before .before .before .before .before .args .out .now)),
   ),
 )
 
@@ -97,7 +92,8 @@ add-log-one : tie.Need-add-log-one
 add-log-one c = search needs
 
 log-one-requires : tie.Need-log-one-requires
-log-one-requires c κs = Giving.one-room (c .before .before .before .before .before .before .before .before .before .before .before .before .before .before .before .pre .0) (c .before .before .before .before .before .before .before .before .before .before .before .before .before .before .before .pre .1) _ _ (c .before .before .before .before .before .before .before .before .before .before .wide .ensures) (c .before .before .before .before .before .before .before .before .frees-on .ensures) _ (c .before .before .before .before .before .before .fill-page .ensures) (c .before .before .if1 .left) (c .before .before .before .before .before .before .before .before .before .before .before .before .before .before .before .args .log .now) (c .before .before .before .before .before .before .before .before .before .before .before .before .before .before .before .pre .2) (c .before .before .before .before .before .before .before .before .before .before .before .before .before .before .before .pre .3)
+log-one-requires c κs = let k = c .before .before .before .before .before .before .fill-page .ensures in
+    Giving.one-room (c .before .before .before .before .before .before .before .before .before .before .before .before .before .pre .0) (c .before .before .before .before .before .before .before .before .before .before .before .before .before .pre .1) _ _ (c .before .before .before .before .before .before .before .before .wide .ensures) (k .0) _ (k .1) (c .before .before .if1 .left) (c .before .before .before .before .before .before .before .before .before .before .before .before .before .args .log .now) (c .before .before .before .before .before .before .before .before .before .before .before .before .before .pre .2) (c .before .before .before .before .before .before .before .before .before .before .before .before .before .pre .3)
 
 same-length-4 : tie.Need-same-length-4
 same-length-4 c = search needs
@@ -109,11 +105,11 @@ same-length-6 : tie.Need-same-length-6
 same-length-6 c = search needs
 
 returns-2 : tie.Need-returns-2
-returns-2 c = let A = c .before .before .before .before .before .before .before .before .before .before .before .before .before .before .before .before .before .before .before .before .pre .0 in let P = c .before .before .before .before .before .before .before .before .before .before .before .before .before .before .before .before .before .before .before .before .pre .1 in let w = c .before .before .before .before .before .before .before .before .before .before .before .before .before .before .before .wide .ensures in let f = c .before .before .before .before .before .before .before .before .before .before .before .before .before .frees-on .ensures in let p = c .before .before .before .before .before .before .before .before .before .before .before .fill-page .ensures in let i = c .before .before .before .before .before .before .before .if1 .left in (
-  Giving.one-count A P _ _ w f i,
+returns-2 c = let A = c .before .before .before .before .before .before .before .before .before .before .before .before .before .before .before .before .before .before .pre .0 in let P = c .before .before .before .before .before .before .before .before .before .before .before .before .before .before .before .before .before .before .pre .1 in let w = c .before .before .before .before .before .before .before .before .before .before .before .before .before .wide .ensures in let k = c .before .before .before .before .before .before .before .before .before .before .before .fill-page .ensures in let i = c .before .before .before .before .before .before .before .if1 .left in let p = c .before .before .before .before .log-one .ensures in (
+  Giving.one-count A P _ _ w (k .0) i,
   (
-    c .before .before .before .before .log-one .ensures .0 ∙ Giving.one-tables A P _ _ w f _ p i,
-    (Giving.one-log A P _ _ w f _ p i _ (c .before .before .before .before .before .before .before .before .before .before .before .before .before .before .before .before .before .before .before .before .args .log .now) _ refl (c .before .before .before .before .log-one .ensures .1), Giving.one-out A P _ _ w f i (c .before .before .before .before .before .before .before .before .before .before .before .before .before .before .before .before .before .before .before .before .args .out .now)),
+    p .0 ∙ Giving.one-tables A P _ _ w (k .0) _ (k .1) i,
+    (Giving.one-log A P _ _ w (k .0) _ (k .1) i _ (c .before .before .before .before .before .before .before .before .before .before .before .before .before .before .before .before .before .before .args .log .now) _ refl (p .1), Giving.one-out A P _ _ w (k .0) i (c .before .before .before .before .before .before .before .before .before .before .before .before .before .before .before .before .before .before .args .out .now)),
   ),
 )
 
@@ -124,11 +120,9 @@ write-page-spec =
     mul-wide
     add-wide
     add-wide-2
-    add-wide-3
     mul-wide-2
     slice-read-wide
     wide-requires
-    frees-on-requires
     fill-page-requires
     mul-b
     add-b

@@ -31,12 +31,6 @@ mul-if4 c = search needs
 add-if4 : tie.Need-add-if4
 add-if4 c = search needs
 
-add-if4-2 : tie.Need-add-if4-2
-add-if4-2 c = search needs
-
-mul-if4-2 : tie.Need-mul-if4-2
-mul-if4-2 c = search needs
-
 shared-slice-read-if4 : tie.Need-shared-slice-read-if4
 shared-slice-read-if4 c = search needs
 
@@ -89,10 +83,8 @@ write-verdict-spec =
     slot-of-requires
     returns-3
     sub-s
-    mul-if4
     add-if4
-    add-if4-2
-    mul-if4-2
+    mul-if4
     shared-slice-read-if4
     returns-4
     search-requires

@@ -1,0 +1,240 @@
+-- The blocks of a record that its pred has not on the same page, page by page.
+use mathlib.Core.Path.{_≡_, refl, sym, ap, ap₂, _∙_}
+use mathlib.Core.Bool.{Bool, true, _&&_}
+use mathlib.Core.List.{List, [], _∷_, _++_, append-nil}
+use Prim.Native.Nat.{ℕ, zero, suc, _+_, _-_, _*_, _≤_, _<_}
+use native.Mathlib.Omega.{arith}
+use lib.Dec.{eqb}
+use lib.ListN.{length, getD, set, length-append}
+use lib.Seq.{sets}
+use borrow.Author.Tests.{eqb-true, eq-eqb, ne-eqb}
+use Rattle.answer.proofs.Cases.{cases, same?, lt?}
+use Rattle.geometry.specs.declared.Geometry.{Geometry}
+use Rattle.model.specs.Table.{via, firstLink}
+use Rattle.model.specs.Lists.{rows, onPage}
+use Rattle.model.specs.View.{View, parent, pageOf}
+use Rattle.model.specs.Check.{like?, ownAt}
+use Rattle.model.specs.Effects.{pruned}
+use Rattle.model.specs.Layout.{prevCell, baseCell, pageCell, viewOf}
+use Rattle.model.proofs.ListFacts.{rows-split, rows-snoc}
+use Rattle.model.proofs.CheckFacts.{pruned-own}
+use Rattle.model.proofs.DoneSound.{and-l, and-r}
+use Rattle.tables.specs.Ready.{Ready}
+use Rattle.tables.proofs.Fields
+use Rattle.tables.proofs.Ranges
+use Rattle.deleting.proofs.Buffers.{sets-last}
+
+-- ── the pred ──
+
+module _ {g : Geometry} {t : List ℕ} (R : Ready g t) (s : ℕ) (hs : s < g .records) (live : 0 < viewOf g t .num s) where
+  pub link-base : (prev : ℕ) → prev ≡ getD t (prevCell s) 0 → prev ≡ 0 → (base : ℕ) → base ≡ getD t (baseCell s) 0 → (base ≡ parent (viewOf g t) s) × (base ≤ g .records)
+  unfolding firstLink
+  link-base prev e z base d =
+      let b : base ≡ viewOf g t .base s = d ∙ sym (Fields.base-is g t s hs) in
+      (b ∙ sym (ap (λ l. firstLink l (viewOf g t .base s)) (Fields.prev-is g t s hs ∙ sym e ∙ z)), omega (arith, Ranges.base-le R s live))
+
+  first-some : (l m : ℕ) → (l ≡ 0 → ⊥) → l ≡ firstLink l m
+  unfolding firstLink
+  first-some zero m n = absurd (n refl)
+  first-some (suc l) m n = refl
+
+  pub link-prev : (prev : ℕ) → prev ≡ getD t (prevCell s) 0 → (prev ≡ 0 → ⊥) → (prev ≡ parent (viewOf g t) s) × (prev ≤ g .records)
+  link-prev prev e n =
+      let p : prev ≡ viewOf g t .prev s = e ∙ sym (Fields.prev-is g t s hs) in
+      (first-some prev (viewOf g t .base s) n ∙ ap (λ l. firstLink l (viewOf g t .base s)) p, omega (arith, Ranges.prev-le R s live))
+
+-- ── places from x up to y that agree ──
+
+module _ (f h : ℕ → ℕ) where
+  pub agree-none : (x : ℕ) → (z : ℕ) → x ≤ z → z < x → f z ≡ h z
+  agree-none x z l k = absurd (let e : ⊥ = omega arith in e)
+
+  pub agree-more : {x y : ℕ} → ((z : ℕ) → x ≤ z → z < y → f z ≡ h z) → f y ≡ h y → (z : ℕ) → x ≤ z → z < y + 1 → f z ≡ h z
+  agree-more {x} {y} a e z l k = cases (same? z y) (λ d. rw d e) (λ d. a z l (omega arith))
+
+  -- they agree at y, and from there up to w
+  pub agree-on : {x y w : ℕ} → ((z : ℕ) → x ≤ z → z < y → f z ≡ h z) → f y ≡ h y → ((z : ℕ) → y + 1 ≤ z → z < w → f z ≡ h z) →
+      (z : ℕ) → x ≤ z → z < w → f z ≡ h z
+  agree-on {x} {y} {w} a e m z l k = cases (lt? z (y + 1)) (λ d. agree-more a e z l d) (λ d. m z d k)
+
+-- eight tests, all true
+module _ (e₀ e₁ e₂ e₃ e₄ e₅ e₆ e₇ : Bool) where
+  abbrev a₁ : Bool
+  a₁ = e₀ && e₁
+
+  abbrev a₂ : Bool
+  a₂ = a₁ && e₂
+
+  abbrev a₃ : Bool
+  a₃ = a₂ && e₃
+
+  abbrev a₄ : Bool
+  a₄ = a₃ && e₄
+
+  abbrev a₅ : Bool
+  a₅ = a₄ && e₅
+
+  abbrev a₆ : Bool
+  a₆ = a₅ && e₆
+
+  each : ((((((((e₀ && e₁) && e₂) && e₃) && e₄) && e₅) && e₆) && e₇) ≡ true) →
+      (e₀ ≡ true) × (e₁ ≡ true) × (e₂ ≡ true) × (e₃ ≡ true) × (e₄ ≡ true) × (e₅ ≡ true) × (e₆ ≡ true) × (e₇ ≡ true)
+  each q₇ =
+      let q₆ : a₆ ≡ true = and-l a₆ e₇ q₇ in
+      let q₅ : a₅ ≡ true = and-l a₅ e₆ q₆ in
+      let q₄ : a₄ ≡ true = and-l a₄ e₅ q₅ in
+      let q₃ : a₃ ≡ true = and-l a₃ e₄ q₄ in
+      let q₂ : a₂ ≡ true = and-l a₂ e₃ q₃ in
+      let q₁ : a₁ ≡ true = and-l a₁ e₂ q₂ in
+      (and-l e₀ e₁ q₁, and-r e₀ e₁ q₁, and-r a₁ e₂ q₂, and-r a₂ e₃ q₃, and-r a₃ e₄ q₄, and-r a₄ e₅ q₅, and-r a₅ e₆ q₆, and-r a₆ e₇ q₇)
+
+-- eight numbers from a and from b on
+module _ (t : List ℕ) (a b : ℕ) where
+  abbrev like : ℕ → ℕ → Bool
+  like i j = eqb (getD t i 0) (getD t j 0)
+
+  is : (y i j : ℕ) → a + y ≡ i → b + y ≡ j → like i j ≡ true → getD t (a + y) 0 ≡ getD t (b + y) 0
+  is y i j e d q = ap (λ k. getD t k 0) e ∙ eqb-true (getD t i 0) (getD t j 0) q ∙ sym (ap (λ k. getD t k 0) d)
+
+  pub eight :
+      ((((((((eqb (getD t a 0) (getD t b 0) && eqb (getD t (a + 1) 0) (getD t (b + 1) 0)) && eqb (getD t (a + 2) 0) (getD t (b + 2) 0)) &&
+      eqb (getD t (a + 3) 0) (getD t (b + 3) 0)) && eqb (getD t (a + 4) 0) (getD t (b + 4) 0)) && eqb (getD t (a + 5) 0) (getD t (b + 5) 0)) &&
+      eqb (getD t (a + 6) 0) (getD t (b + 6) 0)) && eqb (getD t (a + 7) 0) (getD t (b + 7) 0)) ≡ true) →
+      (y : ℕ) → y < 8 → getD t (a + y) 0 ≡ getD t (b + y) 0
+  eight q y h =
+      let w = each (like a b) (like (a + 1) (b + 1)) (like (a + 2) (b + 2)) (like (a + 3) (b + 3)) (like (a + 4) (b + 4)) (like (a + 5) (b + 5)) (like (a + 6) (b + 6)) (like (a + 7) (b + 7)) q in
+      cases (lt? y 1) (λ l. is y a b (omega arith) (omega arith) (w .0)) (λ l₁.
+      cases (lt? y 2) (λ l. is y (a + 1) (b + 1) (omega arith) (omega arith) (w .1)) (λ l₂.
+      cases (lt? y 3) (λ l. is y (a + 2) (b + 2) (omega arith) (omega arith) (w .2)) (λ l₃.
+      cases (lt? y 4) (λ l. is y (a + 3) (b + 3) (omega arith) (omega arith) (w .3)) (λ l₄.
+      cases (lt? y 5) (λ l. is y (a + 4) (b + 4) (omega arith) (omega arith) (w .4)) (λ l₅.
+      cases (lt? y 6) (λ l. is y (a + 5) (b + 5) (omega arith) (omega arith) (w .5)) (λ l₆.
+      cases (lt? y 7) (λ l. is y (a + 6) (b + 6) (omega arith) (omega arith) (w .6))
+      (λ l₇. is y (a + 7) (b + 7) (omega arith) (omega arith) (w .7))))))))
+
+  -- eight places more
+  pub agree-eight : {x y : ℕ} → ((z : ℕ) → x ≤ z → z < y → getD t (a + z) 0 ≡ getD t (b + z) 0) →
+      ((k : ℕ) → k < 8 → getD t (a + y + k) 0 ≡ getD t (b + y + k) 0) → (z : ℕ) → x ≤ z → z < y + 8 → getD t (a + z) 0 ≡ getD t (b + z) 0
+  agree-eight {x} {y} m e z l k =
+      cases (lt? z y)
+      (λ d. m z l d)
+      (λ d.
+      ap (λ i. getD t i 0) (let w : a + z ≡ a + y + (z - y) = omega arith in w) ∙ e (z - y) (omega arith) ∙
+      ap (λ i. getD t i 0) (let w : b + y + (z - y) ≡ b + z = omega arith in w))
+
+-- rows of tables as pages of records: the record of slot s, and the one behind a link
+module _ (g : Geometry) (t : List ℕ) (s : ℕ) (hs : s < g .records) where
+  via-none : (link x : ℕ) → link ≡ 0 → pageOf (viewOf g t) link x ≡ 0
+  unfolding via
+  via-none link x e = rw e
+
+  via-some : (link x : ℕ) → (link ≡ 0 → ⊥) → pageOf (viewOf g t) link x ≡ viewOf g t .page (link - 1) x
+  unfolding via
+  via-some zero x n = absurd (n refl)
+  via-some (suc p) x n = ap (λ q. viewOf g t .page q x) (omega arith)
+
+  module _ (link : ℕ) (none : link ≡ 0) (r : ℕ) (hr : r ≤ g .pages) where
+    pub none-like : (x : ℕ) → ((y : ℕ) → x ≤ y → y < r → getD t (2048 + 256 * s + y) 0 ≡ 0) →
+        (y : ℕ) → x ≤ y → y < r → viewOf g t .page s y ≡ pageOf (viewOf g t) link y
+    none-like x h y l k = Fields.page-is g t s y hs (omega arith) ∙ h y l k ∙ sym (via-none link y none)
+
+    pub none-own : (r < g .pages → getD t (2048 + 256 * s + r) 0 ≡ 0 → ⊥) → r < g .pages → viewOf g t .page s r ≡ pageOf (viewOf g t) link r → ⊥
+    none-own h l e = h l (sym (Fields.page-is g t s r hs l) ∙ e ∙ via-none link r none)
+
+  module _ (link : ℕ) (some : link ≡ 0 → ⊥) (hl : link ≤ g .records) (r : ℕ) (hr : r ≤ g .pages) where
+    there : (y : ℕ) → y < g .pages → pageOf (viewOf g t) link y ≡ getD t (pageCell (link - 1) y) 0
+    there y l = via-some link y some ∙ Fields.page-is g t (link - 1) y (let z : 0 < link = omega arith in omega arith) l
+
+    pub some-like : (x : ℕ) → ((y : ℕ) → x ≤ y → y < r → getD t (2048 + 256 * s + y) 0 ≡ getD t (2048 + 256 * (link - 1) + y) 0) →
+        (y : ℕ) → x ≤ y → y < r → viewOf g t .page s y ≡ pageOf (viewOf g t) link y
+    some-like x h y l k = Fields.page-is g t s y hs (omega arith) ∙ h y l k ∙ sym (there y (omega arith))
+
+    pub some-own : (r < g .pages → getD t (2048 + 256 * s + r) 0 ≡ getD t (2048 + 256 * (link - 1) + r) 0 → ⊥) →
+        r < g .pages → viewOf g t .page s r ≡ pageOf (viewOf g t) link r → ⊥
+    some-own h l e = h l (sym (Fields.page-is g t s r hs l) ∙ e ∙ there r l)
+
+-- ── lists of which many are empty ──
+
+module _ (f : ℕ → List ℕ) where
+  rows-none : (n i : ℕ) → ((y : ℕ) → i ≤ y → y < i + n → f y ≡ []) → rows f i n ≡ []
+  unfolding rows
+  rows-none zero i h = refl
+  rows-none (suc n) i h =
+      ap₂ (λ (x y : List ℕ). x ++ y) (h i (omega arith) (omega arith)) (rows-none n (suc i) (λ y l k. h y (omega arith) (omega arith)))
+
+  rows-next : (x y : ℕ) → x + 1 ≤ y → ((z : ℕ) → x + 1 ≤ z → z < y → f z ≡ []) → rows f 0 y ≡ rows f 0 x ++ f x
+  rows-next x y l h =
+      ap (rows f 0) (let z : y ≡ suc x + (y - suc x) = omega arith in z) ∙ rows-split f (suc x) (y - suc x) 0 ∙
+      ap (λ (m : List ℕ). rows f 0 (suc x) ++ m) (rows-none (y - suc x) (0 + suc x) (λ z a b. h z (omega arith) (omega arith))) ∙
+      append-nil (rows f 0 (suc x)) ∙ rows-snoc f x 0 ∙ ap (λ j. rows f 0 x ++ f j) (let z : 0 + x ≡ x = omega arith in z)
+
+  rows-le : (x y : ℕ) → x ≤ y → length (rows f 0 x) ≤ length (rows f 0 y)
+  rows-le x y l =
+      omega (
+        arith,
+        ap (λ j. length (rows f 0 j)) (let z : y ≡ x + (y - x) = omega arith in z),
+        ap length (rows-split f x (y - x) 0),
+        length-append (rows f 0 x) (rows f (0 + x) (y - x)),
+      )
+
+-- ── the walk ──
+
+module _ {g : Geometry} {t : List ℕ} (R : Ready g t) (s : ℕ) (live : 0 < viewOf g t .num s) where
+  abbrev K : View
+  K = viewOf g t
+
+  abbrev own : ℕ → List ℕ
+  own = ownAt (viewOf g t) s
+
+  -- the blocks of the first x pages
+  abbrev pub owned : ℕ → List ℕ
+  owned x = rows (ownAt (viewOf g t) s) 0 x
+
+  pub owned-all : (x : ℕ) → x ≤ g .pages → g .pages ≤ x → owned x ≡ pruned (viewOf g t) s (g .pages)
+  owned-all x h k = ap (rows own 0) (let z : x ≡ g .pages = omega arith in z) ∙ sym (pruned-own K (Ranges.sound R) s live (g .pages))
+
+  module _ (link : ℕ) (el : link ≡ parent (viewOf g t) s) where
+    like-none : (y : ℕ) → K .page s y ≡ pageOf K link y → own y ≡ []
+    unfolding ownAt like?
+    like-none y e = rw (eq-eqb (K .page s y) (pageOf K (parent K s) y) (e ∙ ap (λ l. pageOf K l y) el))
+
+    own-is : (y : ℕ) → (K .page s y ≡ pageOf K link y → ⊥) → own y ≡ onPage (K .page s y)
+    unfolding ownAt like?
+    own-is y n = rw (ne-eqb (K .page s y) (pageOf K (parent K s) y) (λ e. n (e ∙ ap (λ l. pageOf K l y) (sym el))))
+
+    pub owned-start : (x : ℕ) → ((y : ℕ) → 0 ≤ y → y < x → viewOf g t .page s y ≡ pageOf (viewOf g t) link y) → owned x ≡ []
+    owned-start x h = rows-none own x 0 (λ y l k. like-none y (h y l (omega arith)))
+
+    -- page x differs, and those up to y do not; v is its link
+    module _ (x y v : ℕ) (hv : v ≡ viewOf g t .page s x) (differs : viewOf g t .page s x ≡ pageOf (viewOf g t) link x → ⊥)
+        (l : x + 1 ≤ y) (same : (z : ℕ) → x + 1 ≤ z → z < y → viewOf g t .page s z ≡ pageOf (viewOf g t) link z) where
+      next : owned y ≡ owned x ++ onPage v
+      next =
+          rows-next own x y l (λ z a b. like-none z (same z a b)) ∙ ap (λ (m : List ℕ). owned x ++ m) (own-is x differs) ∙
+          ap (λ w. owned x ++ onPage w) (sym hv)
+
+      pub owned-none : v ≡ 0 → owned y ≡ owned x
+      unfolding onPage
+      owned-none z = next ∙ ap (λ w. owned x ++ onPage w) z ∙ append-nil (owned x)
+
+      pub owned-one : (v ≡ 0 → ⊥) → owned y ≡ owned x ++ ((v - 1) ∷ [])
+      unfolding onPage
+      owned-one n = next ∙ ap (λ w. owned x ++ onPage w) (let z : v ≡ suc (v - 1) = (let w : 0 < v = omega arith in omega arith) in z)
+
+      pub count-one : (v ≡ 0 → ⊥) → (c : ℕ) → c ≡ length (owned x) → c + 1 ≡ length (owned y)
+      count-one n c e = omega (arith, ap length (owned-one n), length-append (owned x) ((v - 1) ∷ []))
+
+      pub out-one : (v ≡ 0 → ⊥) → (c : ℕ) → c ≡ length (owned x) → (o₀ o : List ℕ) → o ≡ sets o₀ 0 (owned x) → set o c (v - 1) ≡ sets o₀ 0 (owned y)
+      out-one n c e o₀ o eo =
+          ap (λ (u : List ℕ). set u c (v - 1)) eo ∙ sets-last o₀ 0 (owned x) (v - 1) c (omega arith) ∙ ap (sets o₀ 0) (sym (owned-one n))
+
+    -- room for the block of page x
+    pub owned-room : (x v : ℕ) → x < g .pages → v ≡ viewOf g t .page s x → (v ≡ 0 → ⊥) → (viewOf g t .page s x ≡ pageOf (viewOf g t) link x → ⊥) →
+        (c : ℕ) → c ≡ length (owned x) → c < length (pruned (viewOf g t) s (g .pages))
+    owned-room x v h hv n differs c e =
+        omega (
+          arith,
+          count-one x (x + 1) v hv differs (omega arith) (λ z a b. absurd (let w : ⊥ = omega arith in w)) n c e,
+          rows-le own (x + 1) (g .pages) (omega arith),
+          ap length (pruned-own K (Ranges.sound R) s live (g .pages)),
+        )

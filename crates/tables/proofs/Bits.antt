@@ -1,0 +1,106 @@
+-- The stores of a birth and its bit, as the code writes them, and what the bit makes of a free word.
+use mathlib.Core.Path.{_≡_, sym, ap, _∙_}
+use mathlib.Core.Bool.{Bool, false, not, _&&_, _||_, and-true, and-false, or-true, or-false}
+use mathlib.Core.List.{List}
+use Prim.Native.Nat.{ℕ, _+_, _-_, _*_, _/_, _%_, _^_, _≤_, _<_, min}
+use native.Mathlib.Nat.{lt-of-lt-of-le, lt-of-le-of-lt}
+use native.Mathlib.Omega.{arith}
+use lib.Bits.{bitAnd, bitOr, and-le-l, or-lt}
+use lib.Dec.{eqb}
+use lib.ListN.{getD, set}
+use lib.Pow.{pow-lt, pow-mono}
+use borrow.Author.Tests.{eq-eqb, ne-eqb}
+use Rattle.answer.proofs.Cases.{cases, same?, lt?}
+use Rattle.choice.specs.Words.{bit, wordOf}
+use Rattle.choice.proofs.Bit.{bit-or, bit-and, bit-not, bit-one, bit-high, bit-ext}
+use Rattle.choice.proofs.Births.{word-lt, word-bit}
+use Rattle.model.specs.Table.{put}
+use Rattle.model.specs.View.{View, withBirth}
+use Rattle.model.specs.Held.{available}
+use Rattle.model.specs.Layout.{freeCell, birthCell, freeWord}
+use Rattle.model.proofs.TabFacts.{put-at, put-other}
+use Rattle.tables.specs.Births.{gave, freed}
+
+low : (b : ℕ) → b % 32 < 32
+low b = omega arith
+
+-- ── as the code writes them ──
+
+-- x is the block's bit, alone in its word
+module _ (R : ℕ) (t : List ℕ) (b x : ℕ) (e : x ≡ 2 ^ (b % 32)) where
+  pub gave-is : (v : ℕ) → set (set t (birthCell R b) v) (freeCell (b / 32)) (bitAnd (getD t (freeCell (b / 32)) 0) (2 ^ 32 - 1 - x)) ≡ gave R t b v
+  unfolding gave
+  gave-is v = ap (λ (y : ℕ). set (set t (birthCell R b) v) (freeCell (b / 32)) (bitAnd (getD t (freeCell (b / 32)) 0) (2 ^ 32 - 1 - y))) e
+
+  pub freed-is : set (set t (birthCell R b) 0) (freeCell (b / 32)) (bitOr (getD t (freeCell (b / 32)) 0) x) ≡ freed R t b
+  unfolding freed
+  freed-is = ap (λ (y : ℕ). set (set t (birthCell R b) 0) (freeCell (b / 32)) (bitOr (getD t (freeCell (b / 32)) 0) y)) e
+
+-- ── the word of the block ──
+
+-- two numbers of one word are one where their bits are
+same-place : (b k : ℕ) → k < 32 → eqb k (b % 32) ≡ eqb (32 * (b / 32) + k) b
+same-place b k h =
+    cases (same? k (b % 32))
+    (λ e. eq-eqb k (b % 32) e ∙ sym (eq-eqb (32 * (b / 32) + k) b (omega arith)))
+    (λ d. ne-eqb k (b % 32) d ∙ sym (ne-eqb (32 * (b / 32) + k) b (λ e. d (omega arith))))
+
+-- a word of n ≤ 32 tests p, of which another test q differs at b alone
+module _ (p q : ℕ → Bool) (n b : ℕ) (short : n ≤ 32) (inside : b % 32 < n) where
+  abbrev i : ℕ
+  i = 32 * (b / 32)
+
+  under : (r : ℕ → Bool) → wordOf r i n < 2 ^ 32
+  under r = lt-of-lt-of-le (word-lt r i n) (pow-mono short)
+
+  -- the bits of a word, beyond its tests too
+  bit-of : (r : ℕ → Bool) (k : ℕ) (v : Bool) → (k < n → r (i + k) ≡ v) → (n ≤ k → false ≡ v) → bit (wordOf r i n) k ≡ v
+  bit-of r k v y z =
+      cases (lt? k n)
+      (λ l. word-bit r i n k l ∙ y l)
+      (λ l. bit-high n (wordOf r i n) k (word-lt r i n) l ∙ z l)
+
+  off : (k : ℕ) → n ≤ k → eqb k (b % 32) ≡ false
+  off k l = ne-eqb k (b % 32) (λ e. let z : ⊥ = omega arith in z)
+
+  pub word-with : ((c : ℕ) → q c ≡ (p c || eqb c b)) → bitOr (wordOf p i n) (2 ^ (b % 32)) ≡ wordOf q i n
+  word-with h =
+      bit-ext 32 _ _ (or-lt 32 (wordOf p i n) (2 ^ (b % 32)) (under p) (pow-lt (low b))) (under q) (λ k l.
+      bit-or k (wordOf p i n) (2 ^ (b % 32)) ∙ ap (λ (x : Bool). bit (wordOf p i n) k || x) (bit-one (b % 32) k) ∙
+      sym (bit-of q k (bit (wordOf p i n) k || eqb k (b % 32))
+      (λ m. h (i + k) ∙ ap (λ (x : Bool). p (i + k) || x) (sym (same-place b k l)) ∙
+      ap (λ (x : Bool). x || eqb k (b % 32)) (sym (word-bit p i n k m)))
+      (λ m. sym (ap (λ (x : Bool). bit (wordOf p i n) k || x) (off k m) ∙ or-false (bit (wordOf p i n) k) ∙ bit-high n (wordOf p i n) k (word-lt p i n) m))))
+
+  pub word-without : ((c : ℕ) → q c ≡ (p c && not (eqb c b))) → bitAnd (wordOf p i n) (2 ^ 32 - 1 - 2 ^ (b % 32)) ≡ wordOf q i n
+  word-without h =
+      bit-ext 32 _ _ (lt-of-le-of-lt (and-le-l (wordOf p i n) (2 ^ 32 - 1 - 2 ^ (b % 32))) (under p)) (under q) (λ k l.
+      bit-and k (wordOf p i n) (2 ^ 32 - 1 - 2 ^ (b % 32)) ∙
+      ap (λ (x : Bool). bit (wordOf p i n) k && x) (bit-not 32 (2 ^ (b % 32)) k (pow-lt (low b)) l ∙ ap not (bit-one (b % 32) k)) ∙
+      sym (bit-of q k (bit (wordOf p i n) k && not (eqb k (b % 32)))
+      (λ m. h (i + k) ∙ ap (λ (x : Bool). p (i + k) && not x) (sym (same-place b k l)) ∙
+      ap (λ (x : Bool). x && not (eqb k (b % 32))) (sym (word-bit p i n k m)))
+      (λ m. sym (ap (λ (x : Bool). x && not (eqb k (b % 32))) (bit-high n (wordOf p i n) k (word-lt p i n) m)))))
+
+-- ── the free word of a view with another birth of b ──
+
+module _ (K : View) (b : ℕ) (inside : b < K .blocks) where
+  abbrev n : ℕ
+  n = min 32 (K .blocks - 32 * (b / 32))
+
+  pub word-freed : bitOr (freeWord K (b / 32)) (2 ^ (b % 32)) ≡ freeWord (withBirth K (put (K .birth) b 0)) (b / 32)
+  unfolding freeWord available
+  word-freed =
+      word-with (λ c. eqb (K .birth c) 0) (λ c. eqb (put (K .birth) b 0 c) 0) n b (omega arith) (omega arith) (λ c.
+      cases (same? c b)
+      (λ e. rw (put-at (K .birth) b 0 c e, eq-eqb c b e) (sym (or-true (eqb (K .birth c) 0))))
+      (λ d. rw (put-other (K .birth) b 0 c d, ne-eqb c b d) (sym (or-false (eqb (K .birth c) 0)))))
+
+  pub word-given : (v : ℕ) → 0 < v →
+      bitAnd (freeWord K (b / 32)) (2 ^ 32 - 1 - 2 ^ (b % 32)) ≡ freeWord (withBirth K (put (K .birth) b v)) (b / 32)
+  unfolding freeWord available
+  word-given v h =
+      word-without (λ c. eqb (K .birth c) 0) (λ c. eqb (put (K .birth) b v c) 0) n b (omega arith) (omega arith) (λ c.
+      cases (same? c b)
+      (λ e. rw (put-at (K .birth) b v c e, eq-eqb c b e, ne-eqb v 0 (λ z. let y : ⊥ = omega arith in y)) (sym (and-false (eqb (K .birth c) 0))))
+      (λ d. rw (put-other (K .birth) b v c d, ne-eqb c b d) (sym (and-true (eqb (K .birth c) 0)))))
