@@ -7,7 +7,7 @@ use Prim.Native.Nat.{ℕ}
 use lib.ListN.{length}
 use native.Mathlib.Omega.{arith}
 use Rattle.answer.specs.Reply.{Reply, accepted, refused}
-use Rattle.answer.specs.Refusal.{Condition, decide, Ordered}
+use Rattle.answer.specs.Refusal.{Condition, decide, place, Ordered}
 use Rattle.answer.proofs.Decided.{decide-accepted, decide-refused, none-in}
 use Rattle.geometry.specs.declared.Geometry.{Geometry}
 use Rattle.geometry.specs.Limits.{fits}
@@ -23,7 +23,7 @@ module _ (cs : List Condition) (l : List ℕ) (ordered : Ordered 1 cs) where
   done : (R : Reply) → decide cs l ≡ R → codeOf R ≡ 0 → decide cs l ≡ accepted l
   unfolding codeOf
   done (accepted m) e z = e ∙ ap accepted (sym (decide-accepted cs l m e .1))
-  done (refused n) e z = absurd (none-in 1 n (omega (arith, z)) cs ordered (decide-refused cs l 1 n ordered e .0))
+  done (refused n) e z = absurd (none-in 1 n (omega (arith, ap place z)) cs ordered (decide-refused cs l 1 n ordered e .0))
 
   coded-0 : decide cs l ≡ accepted l → codeOf (decide cs l) ≡ 0
   unfolding codeOf

@@ -1,169 +1,105 @@
--- Each clause of the test, from the numbers that were read. `it`, `kin`, `block` are rows as they were read.
+-- Each clause of the test, from the numbers that were read.
 use mathlib.Core.Path.{_≡_, refl, sym, ap, _∙_}
 use mathlib.Core.Bool.{Bool, true, false, not, _&&_, _||_}
 use mathlib.Core.List.{List}
-use Prim.Native.Nat.{ℕ, zero, suc, _+_, _-_}
-use native.Mathlib.Numerals.{add-one}
+use Prim.Native.Nat.{ℕ, zero, suc, _-_, _<_}
 use native.Mathlib.Omega.{arith}
 use lib.Dec.{eqb, ltb, leb}
 use lib.ListN.{getD}
-use borrow.Author.Tests.{lt-ltb, le-ltb, eq-eqb, ne-eqb}
-use Rattle.model.specs.Table.{all, via}
-use Rattle.model.specs.View.{View, parent, predNum, baseNum, pageOf}
+use borrow.Author.Tests.{lt-ltb, le-ltb, ne-eqb}
+use Rattle.geometry.specs.declared.Geometry.{Geometry}
+use Rattle.geometry.specs.Limits.{blocks}
 use Rattle.log.specs.Marks.{heldIn}
+use Rattle.model.specs.Table.{all}
+use Rattle.model.specs.View.{View}
 use Rattle.model.specs.Held.{held}
-use Rattle.model.specs.Memory.{same}
-use Rattle.model.specs.Check.{imp, order?, prev?, base?, two?, page?, dies?, block?, died?}
-use Rattle.soundness.specs.Rows.{recordAt, blockAt, kinOf}
-use Rattle.soundness.specs.Light.{lightPage?, lightSlot?}
-use Rattle.soundness.specs.declared.read.Record.{Record}
-use Rattle.soundness.specs.declared.read.Block.{Block}
-use Rattle.soundness.specs.declared.pages.Kin.{Kin}
-
--- a clause of a row that is in use: it is not, it is
-pub unused : {n m : ℕ} (q : Bool) → m ≡ n → m ≡ 0 → true ≡ imp (ltb 0 n) q
-unfolding imp
-unused {n} {m} q e z = let h : ltb 0 n ≡ false = le-ltb 0 n (omega arith) in rw h
-
-pub in-use : {n m : ℕ} {q r : Bool} → m ≡ n → (m ≡ 0 → ⊥) → r ≡ q → r ≡ imp (ltb 0 n) q
-unfolding imp
-in-use {n} {m} e z h = let p : ltb 0 n ≡ true = lt-ltb 0 n (omega arith) in rw p h
+use Rattle.model.specs.Layout.{numCell, prevCell, birthCell, viewOf}
+use Rattle.model.specs.Check.{imp, same, prev?, base?, two?}
+use Rattle.tables.proofs.Fields
+use Rattle.soundness.specs.Pairs.{linkedTo?}
+use Rattle.soundness.proofs.Loops.{all-same}
 
 module _ (K : View) (s : ℕ) where
-  -- ── records ──
+  -- ── the record behind a link ──
 
-  prev-of : (l : ℕ) → (l ≡ 0 → ⊥) →
-      ltb 0 (K .num (l - 1)) && eqb (K .isOpen (l - 1)) 0 && ltb (K .num (l - 1)) (K .num s) && eqb (K .base (l - 1)) (K .base s) &&
-      eqb (K .line (l - 1)) (K .line s) ≡ prev? K s l
-  unfolding prev?
-  prev-of zero n = absurd (n refl)
-  prev-of (suc p) n = let e : suc p - 1 ≡ p = omega arith in rw e
+  pub base-none : {l : ℕ} → l ≡ 0 → true ≡ base? K s l
+  unfolding base?
+  base-none z = rw z
 
   base-of : (l : ℕ) → (l ≡ 0 → ⊥) → ltb 0 (K .num (l - 1)) && eqb (K .isOpen (l - 1)) 0 && ltb (K .num (l - 1)) (K .num s) ≡ base? K s l
   unfolding base?
   base-of zero n = absurd (n refl)
   base-of (suc p) n = let e : suc p - 1 ≡ p = omega arith in rw e
 
-  module _ {it : Record} (h : it ≡ recordAt K s) where
-    pub prev-none : it .prev ≡ 0 → true ≡ prev? K s (K .prev s)
+  pub base-some : (l : ℕ) {older opened number : ℕ} → (l ≡ 0 → ⊥) → older ≡ K .num (l - 1) → opened ≡ K .isOpen (l - 1) → number ≡ K .num s →
+      ltb 0 older && eqb opened 0 && ltb older number ≡ base? K s l
+  base-some l n a b c = rw (a, b, c) (base-of l n)
+
+  pub base-is : {l : ℕ} {r : Bool} → l ≡ K .base s → r ≡ base? K s l → r ≡ base? K s (K .base s)
+  base-is h e = e ∙ ap (base? K s) h
+
+  module _ {l : ℕ} (h : l ≡ K .prev s) where
+    pub prev-none : l ≡ 0 → true ≡ prev? K s (K .prev s)
     unfolding prev?
-    prev-none z = let e : K .prev s ≡ 0 = rw h at z in rw e
+    prev-none z = let e : K .prev s ≡ 0 = sym h ∙ z in rw e
 
-    pub prev-some : {p : Record} → (it .prev ≡ 0 → ⊥) → p ≡ recordAt K (it .prev - 1) →
-        ltb 0 (p .number) && eqb (p .opened) 0 && ltb (p .number) (it .number) && eqb (p .base) (it .base) && eqb (p .line) (it .line) ≡ prev? K s (K .prev s)
-    prev-some n e = rw (e, h) (prev-of (K .prev s) (rw h at n))
+    prev-of : (l : ℕ) → (l ≡ 0 → ⊥) → base? K s l && eqb (K .base (l - 1)) (K .base s) ≡ prev? K s l
+    unfolding prev? base?
+    prev-of zero n = absurd (n refl)
+    prev-of (suc p) n = let e : suc p - 1 ≡ p = omega arith in rw e
 
-    pub base-none : it .base ≡ 0 → true ≡ base? K s (K .base s)
-    unfolding base?
-    base-none z = let e : K .base s ≡ 0 = rw h at z in rw e
+    pub prev-some : {older : Bool} {before base : ℕ} → (l ≡ 0 → ⊥) → older ≡ base? K s l → before ≡ K .base (l - 1) → base ≡ K .base s →
+        older && eqb before base ≡ prev? K s (K .prev s)
+    prev-some n a b c = rw (a, b, c, h) (prev-of (K .prev s) (rw h at n))
 
-    pub base-some : {q : Record} → (it .base ≡ 0 → ⊥) → q ≡ recordAt K (it .base - 1) →
-        ltb 0 (q .number) && eqb (q .opened) 0 && ltb (q .number) (it .number) ≡ base? K s (K .base s)
-    base-some n e = rw (e, h) (base-of (K .base s) (rw h at n))
+  -- ── a slot: it is empty, it is in use ──
 
-    pub slot-none : it .number ≡ 0 → true ≡ imp (ltb 0 (K .num s)) (lightSlot? K s)
-    slot-none z = unused (lightSlot? K s) (ap (λ (r : Record). r .number) h) z
+  module _ {number : ℕ} (h : number ≡ K .num s) where
+    pub slot-none : number ≡ 0 → true ≡ imp (ltb 0 (K .num s)) (linkedTo? K s s)
+    unfolding imp
+    slot-none z = let e : ltb 0 (K .num s) ≡ false = le-ltb 0 (K .num s) (omega arith) in rw e
 
-    pub slot-some : {last : ℕ} {others prev base pages : Bool} → (it .number ≡ 0 → ⊥) → last ≡ K .last →
+    pub slot-some : {last : ℕ} {others prev base : Bool} → (number ≡ 0 → ⊥) → last ≡ K .last →
         others ≡ all s (λ k. imp (ltb 0 (K .num k)) (two? K s k)) → prev ≡ prev? K s (K .prev s) → base ≡ base? K s (K .base s) →
-        pages ≡ all (K .pages) (λ x. lightPage? K s x) →
-        leb (it .number) last && leb (it .line) (it .number) && others && prev && base && pages ≡ imp (ltb 0 (K .num s)) (lightSlot? K s)
-    unfolding lightSlot?
-    slot-some n a b c d e = in-use (ap (λ (r : Record). r .number) h) n (rw (a, b, c, d, e, h))
+        leb number last && others && prev && base ≡ imp (ltb 0 (K .num s)) (linkedTo? K s s)
+    unfolding imp linkedTo?
+    slot-some n a b c d = let p : ltb 0 (K .num s) ≡ true = lt-ltb 0 (K .num s) (omega arith) in rw (p, a, b, c, d, h)
 
-  -- ── pages ──
+-- ── numbers of the tables ──
 
-  page-of : (x l : ℕ) → (l ≡ 0 → ⊥) →
-      ltb (l - 1) (K .blocks) && ltb 0 (K .birth (l - 1)) && eqb (K .leaf (l - 1)) x && leb (K .birth (l - 1)) (K .num s) &&
-      (not (leb (K .birth (l - 1)) (predNum K s)) || eqb (pageOf K (parent K s) x) l) &&
-      (not (ltb (predNum K s) (K .birth (l - 1))) || eqb (K .home (l - 1)) s) ≡ page? K s x l
-  unfolding page? imp
-  page-of x zero n = absurd (n refl)
-  page-of x (suc b) n = let e : suc b - 1 ≡ b = omega arith in rw e
+-- slot k, if it is in use, has another number and follows another record
+abbrev pub apart? : List ℕ → ℕ → ℕ → ℕ → Bool
+apart? t number prev k =
+    imp (ltb 0 (getD t (numCell k) 0)) (not (eqb number (getD t (numCell k) 0)) && not (ltb 0 prev && eqb prev (getD t (prevCell k) 0)))
 
-  dies-of : (x l : ℕ) → (l ≡ 0 → ⊥) → (K .page s x ≡ l → ⊥) →
-      not (ltb (baseNum K s) (K .birth (l - 1))) || eqb (K .dead (l - 1)) (s + 1) ≡ dies? K s x l
-  unfolding dies? imp
-  dies-of x zero n d = absurd (n refl)
-  dies-of x (suc b) n d = let e : suc b - 1 ≡ b = omega arith in rw (ne-eqb (K .page s x) (suc b) d, add-one, e)
+-- what two slots may share only if they are one, they do not share
+never : (l a b : Bool) {c : Bool} → c ≡ false → imp l (not a && not b) ≡ imp l (imp a c && imp b c)
+unfolding imp
+never l a b {c} h = rw h (ap (λ (x : Bool). not l || x) (go a b))
+  where
+    go : (a b : Bool) → (not a && not b) ≡ ((not a || false) && (not b || false))
+    go true b = refl
+    go false true = refl
+    go false false = refl
 
-  pub dies-same : (x l : ℕ) → K .page s x ≡ l → true ≡ dies? K s x l
-  unfolding dies? imp
-  dies-same x zero e = refl
-  dies-same x (suc b) e = rw (eq-eqb (K .page s x) (suc b) e)
+module _ (g : Geometry) (t : List ℕ) where
+  two-is : (s k : ℕ) → s < g .records → k < s →
+      apart? t (getD t (numCell s) 0) (getD t (prevCell s) 0) k ≡ imp (ltb 0 (viewOf g t .num k)) (two? (viewOf g t) s k)
+  unfolding two?
+  two-is s k h i =
+      let l : k < g .records = omega arith in
+      rw (Fields.num-is g t s h, Fields.num-is g t k l, Fields.prev-is g t s h, Fields.prev-is g t k l)
+      (never (ltb 0 (getD t (numCell k) 0)) (eqb (getD t (numCell s) 0) (getD t (numCell k) 0))
+      (ltb 0 (getD t (prevCell s) 0) && eqb (getD t (prevCell s) 0) (getD t (prevCell k) 0)) (ne-eqb s k (λ d. let z : ⊥ = omega arith in z)))
 
-  module _ (x : ℕ) {link : ℕ} where
-    pub page-none : link ≡ K .page s x → link ≡ 0 → true ≡ page? K s x (K .page s x)
-    unfolding page?
-    page-none h z = let e : K .page s x ≡ 0 = sym h ∙ z in rw e
+  -- slot s, and all before it
+  pub others-are : (s : ℕ) {r : Bool} → s < g .records → r ≡ all s (apart? t (getD t (numCell s) 0) (getD t (prevCell s) 0)) →
+      r ≡ all s (λ k. imp (ltb 0 (viewOf g t .num k)) (two? (viewOf g t) s k))
+  others-are s h e = e ∙ all-same s _ _ (λ k l. two-is s k h l)
 
-    pub page-some : {kin : Kin} {block : Block} {above : ℕ} → kin ≡ kinOf K s → link ≡ K .page s x → (link ≡ 0 → ⊥) → block ≡ blockAt K (link - 1) →
-        above ≡ pageOf K (kin .pred) x →
-        ltb (link - 1) (K .blocks) && ltb 0 (block .birth) && eqb (block .leaf) x && leb (block .birth) (kin .number) &&
-        (not (leb (block .birth) (kin .older)) || eqb above link) && (not (ltb (kin .older) (block .birth)) || eqb (block .home) s)
-        ≡ page? K s x (K .page s x)
-    page-some k h n b a = rw (a, b, k, h) (page-of x (K .page s x) (rw h at n))
-
-    module _ {kin : Kin} (k : kin ≡ kinOf K s) (h : link ≡ pageOf K (kin .prev) x) where
-      behind : link ≡ pageOf K (K .prev s) x
-      behind = rw k at h
-
-      pub dies-none : link ≡ 0 → true ≡ dies? K s x (pageOf K (K .prev s) x)
-      unfolding dies?
-      dies-none z = let e : pageOf K (K .prev s) x ≡ 0 = sym behind ∙ z in rw e
-
-      pub dies-stays : {own : ℕ} → own ≡ K .page s x → own ≡ link → true ≡ dies? K s x (pageOf K (K .prev s) x)
-      dies-stays e d = dies-same x (pageOf K (K .prev s) x) (sym e ∙ d ∙ behind)
-
-      pub dies-some : {own : ℕ} {block : Block} → (link ≡ 0 → ⊥) → own ≡ K .page s x → (own ≡ link → ⊥) → block ≡ blockAt K (link - 1) →
-          not (ltb (kin .root) (block .birth)) || eqb (block .dead) (s + 1) ≡ dies? K s x (pageOf K (K .prev s) x)
-      dies-some n e d b =
-          rw (b, k, behind) (dies-of x (pageOf K (K .prev s) x) (λ z. n (behind ∙ z)) (λ z. d (e ∙ z ∙ sym behind)))
-
-  -- ── blocks: s is a block here ──
-
-  died-of : (l : ℕ) → (l ≡ 0 → ⊥) →
-      ltb 0 (K .num (l - 1)) && ltb (baseNum K (l - 1)) (K .birth s) && eqb (pageOf K (K .prev (l - 1)) (K .leaf s)) (s + 1) &&
-      not (eqb (K .page (l - 1) (K .leaf s)) (s + 1)) ≡ died? K s l
-  unfolding died?
-  died-of zero n = absurd (n refl)
-  died-of (suc n) h = let e : suc n - 1 ≡ n = omega arith in rw (add-one, e)
-
-  module _ {block : Block} (h : block ≡ blockAt K s) where
-    pub home-none : block .birth ≡ 0 → true ≡ imp (ltb 0 (K .birth s)) (block? K s)
-    home-none z = unused (block? K s) (ap (λ (r : Block). r .birth) h) z
-
-    pub home-some : {number link pred : ℕ} → (block .birth ≡ 0 → ⊥) → number ≡ K .num (block .home) → link ≡ K .page (block .home) (block .leaf) →
-        pred ≡ predNum K (block .home) →
-        ltb 0 number && eqb link (s + 1) && ltb (block .leaf) (K .pages) && ltb pred (block .birth) ≡ imp (ltb 0 (K .birth s)) (block? K s)
-    unfolding block?
-    home-some n a b c = in-use (ap (λ (r : Block). r .birth) h) n (rw (a, b, c, h, add-one))
-
-    pub owner-none : block .dead ≡ 0 → true ≡ died? K s (K .dead s)
-    unfolding died?
-    owner-none z = let e : K .dead s ≡ 0 = rw h at z in rw e
-
-    pub owner-some : {number base prev was is : ℕ} → (block .dead ≡ 0 → ⊥) → number ≡ K .num (block .dead - 1) → base ≡ baseNum K (block .dead - 1) →
-        prev ≡ K .prev (block .dead - 1) → was ≡ pageOf K prev (block .leaf) → is ≡ K .page (block .dead - 1) (block .leaf) →
-        ltb 0 number && ltb base (block .birth) && eqb was (s + 1) && not (eqb is (s + 1)) ≡ died? K s (K .dead s)
-    owner-some n a b c d e = rw (e, d, c, b, a, h) (died-of (K .dead s) (rw h at n))
-
-  pub row-is : (mark : ℕ) {home owner : Bool} {dead : ℕ} → home ≡ imp (ltb 0 (K .birth s)) (block? K s) → owner ≡ died? K s (K .dead s) → dead ≡ K .dead s →
-      home && owner && (not (ltb 0 dead) || ltb 0 mark) ≡
-      imp (ltb 0 (K .birth s)) (block? K s) && died? K s (K .dead s) && imp (ltb 0 (K .dead s)) (ltb 0 mark)
-  unfolding imp
-  row-is mark a b c = rw (a, b, c)
-
-  pub same-is : (m : List ℕ) {birth : ℕ} → birth ≡ K .birth s →
-      (not (eqb (getD m s 0) 0) && not (eqb birth 0)) || (not (not (eqb (getD m s 0) 0)) && not (not (eqb birth 0))) ≡ same (heldIn m s) (held K s)
+  -- block b
+  pub same-is : (m : List ℕ) (b : ℕ) → b < blocks g →
+      (not (eqb (getD m b 0) 0) && not (eqb (getD t (birthCell (g .records) b) 0) 0)) ||
+      (not (not (eqb (getD m b 0) 0)) && not (not (eqb (getD t (birthCell (g .records) b) 0) 0))) ≡ same (heldIn m b) (held (viewOf g t) b)
   unfolding heldIn held
-  same-is m e = rw e
-
-  -- ── the order of the sequence: s is a block here ──
-
-  pub order-is : (k : ℕ) {one two : Block} {line line′ number number′ : ℕ} → one ≡ blockAt K s → two ≡ blockAt K k → line ≡ via (K .line) (one .dead) →
-      line′ ≡ via (K .line) (two .dead) → number ≡ via (K .num) (one .dead) → number′ ≡ via (K .num) (two .dead) →
-      leb (one .birth) (two .birth) &&
-      (not (eqb (one .birth) (two .birth)) || (leb line line′ && (not (eqb line line′) || leb number′ number))) ≡ order? K s k
-  unfolding order? imp
-  order-is k a b c d e f = rw (c, d, e, f, a, b)
+  same-is m b h = rw (Fields.birth-is g t b h)

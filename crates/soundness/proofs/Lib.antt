@@ -2,7 +2,14 @@
 pub mod Cells
 pub mod Loops
 pub mod Clauses
-pub mod Light
-pub mod Entries
+pub mod Pairing
+pub mod Free
 pub mod Whole
 pub mod Short
+pub mod PagesWord
+pub mod PagesLinks
+pub mod PagesMarks
+pub mod PagesWalk
+pub mod PagesStep
+pub mod ListsStamps
+pub mod PagesSlots

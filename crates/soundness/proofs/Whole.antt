@@ -1,11 +1,13 @@
 -- The header, the log, and the whole test.
-use mathlib.Core.Path.{_≡_, refl, sym, ap, _∙_, fun-ext}
-use mathlib.Core.Bool.{Bool, true, false, not, _&&_}
+use mathlib.Core.Path.{_≡_, refl, sym, ap, ap₂, _∙_, fun-ext}
+use mathlib.Core.Bool.{Bool, true, false, cond, not, _&&_}
 use mathlib.Core.List.{List}
 use Prim.Native.Nat.{ℕ, _*_, _≤_}
-use lib.Dec.{ltb, leb}
-use lib.ListN.{getD, take}
-use borrow.Author.Tests.{leb-true, not-true, not-false}
+use native.Mathlib.Omega.{arith}
+use lib.Dec.{eqb, ltb, leb}
+use lib.ListN.{getD, take, replicate, getD-replicate, length-replicate, List·getD-eq-default}
+use borrow.Author.Tests.{leb-true, not-true, not-false, eq-eqb, ne-eqb, lt-ltb, le-ltb}
+use Rattle.answer.proofs.Cases.{cases, same?, lt?}
 use Rattle.geometry.specs.declared.Geometry.{Geometry}
 use Rattle.geometry.specs.Limits.{blocks}
 use Rattle.log.specs.Marks.{heldIn}
@@ -15,36 +17,29 @@ use Rattle.model.specs.Table.{all}
 use Rattle.model.specs.Held.{held}
 use Rattle.model.specs.Layout.{viewOf, stateOf}
 use Rattle.model.specs.Check as check
-use Rattle.model.specs.Check.{imp, slot?, block?, died?, allIn, once?, sorted?, order?, good?}
-use Rattle.model.specs.Memory.{numbers?, range?, same, logHolds?, sound?}
-use Rattle.soundness.proofs.Loops.{and-first, and-second, and-left, and-right}
-use Rattle.soundness.proofs.Entries.{seen}
-use Rattle.soundness.proofs.Light.{light-exact}
-use Rattle.soundness.specs.Light.{lightSlot?}
-use Rattle.model.proofs.LayoutFacts.{length-sequence}
-use Rattle.model.proofs.ShapeFacts.{view-clamped}
+use Rattle.model.specs.Check.{imp, same, linked?, page?, list?, slot?, empty?, once?, allOwn, good?}
+use Rattle.model.specs.Memory.{numbers?, range?, free?, logHolds?, sound?}
+use Rattle.soundness.specs.Pairs.{linkedTo?}
+use Rattle.soundness.proofs.Pairing.{pairs-exact}
+use Rattle.soundness.proofs.Loops.{all-both, all-same, and-first, and-second, and-left, and-right}
 
 module _ (g : Geometry) (t : List ℕ) where
-  pub range-is : {last counter writes used entries : ℕ} {marks : Bool} → last ≡ getD t 6 0 →
+  pub range-is : {last counter writes used : ℕ} {marks : Bool} → last ≡ getD t 6 0 →
       marks ≡ all (g .arenas) (λ a. ltb (stateOf g t .mark a) (g .per)) → counter ≡ getD t 7 0 → writes ≡ getD t 8 0 → used ≡ getD t 9 0 →
-      entries ≡ getD t 10 0 →
-      leb last 999999 && (marks && (ltb counter (g .arenas) && (ltb writes (g .turn) && (leb used (g .words) && leb entries (blocks g)))))
-      ≡ range? g (stateOf g t)
+      leb last 999999 && (marks && (ltb counter (g .arenas) && (ltb writes (g .turn) && leb used (g .words)))) ≡ range? g (stateOf g t)
   unfolding range? stateOf viewOf
-  range-is a b c d e f = rw (a, b, c, d, e, f, length-sequence (g .records) t 0 (getD t 10 0))
+  range-is a b c d e = rw (a, b, c, d, e)
 
-  -- what the later parts of the check ask of the header
-  pub range-known : range? g (stateOf g t) ≡ true → (getD t 9 0 ≤ g .words) × (getD t 10 0 ≤ blocks g)
+  -- what the check of the log asks of the header
+  pub range-known : range? g (stateOf g t) ≡ true → getD t 9 0 ≤ g .words
   range-known h =
-      let e : Bool = leb (getD t 9 0) (g .words) in
-      let f : Bool = leb (getD t 10 0) (blocks g) in
+      let u : Bool = leb (getD t 9 0) (g .words) in
       let w = ltb (getD t 8 0) (g .turn) in
       let k = ltb (getD t 7 0) (g .arenas) in
       let m = all (g .arenas) (λ a. ltb (stateOf g t .mark a) (g .per)) in
       let l = leb (getD t 6 0) 999999 in
-      let last : e && f ≡ true =
-      and-right w (e && f) (and-right k (w && (e && f)) (and-right m (k && (w && (e && f))) (and-right l (m && (k && (w && (e && f)))) (range-is refl refl refl refl refl refl ∙ h)))) in
-      (leb-true (getD t 9 0) (g .words) (and-left e f last), leb-true (getD t 10 0) (blocks g) (and-right e f last))
+      leb-true (getD t 9 0) (g .words)
+      (and-right w u (and-right k (w && u) (and-right m (k && (w && u)) (and-right l (m && (k && (w && u))) (range-is refl refl refl refl refl ∙ h)))))
 
   module _ (log : List ℕ) {used : ℕ} (u : used ≡ getD t 9 0) {ok : Bool} {marks : List ℕ}
       (read : _≡_ {A = Result} (ok, marks) (readLog (g .arenas) (g .per) (take (8 * used) log))) where
@@ -62,44 +57,79 @@ module _ (g : Geometry) (t : List ℕ) where
         let m : readLog (g .arenas) (g .per) (take (8 * getD t 9 0) log) .1 ≡ marks = sym (ap (λ (x : Result). x .1) (rw u at read)) in
         rw (s, m) e
 
+-- ── marks ──
+
+abbrev pub seen : List ℕ → ℕ → ℕ
+seen m b = getD m b 0
+
+pub seen-none : (n : ℕ) → seen (replicate n 0) ≡ (λ b. 0)
+seen-none n =
+    fun-ext (λ b. cases (lt? b n)
+    (λ h. getD-replicate n b 0 0 h)
+    (λ h. List·getD-eq-default (replicate n 0) 0 (omega (arith, length-replicate {A = ℕ} n 0))))
+
 -- ── the whole ──
 
--- the parts of the test that `good?` has, of the marks f
+-- a slot's links, and the rest of what is asked of it
+slot-parts : (live links pages list none : Bool) → cond live ((links && pages) && list) none ≡ (imp live links && cond live (pages && list) none)
+unfolding imp
+slot-parts true true pages list none = refl
+slot-parts true false pages list none = refl
+slot-parts false links pages list none = refl
+
+marked-is : (x : ℕ) → not (eqb x 0) ≡ ltb 0 x
+marked-is x = cases (same? x 0) (λ e. rw (eq-eqb x 0 e, le-ltb 0 x (omega arith))) (λ d. rw (ne-eqb x 0 d, lt-ltb 0 x (omega arith)))
+
+same-turned : (a b : Bool) → same a b ≡ same b a
+same-turned true true = refl
+same-turned true false = refl
+same-turned false true = refl
+same-turned false false = refl
+
 module _ (g : Geometry) (t : List ℕ) where
-  abbrev pub slots : Bool
-  slots = all (g .records) (λ s. imp (ltb 0 (viewOf g t .num s)) (slot? (viewOf g t) s))
+  abbrev links : Bool
+  links = all (g .records) (λ s. imp (ltb 0 (viewOf g t .num s)) (linked? (viewOf g t) s))
 
-  abbrev pub lights : Bool
-  lights = all (g .records) (λ s. imp (ltb 0 (viewOf g t .num s)) (lightSlot? (viewOf g t) s))
+  -- each record paired with the slots before its own
+  abbrev pub pairs : Bool
+  pairs = all (g .records) (λ s. imp (ltb 0 (viewOf g t .num s)) (linkedTo? (viewOf g t) s s))
 
-  lights-are : lights ≡ slots
+  pairs-are : pairs ≡ links
   unfolding viewOf
-  lights-are = light-exact (viewOf g t) (view-clamped g t)
+  pairs-are = pairs-exact (viewOf g t)
 
-  abbrev pub rows : (ℕ → ℕ) → Bool
-  rows f = all (blocks g) (λ b. imp (ltb 0 (viewOf g t .birth b)) (block? (viewOf g t) b) && died? (viewOf g t) b (viewOf g t .dead b) &&
-      imp (ltb 0 (viewOf g t .dead b)) (ltb 0 (f b)))
+  abbrev pub paged : Bool
+  paged = all (g .records) (λ s. cond (ltb 0 (viewOf g t .num s)) (all (g .pages) (page? (viewOf g t) s) && list? (viewOf g t) s) (empty? (viewOf g t) s))
 
-  abbrev pub deads : Bool
-  deads = allIn (viewOf g t .seq) (λ b. ltb 0 (viewOf g t .dead b))
-
+  -- no block is the own of two records, on top of the marks f
   abbrev pub single : (ℕ → ℕ) → Bool
-  single f = once? f (viewOf g t .seq)
+  single f = once? f (allOwn (viewOf g t))
 
-  abbrev pub ordered : Bool
-  ordered = sorted? (order? (viewOf g t)) (viewOf g t .seq)
+  -- the held blocks are those that m marks
+  abbrev pub agrees : List ℕ → Bool
+  agrees m = all (blocks g) (λ b. same (heldIn m b) (held (viewOf g t) b))
 
   marked : ℕ → ℕ
-  marked = check.marksOf (λ c. 0) (viewOf g t .seq)
+  marked = check.marksOf (λ c. 0) (allOwn (viewOf g t))
 
-  good-is : good? (viewOf g t) ≡ slots && rows marked && deads && single (λ c. 0) && ordered
-  unfolding good? viewOf marked
-  good-is = refl
+  born : Bool
+  born = all (blocks g) (λ b. same (ltb 0 (viewOf g t .birth b)) (ltb 0 (marked b)))
+
+  good-is : good? (viewOf g t) ≡ ((links && paged) && single (λ c. 0)) && born
+  unfolding good? slot? viewOf marked born
+  good-is =
+      ap (λ (x : Bool). (x && single (λ c. 0)) && born)
+      (all-both (g .records) _ _ _
+      (λ s. slot-parts (ltb 0 (viewOf g t .num s)) (linked? (viewOf g t) s) (all (g .pages) (page? (viewOf g t) s)) (list? (viewOf g t) s) (empty? (viewOf g t) s)))
 
   module _ (log : List ℕ) where
-    sound-is : sound? g t log ≡ numbers? g t && (range? g (stateOf g t) && (good? (viewOf g t) && logHolds? g (stateOf g t) log))
+    -- the whole test, from its parts
+    abbrev joined : Bool → Bool → Bool
+    joined good free = numbers? g t && (range? g (stateOf g t) && (good && (free && logHolds? g (stateOf g t) log)))
+
+    sound-is : sound? g t log ≡ joined (((links && paged) && single (λ c. 0)) && born) (free? (viewOf g t) t)
     unfolding sound? stateOf
-    sound-is = refl
+    sound-is = ap (λ (x : Bool). joined x (free? (viewOf g t) t)) good-is
 
     pub sound-no-numbers : numbers? g t ≡ false → false ≡ sound? g t log
     sound-no-numbers h = sym (sound-is ∙ and-first _ h)
@@ -107,42 +137,44 @@ module _ (g : Geometry) (t : List ℕ) where
     pub sound-no-range : range? g (stateOf g t) ≡ false → false ≡ sound? g t log
     sound-no-range h = sym (sound-is ∙ and-second (numbers? g t) (and-first _ h))
 
-    no-good : slots && rows marked && deads && single (λ c. 0) && ordered ≡ false → false ≡ sound? g t log
-    no-good h = sym (sound-is ∙ and-second (numbers? g t) (and-second (range? g (stateOf g t)) (and-first _ (good-is ∙ h))))
+    no-good : ((links && paged) && single (λ c. 0)) && born ≡ false → false ≡ sound? g t log
+    no-good h = sym (sound-is ∙ and-second (numbers? g t) (and-second (range? g (stateOf g t)) (and-first _ h)))
 
-    pub sound-no-slots : lights ≡ false → false ≡ sound? g t log
-    sound-no-slots h = no-good (rw (sym lights-are ∙ h))
+    pub sound-no-links : pairs ≡ false → false ≡ sound? g t log
+    sound-no-links h = no-good (and-first born (and-first (single (λ c. 0)) (and-first paged (sym pairs-are ∙ h))))
 
-    pub sound-no-order : ordered ≡ false → false ≡ sound? g t log
-    sound-no-order h = no-good (and-second (slots && rows marked && deads && single (λ c. 0)) h)
+    pub sound-no-words : free? (viewOf g t) t ≡ false → false ≡ sound? g t log
+    sound-no-words h =
+        sym (sound-is ∙ and-second (numbers? g t) (and-second (range? g (stateOf g t)) (and-second (((links && paged) && single (λ c. 0)) && born) (and-first _ h))))
 
-    -- marks z, all 0, and the marks m of the entries on top of them
+    -- marks z, all 0, and the marks m of the own blocks on top of them
     module _ (z : List ℕ) (empty : seen z ≡ (λ c. 0)) where
-      pub sound-no-entries : deads && single (seen z) ≡ false → false ≡ sound? g t log
-      sound-no-entries h =
-          let k : deads && single (λ c. 0) ≡ false = rw empty at h in
-          no-good (go (slots && rows marked) deads (single (λ c. 0)) ordered k)
+      regrouped : paged && single (seen z) ≡ paged && single (λ c. 0)
+      regrouped = ap (λ (f : ℕ → ℕ). paged && single f) empty
+
+      pub sound-no-pages : paged && single (seen z) ≡ false → false ≡ sound? g t log
+      sound-no-pages h = no-good (and-first born (go links paged (single (λ c. 0)) (sym regrouped ∙ h)))
         where
-          go : (a b c d : Bool) → b && c ≡ false → a && b && c && d ≡ false
-          go false b c d h = refl
-          go true b c d h = rw h
+          go : (a b c : Bool) → b && c ≡ false → (a && b) && c ≡ false
+          go false b c h = refl
+          go true b c h = h
 
-      module _ (m : ℕ → ℕ) (is : (b : ℕ) → m b ≡ check.marksOf (seen z) (viewOf g t .seq) b) where
-        marks-are : m ≡ marked
+      module _ (m : List ℕ) (is : (b : ℕ) → getD m b 0 ≡ check.marksOf (seen z) (allOwn (viewOf g t)) b) where
+        own-is : (b : ℕ) → getD m b 0 ≡ marked b
         unfolding marked
-        marks-are = fun-ext is ∙ ap (λ (f : ℕ → ℕ). check.marksOf f (viewOf g t .seq)) empty
+        own-is b = is b ∙ ap (λ (f : ℕ → ℕ). check.marksOf f (allOwn (viewOf g t)) b) empty
 
-        pub sound-no-rows : rows m ≡ false → false ≡ sound? g t log
-        sound-no-rows h =
-            let k : rows marked ≡ false = sym (ap rows marks-are) ∙ h in
-            no-good (and-first ordered (and-first (single (λ c. 0)) (and-first deads (and-second slots k))))
+        born-is : agrees m ≡ born
+        unfolding born heldIn held
+        born-is = all-same (blocks g) _ _ (λ b l.
+            ap₂ same (ap (λ (x : ℕ). not (eqb x 0)) (own-is b) ∙ marked-is (marked b)) (marked-is (viewOf g t .birth b)) ∙
+            same-turned (ltb 0 (marked b)) (ltb 0 (viewOf g t .birth b)))
 
-        pub sound-yes : {r : Bool} → numbers? g t ≡ true → range? g (stateOf g t) ≡ true → lights ≡ true → deads && single (seen z) ≡ true → ordered ≡ true →
-            rows m ≡ true → r ≡ logHolds? g (stateOf g t) log → r ≡ sound? g t log
+        pub sound-no-births : agrees m ≡ false → false ≡ sound? g t log
+        sound-no-births h = no-good (and-second ((links && paged) && single (λ c. 0)) (sym born-is ∙ h))
+
+        pub sound-yes : {r : Bool} → numbers? g t ≡ true → range? g (stateOf g t) ≡ true → pairs ≡ true → paged && single (seen z) ≡ true →
+            agrees m ≡ true → free? (viewOf g t) t ≡ true → r ≡ logHolds? g (stateOf g t) log → r ≡ sound? g t log
         sound-yes a b c d e f h =
-            let d′ : deads && single (λ c. 0) ≡ true = rw empty at d in
-            let p : deads ≡ true = and-left deads (single (λ c. 0)) d′ in
-            let q : single (λ c. 0) ≡ true = and-right deads (single (λ c. 0)) d′ in
-            let k : rows marked ≡ true = sym (ap rows marks-are) ∙ f in
-            let good : good? (viewOf g t) ≡ true = good-is ∙ rw (sym lights-are ∙ c, k, p, q, e) refl in
-            h ∙ sym (sound-is ∙ rw (a, b, good) refl)
+            let d′ : paged && single (λ c. 0) ≡ true = sym regrouped ∙ d in
+            h ∙ sym (sound-is ∙ rw (a, b, sym pairs-are ∙ c, and-left paged (single (λ c. 0)) d′, and-right paged (single (λ c. 0)) d′, sym born-is ∙ e, f))

@@ -1,3 +1,3 @@
--- What the check reads at a time.
-pub mod Rows
-pub mod Light
+-- Tests that ask less than the model's, and say the same of all records together.
+pub mod Pairs
+pub mod Pages

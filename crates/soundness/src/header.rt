@@ -1,7 +1,5 @@
 // The header: the six numbers of the making, and the counts, the marks and the counter in range.
 ghost use mathlib.Core.Path.{_≡_};
-ghost use mathlib.Core.Bool.{Bool};
-ghost use Prim.Native.Nat.{ℕ};
 ghost use lib.Dec.{ltb};
 ghost use Rattle.model.specs.Table.{all};
 ghost use Rattle.model.specs.Layout.{stateOf};
@@ -9,6 +7,11 @@ ghost use Rattle.model.specs.Memory.{numbers?, range?};
 ghost use Rattle.tables.specs.Ready.{Roomy};
 use crate::read::header_number;
 use geometry::Geometry;
+use tables::cells::COUNTER;
+use tables::cells::LAST;
+use tables::cells::MARKS;
+use tables::cells::USED;
+use tables::cells::WRITES;
 
 // The tables were made for these six numbers.
 pub fn numbers_fit(g: Geometry, t: &[u32]) -> bool
@@ -31,7 +34,7 @@ fn marks_fit(g: Geometry, t: &[u32]) -> bool
 {
     let mut a: usize = 0;
     while a < g.arenas {
-        let mark = header_number(g, t, 16 + a);
+        let mark = header_number(g, t, MARKS + a);
         if g.per <= mark {
             return false;
         }
@@ -40,15 +43,15 @@ fn marks_fit(g: Geometry, t: &[u32]) -> bool
     true
 }
 
+// Each number of the header that has a range lies in it.
 pub fn ranges_fit(g: Geometry, t: &[u32]) -> bool
     requires { ⌜ Roomy g (now t) ⌝ }
     ensures { λ r. ⌜ r ≡ range? g (stateOf g (now (t .entry))) ⌝ }
 {
-    let last = header_number(g, t, 6) <= 999999;
+    let last = header_number(g, t, LAST) <= 999999;
     let marks = marks_fit(g, t);
-    let counter = header_number(g, t, 7) < g.arenas;
-    let writes = header_number(g, t, 8) < g.turn;
-    let used = header_number(g, t, 9) <= g.words;
-    let entries = header_number(g, t, 10) <= g.arenas * g.per;
-    last & (marks & (counter & (writes & (used & entries))))
+    let counter = header_number(g, t, COUNTER) < g.arenas;
+    let writes = header_number(g, t, WRITES) < g.turn;
+    let used = header_number(g, t, USED) <= g.words;
+    last & (marks & (counter & (writes & used)))
 }

@@ -1,42 +1,55 @@
-// The log reads to the held blocks.
+// Which blocks are held: the births agree with marks, with the free words, and with what the log reads to.
 ghost use mathlib.Core.Path.{_≡_};
-ghost use mathlib.Core.Bool.{Bool};
-ghost use Prim.Native.Nat.{ℕ, _≤_};
+ghost use Prim.Native.Nat.{_≤_};
 ghost use lib.ListN.{getD};
 ghost use Rattle.geometry.specs.Limits.{blocks};
 ghost use Rattle.log.specs.Marks.{heldIn};
 ghost use Rattle.model.specs.Table.{all};
+ghost use Rattle.model.specs.Check.{same};
 ghost use Rattle.model.specs.Held.{held};
 ghost use Rattle.model.specs.Layout.{viewOf, stateOf};
-ghost use Rattle.model.specs.Memory.{same, logHolds?};
+ghost use Rattle.model.specs.Memory.{free?, logHolds?};
 ghost use Rattle.tables.specs.Ready.{Roomy, LogLong};
-use crate::read::block_number;
 use crate::read::header_number;
+use choice::words_agree;
 use geometry::Geometry;
 use log::read::read_log;
+use tables::cells::FREE;
+use tables::cells::PAGES;
+use tables::cells::ROWS;
+use tables::cells::USED;
 
-// A block has a mark just where it has a birth.
-fn births_agree(g: Geometry, t: &[u32], marks: &[u8; 2048]) -> bool
+// A block has a mark just where it has a birth. It looks at all blocks, several in one instruction.
+pub fn births_agree(g: Geometry, t: &[u32], marks: &[u8; 2048]) -> bool
     requires { ⌜ Roomy g (now t) ⌝ }
     ensures { λ r. ⌜ r ≡ all (blocks g) (λ b. same (heldIn (now (marks .entry)) b) (held (viewOf g (now (t .entry))) b)) ⌝ }
 {
+    let mut agree = true;
     let mut b: usize = 0;
     while b < g.arenas * g.per {
-        let logged = marks[b] != 0;
-        let born = block_number(g, t, b, 0) != 0;
-        if !((logged & born) | (!logged & !born)) {
-            return false;
-        }
+        let marked = marks[b] != 0;
+        let born = t[PAGES + ROWS * g.records + b] != 0;
+        agree = agree & ((marked & born) | (!marked & !born));
         b += 1;
     }
-    true
+    agree
 }
 
+// The free words tell the blocks that have no birth.
+pub fn words_fit(g: Geometry, t: &[u32]) -> bool
+    requires { ⌜ Roomy g (now t) ⌝ }
+    ensures { λ r. ⌜ r ≡ free? (viewOf g (now (t .entry))) (now (t .entry)) ⌝ }
+{
+    let births = PAGES + ROWS * g.records;
+    words_agree(&t[FREE..FREE + 64], &t[births..], g.arenas * g.per)
+}
+
+// The log reads to the held blocks.
 pub fn log_holds(g: Geometry, t: &[u32], log: &[u8]) -> bool
     requires { ⌜ Roomy g (now t) × LogLong g (now log) × (getD (now t) 9 0 ≤ g .words) ⌝ }
     ensures { λ r. ⌜ r ≡ logHolds? g (stateOf g (now (t .entry))) (now (log .entry)) ⌝ }
 {
-    let used = header_number(g, t, 9);
+    let used = header_number(g, t, USED);
     let end = 8 * used;
     let held = read_log(&log[..end], g.arenas, g.per);
     if !held.ok {

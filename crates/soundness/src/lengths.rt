@@ -3,6 +3,8 @@ ghost use mathlib.Core.Path.{_≡_};
 ghost use Rattle.geometry.specs.Limits.{Inside};
 ghost use Rattle.model.specs.Memory.{short?, lent};
 use geometry::Geometry;
+use tables::cells::PAGES;
+use tables::cells::ROWS;
 
 // Whether the tables, the log or the result buffer is shorter than the geometry needs.
 pub fn is_short(g: Geometry, tables: &[u32], log: &[u8], out: &[u32]) -> bool
@@ -10,7 +12,7 @@ pub fn is_short(g: Geometry, tables: &[u32], log: &[u8], out: &[u32]) -> bool
     ensures { λ r. ⌜ r ≡ short? g (lent (now (tables .entry)) (now (log .entry)) (now (out .entry))) ⌝ }
 {
     let blocks = g.arenas * g.per;
-    if tables.len() < 32 + 272 * g.records + 8 * blocks {
+    if tables.len() < PAGES + ROWS * g.records + blocks {
         return true;
     }
     if log.len() < 8 * g.words {

@@ -1,139 +1,274 @@
-// The pages of a record: what is on them, and what has left them.
+// The pages of a record against its pred's: a page that differs has a block of the record's own; what was there before it may be gone.
 ghost use mathlib.Core.Path.{_≡_};
-ghost use mathlib.Core.Bool.{Bool};
-ghost use Prim.Native.Nat.{ℕ, _+_, _≤_, _<_};
+ghost use mathlib.Core.Bool.{true, false, cond, _&&_};
+ghost use Prim.Native.Nat.{ℕ, suc, _+_, _≤_, _<_};
+ghost use lib.Dec.{ltb};
 ghost use lib.ListN.{length, getD};
-ghost use Rattle.model.specs.Table.{all};
-ghost use Rattle.model.specs.View.{pageOf};
-ghost use Rattle.model.specs.Check.{page?, dies?};
+ghost use Rattle.model.specs.Table.{all, via};
+ghost use Rattle.model.specs.Lists.{onPage};
+ghost use Rattle.model.specs.View.{baseNum, pageOf};
+ghost use Rattle.model.specs.Check.{marksOf, once?, page?, like?, fits?, list?, empty?, allOwn, owns};
 ghost use Rattle.model.specs.Layout.{viewOf};
+ghost use Rattle.model.proofs.Marking.{stamped};
 ghost use Rattle.tables.specs.Ready.{Roomy};
-ghost use Rattle.soundness.specs.Rows.{kinOf};
-ghost use Rattle.soundness.specs.Light.{lightPage?};
-use crate::read::base_number;
-use crate::read::block_at;
-use crate::read::page_behind;
-use crate::read::page_link;
-use crate::read::pred_number;
-use crate::read::pred_of;
-use crate::read::record_number;
+ghost use Rattle.soundness.specs.Pages.{reached, kinOf, younger, seen, Walked, slotFits};
+use crate::differ::differing;
+use crate::lists::list_fits;
 use geometry::Geometry;
+use tables::cells::BASE;
+use tables::cells::LENGTH;
+use tables::cells::NUMBER;
+use tables::cells::PAGES;
+use tables::cells::PREV;
+use tables::cells::ROW;
+use tables::cells::ROWS;
+use tables::find::wide;
 
-// What the check of a record's pages asks of the record each time: its number, the links to the record before it and to its pred, and the numbers
-// of its pred (older) and of its line's base (root).
+// What the walk over a record's pages asks of the record each time: its number, a link to its pred, the pred's number, whether a record is before
+// it in its line, and the number of its line's base.
 pub struct Kin {
     pub number: usize,
-    pub prev: usize,
     pub pred: usize,
     pub older: usize,
+    pub listing: bool,
     pub root: usize,
 }
 
+// How a walk ends: with so many blocks that are gone, or at a page that does not fit.
+pub enum Walk {
+    Fits(usize),
+    Fails,
+}
+
+// A link of a stranger's tables, or 0 where it is none to a slot.
+fn reach(g: Geometry, link: usize) -> usize
+    ensures is { λ r. ⌜ r ≡ reached (g .records) link ⌝ }
+    ensures range { λ r. ⌜ r ≤ g .records ⌝ }
+{
+    if link <= g.records { link } else { 0 }
+}
+
+// The number of the record behind a link.
+fn number_behind(g: Geometry, t: &[u32], link: usize) -> usize
+    requires { ⌜ Roomy g (now t) × (link ≤ g .records) ⌝ }
+    ensures { λ r. ⌜ r ≡ via (viewOf g (now (t .entry)) .num) link ⌝ }
+{
+    if link == 0 {
+        return 0;
+    }
+    wide(t[NUMBER + (link - 1)])
+}
+
+// Page x of the record behind a link.
+fn page_behind(g: Geometry, t: &[u32], link: usize, x: usize) -> usize
+    requires { ⌜ Roomy g (now t) × (link ≤ g .records) × (x < g .pages) ⌝ }
+    ensures { λ r. ⌜ r ≡ pageOf (viewOf g (now (t .entry))) link x ⌝ }
+{
+    if link == 0 {
+        return 0;
+    }
+    wide(t[PAGES + ROW * (link - 1) + x])
+}
+
+// What the walk over the pages of the record in slot s asks of it.
 fn kin_of(g: Geometry, t: &[u32], s: usize) -> Kin
-    requires { ⌜ Roomy g (now t) ⌝ }
+    requires { ⌜ Roomy g (now t) × (s < g .records) ⌝ }
     ensures { λ r. ⌜ r ≡ kinOf (viewOf g (now (t .entry))) s ⌝ }
 {
+    let prev = wide(t[PREV + s]);
+    let base = reach(g, wide(t[BASE + s]));
+    let root = number_behind(g, t, base);
+    if prev == 0 {
+        return Kin {
+            number: wide(t[NUMBER + s]),
+            pred: base,
+            older: root,
+            listing: false,
+            root,
+        };
+    }
+    let pred = reach(g, prev);
+    let older = number_behind(g, t, pred);
     Kin {
-        number: record_number(g, t, s, 0),
-        prev: record_number(g, t, s, 2),
-        pred: pred_of(g, t, s),
-        older: pred_number(g, t, s),
-        root: base_number(g, t, s),
+        number: wide(t[NUMBER + s]),
+        pred,
+        older,
+        listing: true,
+        root,
     }
 }
 
-// What is on page x of the record in slot s.
-fn page_fits(g: Geometry, t: &[u32], s: usize, kin: Kin, x: usize) -> bool
-    requires { ⌜ Roomy g (now t) × (kin ≡ kinOf (viewOf g (now t)) s) ⌝ }
-    ensures { λ r. ⌜ r ≡ page? (viewOf g (now (t .entry))) s x (viewOf g (now (t .entry)) .page s x) ⌝ }
+// A link on a page of the record that the pred's same page has not: a block born after the pred and at the latest in the record, and no other
+// record's own. It is marked.
+fn page_fits(g: Geometry, t: &[u32], own: &mut [u8; 2048], s: usize, kin: Kin, link: usize) -> bool
+    requires { ⌜ Roomy g (now t) × (kin ≡ kinOf (viewOf g (now t)) s) × (length (now own) ≡ 2048) ⌝ }
+    ensures is { λ r. ⌜ r ≡ (fits? (viewOf g (now (t .entry))) s link && once? (seen (now (own .entry))) (onPage link)) ⌝ }
+    ensures marked { λ r. ⌜ (r ≡ true → seen (now (own .exit)) ≡ marksOf (seen (now (own .entry))) (onPage link)) ⌝ }
+    ensures size { λ r. ⌜ length (now (own .exit)) ≡ 2048 ⌝ }
 {
-    let link = page_link(g, t, s, x);
     if link == 0 {
         return true;
     }
-    let b = link - 1;
-    let block = block_at(g, t, b);
-    let above = page_behind(g, t, kin.pred, x);
-    let inherited = !(block.birth <= kin.older) | (above == link);
-    let own = !(kin.older < block.birth) | (block.home == s);
-    (b < g.arenas * g.per)
-        & (0 < block.birth)
-        & (block.leaf == x)
-        & (block.birth <= kin.number)
-        & inherited
-        & own
+    if g.arenas * g.per < link {
+        return false;
+    }
+    let birth = wide(t[PAGES + ROWS * g.records + (link - 1)]);
+    if birth <= kin.older {
+        return false;
+    }
+    if kin.number < birth {
+        return false;
+    }
+    if own[link - 1] != 0 {
+        return false;
+    }
+    own[link - 1] = 1;
+    true
 }
 
-// What was on page x of the record before the one in slot s, and is not on its own, is on its deadlist if it is younger than the line's base.
-fn page_dies(g: Geometry, t: &[u32], s: usize, kin: Kin, x: usize) -> bool
-    requires { ⌜ Roomy g (now t) × (s < g .records) × (kin ≡ kinOf (viewOf g (now t)) s) ⌝ }
-    ensures { λ r. ⌜ r ≡ dies? (viewOf g (now (t .entry))) s x (pageOf (viewOf g (now (t .entry))) (viewOf g (now (t .entry)) .prev s) x) ⌝ }
+// A link on a page of the record before, which this record's same page has not: a block younger than the line's base is gone. It gets the stamp of
+// slot s. Returns how many are gone, 1 or 0.
+fn mark_gone(
+    g: Geometry,
+    t: &[u32],
+    gone: &mut [u8; 2048],
+    s: usize,
+    root: usize,
+    link: usize,
+) -> usize
+    requires { ⌜ Roomy g (now t) × (s < g .records) × (root ≡ baseNum (viewOf g (now t)) s) × (length (now gone) ≡ 2048) ⌝ }
+    ensures count { λ r. ⌜ r ≡ length (younger (viewOf g (now (t .entry))) s link) ⌝ }
+    ensures stamped { λ r. ⌜ seen (now (gone .exit)) ≡ stamped (suc s) (seen (now (gone .entry))) (younger (viewOf g (now (t .entry))) s link) ⌝ }
+    ensures size { λ r. ⌜ (r ≤ 1) × (length (now (gone .exit)) ≡ 2048) ⌝ }
 {
-    let link = page_behind(g, t, kin.prev, x);
     if link == 0 {
-        return true;
+        return 0;
     }
-    let own = page_link(g, t, s, x);
-    if own == link {
-        return true;
+    if g.arenas * g.per < link {
+        return 0;
     }
-    let block = block_at(g, t, link - 1);
-    !(kin.root < block.birth) | (block.dead == s + 1)
+    if wide(t[PAGES + ROWS * g.records + (link - 1)]) <= root {
+        return 0;
+    }
+    gone[link - 1] = (s + 1) as u8;
+    1
 }
 
-// How far two rows agree: the numbers from a and from b on are the same at each place from x up to the one returned.
-fn agree_to(t: &[u32], a: usize, b: usize, x: usize, n: usize) -> usize
-    requires { ⌜ (a + n ≤ length (now t)) × (b + n ≤ length (now t)) × (x ≤ n) ⌝ }
-    ensures range { λ r. ⌜ (x ≤ r) × (r ≤ n) ⌝ }
-    ensures agree { λ r. ⌜ ((y : ℕ) → x ≤ y → y < r → getD (now (t .entry)) (a + y) 0 ≡ getD (now (t .entry)) (b + y) 0) ⌝ }
+// Page x of slot s, which differs from the pred's.
+fn page_walk(
+    g: Geometry,
+    t: &[u32],
+    own: &mut [u8; 2048],
+    gone: &mut [u8; 2048],
+    s: usize,
+    kin: Kin,
+    x: usize,
+    count: usize,
+) -> Walk
+    requires { ⌜ Roomy g (now t) × (s < g .records) × (x < g .pages) × (count ≤ x) × (kin ≡ kinOf (viewOf g (now t)) s) × (like? (viewOf g (now t)) s x ≡ false) × (length (now own) ≡ 2048) × (length (now gone) ≡ 2048) ⌝ }
+    ensures { λ r. ⌜ Walked (viewOf g (now (t .entry))) s (now (own .entry)) (now (gone .entry)) count x r (now (own .exit)) (now (gone .exit)) (x + 1) ⌝ }
 {
+    let link = wide(t[PAGES + ROW * s + x]);
+    if !page_fits(g, t, own, s, kin, link) {
+        return Walk::Fails;
+    }
+    if kin.listing {
+        let was = page_behind(g, t, kin.pred, x);
+        let more = mark_gone(g, t, gone, s, kin.root, was);
+        return Walk::Fits(count + more);
+    }
+    Walk::Fits(count)
+}
+
+// The n pages of slot s from x on, by the bits of a word: from page y on `rest` is what is left of it.
+fn word_walk(
+    g: Geometry,
+    t: &[u32],
+    own: &mut [u8; 2048],
+    gone: &mut [u8; 2048],
+    s: usize,
+    kin: Kin,
+    x: usize,
+    n: usize,
+    count: usize,
+) -> Walk
+    requires { ⌜ Roomy g (now t) × (s < g .records) × (n ≤ 32) × (x + n ≤ g .pages) × (count ≤ x) × (kin ≡ kinOf (viewOf g (now t)) s) × (length (now own) ≡ 2048) × (length (now gone) ≡ 2048) ⌝ }
+    ensures { λ r. ⌜ Walked (viewOf g (now (t .entry))) s (now (own .entry)) (now (gone .entry)) count x r (now (own .exit)) (now (gone .exit)) (x + n) ⌝ }
+{
+    let mut rest = differing(g, t, s, kin.pred, x, n);
     let mut y = x;
-    while y < n {
-        if t[a + y] != t[b + y] {
-            return y;
-        }
+    let mut found = count;
+    while rest != 0 {
+        let step = u32::trailing_zeros(rest);
+        y += step as usize;
+        let walked = page_walk(g, t, own, gone, s, kin, y, found);
+        let Walk::Fits(k) = walked else {
+            return Walk::Fails;
+        };
+        found = k;
+        rest = (rest >> step) >> 1;
         y += 1;
     }
-    y
+    Walk::Fits(found)
 }
 
-// The page to look at next, after page x: the record in slot s shares each page between them with the record behind the link.
-fn shared_to(g: Geometry, t: &[u32], s: usize, link: usize, x: usize) -> usize
-    requires { ⌜ Roomy g (now t) × (s < g .records) × (x < g .pages) ⌝ }
-    ensures range { λ r. ⌜ (x < r) × (r ≤ g .pages) ⌝ }
-    ensures shared { λ r. ⌜ ((y : ℕ) → x < y → y < r → viewOf g (now (t .entry)) .page s y ≡ pageOf (viewOf g (now (t .entry))) link y) ⌝ }
+// How many pages the next word of a row is for, of those that are left.
+fn stretch(left: usize) -> usize
+    ensures { λ r. ⌜ (r ≤ left) × (r ≤ 32) × (0 < left → 0 < r) ⌝ }
 {
-    if link == 0 {
-        return x + 1;
-    }
-    let p = link - 1;
-    if g.records <= p {
-        return x + 1;
-    }
-    agree_to(t, 32 + 272 * s + 16, 32 + 272 * p + 16, x + 1, g.pages)
+    if left < 32 { left } else { 32 }
 }
 
-// All pages of the record in slot s. A page that it shares with its pred needs no look: what would be asked of it is asked of the pred's page.
-pub fn pages_fit(g: Geometry, t: &[u32], s: usize) -> bool
-    requires { ⌜ Roomy g (now t) × (s < g .records) ⌝ }
-    ensures { λ r. ⌜ r ≡ all (g .pages) (λ x. lightPage? (viewOf g (now (t .entry))) s x) ⌝ }
+// All pages of slot s.
+fn row_walk(g: Geometry, t: &[u32], own: &mut [u8; 2048], gone: &mut [u8; 2048], s: usize) -> Walk
+    requires { ⌜ Roomy g (now t) × (s < g .records) × (length (now own) ≡ 2048) × (length (now gone) ≡ 2048) ⌝ }
+    ensures { λ r. ⌜ Walked (viewOf g (now (t .entry))) s (now (own .entry)) (now (gone .entry)) 0 0 r (now (own .exit)) (now (gone .exit)) (g .pages) ⌝ }
 {
     let kin = kin_of(g, t, s);
+    let mut found: usize = 0;
     let mut x: usize = 0;
     while x < g.pages {
-        let link = page_link(g, t, s, x);
-        let above = page_behind(g, t, kin.pred, x);
-        if link == above {
-            x = shared_to(g, t, s, kin.pred, x);
-        } else {
-            if !page_fits(g, t, s, kin, x) {
-                return false;
-            }
-            if !page_dies(g, t, s, kin, x) {
-                return false;
-            }
-            x += 1;
+        let n = stretch(g.pages - x);
+        let walked = word_walk(g, t, own, gone, s, kin, x, n, found);
+        let Walk::Fits(k) = walked else {
+            return Walk::Fails;
+        };
+        found = k;
+        x += n;
+    }
+    Walk::Fits(found)
+}
+
+// The pages and the deadlist of slot s, or that an empty slot has no deadlist.
+fn slot_fits(g: Geometry, t: &[u32], own: &mut [u8; 2048], gone: &mut [u8; 2048], s: usize) -> bool
+    requires { ⌜ Roomy g (now t) × (s < g .records) × (length (now own) ≡ 2048) × (length (now gone) ≡ 2048) × ((b : ℕ) → seen (now gone) b ≤ s) ⌝ }
+    ensures is { λ r. ⌜ r ≡ (slotFits (viewOf g (now (t .entry))) s && once? (seen (now (own .entry))) (owns (viewOf g (now (t .entry))) s)) ⌝ }
+    ensures marked { λ r. ⌜ (r ≡ true → seen (now (own .exit)) ≡ marksOf (seen (now (own .entry))) (owns (viewOf g (now (t .entry))) s)) ⌝ }
+    ensures stamps { λ r. ⌜ (length (now (own .exit)) ≡ 2048) × (length (now (gone .exit)) ≡ 2048) × (r ≡ true → (b : ℕ) → seen (now (gone .exit)) b ≤ s + 1) ⌝ }
+{
+    if t[NUMBER + s] == 0 {
+        return t[LENGTH + s] == 0;
+    }
+    let walked = row_walk(g, t, own, gone, s);
+    let Walk::Fits(n) = walked else {
+        return false;
+    };
+    list_fits(g, t, gone, s, n)
+}
+
+// The pages and deadlists of all slots. Marks in `own` each block that is some record's own: on a page of it and not on the pred's same page.
+pub fn pages_fit(g: Geometry, t: &[u32], own: &mut [u8; 2048]) -> bool
+    requires { ⌜ Roomy g (now t) × (length (now own) ≡ 2048) ⌝ }
+    ensures passes { λ r. ⌜ r ≡ (all (g .records) (λ s. cond (ltb 0 (viewOf g (now (t .entry)) .num s)) (all (g .pages) (page? (viewOf g (now (t .entry))) s) && list? (viewOf g (now (t .entry))) s) (empty? (viewOf g (now (t .entry))) s)) && once? (λ b. getD (now (own .entry)) b 0) (allOwn (viewOf g (now (t .entry))))) ⌝ }
+    ensures marked { λ r. ⌜ (r ≡ true → (b : ℕ) → getD (now (own .exit)) b 0 ≡ marksOf (λ b. getD (now (own .entry)) b 0) (allOwn (viewOf g (now (t .entry)))) b) ⌝ }
+{
+    let mut gone = [0u8; 2048];
+    let mut s: usize = 0;
+    while s < g.records {
+        if !slot_fits(g, t, own, &mut gone, s) {
+            return false;
         }
+        s += 1;
     }
     true
 }

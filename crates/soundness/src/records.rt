@@ -1,99 +1,106 @@
-// The records: their links, lines and numbers, and two of them at a time.
+// The records: their numbers and links, and two of them at a time.
 ghost use mathlib.Core.Path.{_≡_};
-ghost use mathlib.Core.Bool.{Bool};
-ghost use Prim.Native.Nat.{ℕ, _<_};
-ghost use lib.Dec.{ltb};
+ghost use mathlib.Core.Bool.{not, _&&_};
+ghost use Prim.Native.Nat.{_<_};
+ghost use lib.Dec.{eqb, ltb};
 ghost use Rattle.model.specs.Table.{all};
 ghost use Rattle.model.specs.Check.{imp, prev?, base?, two?};
 ghost use Rattle.model.specs.Layout.{viewOf};
 ghost use Rattle.tables.specs.Ready.{Roomy};
-ghost use Rattle.soundness.specs.Light.{lightSlot?};
-use crate::pages::pages_fit;
+ghost use Rattle.soundness.specs.Pairs.{linkedTo?};
+use crate::read::column_number;
 use crate::read::header_number;
-use crate::read::record_at;
-use crate::read::record_number;
 use geometry::Geometry;
+use tables::cells::BASE;
+use tables::cells::LAST;
+use tables::cells::NUMBER;
+use tables::cells::OPEN;
+use tables::cells::PREV;
 
-// The record before the one in slot s in its line, if there is one, is sealed, older, and of the same line and base.
-fn prev_fits(g: Geometry, t: &[u32], s: usize) -> bool
+// The record behind a link, if there is one, is in the store, sealed, and older than the one in slot s.
+fn link_fits(g: Geometry, t: &[u32], s: usize, link: usize) -> bool
     requires { ⌜ Roomy g (now t) ⌝ }
-    ensures { λ r. ⌜ r ≡ prev? (viewOf g (now (t .entry))) s (viewOf g (now (t .entry)) .prev s) ⌝ }
+    ensures { λ r. ⌜ r ≡ base? (viewOf g (now (t .entry))) s link ⌝ }
 {
-    let it = record_at(g, t, s);
-    if it.prev == 0 {
+    if link == 0 {
         return true;
     }
-    let prev = record_at(g, t, it.prev - 1);
-    (0 < prev.number)
-        & (prev.opened == 0)
-        & (prev.number < it.number)
-        & (prev.base == it.base)
-        & (prev.line == it.line)
+    let p = link - 1;
+    let older = column_number(g, t, NUMBER, p);
+    let opened = column_number(g, t, OPEN, p);
+    let number = column_number(g, t, NUMBER, s);
+    (0 < older) & (opened == 0) & (older < number)
 }
 
-// The base of the line of the record in slot s, if there is one, is sealed and older.
+// The base of the line of the record in slot s.
 fn base_fits(g: Geometry, t: &[u32], s: usize) -> bool
     requires { ⌜ Roomy g (now t) ⌝ }
     ensures { λ r. ⌜ r ≡ base? (viewOf g (now (t .entry))) s (viewOf g (now (t .entry)) .base s) ⌝ }
 {
-    let it = record_at(g, t, s);
-    if it.base == 0 {
+    let link = column_number(g, t, BASE, s);
+    link_fits(g, t, s, link)
+}
+
+// The record before the one in slot s in its line: it has the same base.
+fn prev_fits(g: Geometry, t: &[u32], s: usize) -> bool
+    requires { ⌜ Roomy g (now t) ⌝ }
+    ensures { λ r. ⌜ r ≡ prev? (viewOf g (now (t .entry))) s (viewOf g (now (t .entry)) .prev s) ⌝ }
+{
+    let link = column_number(g, t, PREV, s);
+    if link == 0 {
         return true;
     }
-    let base = record_at(g, t, it.base - 1);
-    (0 < base.number) & (base.opened == 0) & (base.number < it.number)
+    let older = link_fits(g, t, s, link);
+    let before = column_number(g, t, BASE, link - 1);
+    let base = column_number(g, t, BASE, s);
+    older & (before == base)
 }
 
-// The records in slots s and k, if there is one in k: they have different numbers and do not follow or begin at the same place, unless s is k.
-fn two_fit(g: Geometry, t: &[u32], s: usize, k: usize) -> bool
-    requires { ⌜ Roomy g (now t) ⌝ }
-    ensures { λ r. ⌜ r ≡ imp (ltb 0 (viewOf g (now (t .entry)) .num k)) (two? (viewOf g (now (t .entry))) s k) ⌝ }
+// Two slots, the first in use: if the second is too, their numbers differ and they do not follow the same record.
+fn two_fit(number: u32, prev: u32, other: u32, others: u32) -> bool
+    ensures { λ r. ⌜ r ≡ imp (ltb 0 other) (not (eqb number other) && not (ltb 0 prev && eqb prev others)) ⌝ }
 {
-    let a = record_at(g, t, s);
-    let b = record_at(g, t, k);
-    let same = s == k;
-    let number = !(a.number == b.number) | same;
-    let next = !((0 < a.prev) & (a.prev == b.prev)) | same;
-    let first = !((a.prev == 0) & (b.prev == 0) & (a.line == b.line)) | same;
-    !(0 < b.number) | (number & next & first)
+    let apart = !(number == other);
+    let one = !((0 < prev) & (prev == others));
+    !(0 < other) | (apart & one)
 }
 
-// The slots before s are enough: two records are compared once, from the later slot.
+// The record in slot s beside those in the slots before: two are compared once. It looks at all, several in one instruction.
 fn others_fit(g: Geometry, t: &[u32], s: usize) -> bool
-    requires { ⌜ Roomy g (now t) ⌝ }
+    requires { ⌜ Roomy g (now t) × (s < g .records) ⌝ }
     ensures { λ r. ⌜ r ≡ all s (λ k. imp (ltb 0 (viewOf g (now (t .entry)) .num k)) (two? (viewOf g (now (t .entry))) s k)) ⌝ }
 {
+    let number = t[NUMBER + s];
+    let prev = t[PREV + s];
+    let mut fit = true;
     let mut k: usize = 0;
     while k < s {
-        if !two_fit(g, t, s, k) {
-            return false;
-        }
+        fit = fit & two_fit(number, prev, t[NUMBER + k], t[PREV + k]);
         k += 1;
     }
-    true
+    fit
 }
 
-// The record in slot s, if there is one, and its pages.
+// The record in slot s, if there is one.
 fn record_fits(g: Geometry, t: &[u32], s: usize) -> bool
     requires { ⌜ Roomy g (now t) × (s < g .records) ⌝ }
-    ensures { λ r. ⌜ r ≡ imp (ltb 0 (viewOf g (now (t .entry)) .num s)) (lightSlot? (viewOf g (now (t .entry))) s) ⌝ }
+    ensures { λ r. ⌜ r ≡ imp (ltb 0 (viewOf g (now (t .entry)) .num s)) (linkedTo? (viewOf g (now (t .entry))) s s) ⌝ }
 {
-    let it = record_at(g, t, s);
-    if it.number == 0 {
+    let number = column_number(g, t, NUMBER, s);
+    if number == 0 {
         return true;
     }
-    let given = it.number <= header_number(g, t, 6);
-    let began = it.line <= it.number;
+    let given = number <= header_number(g, t, LAST);
     let others = others_fit(g, t, s);
     let prev = prev_fits(g, t, s);
     let base = base_fits(g, t, s);
-    let pages = pages_fit(g, t, s);
-    given & began & others & prev & base & pages
+    given & others & prev & base
 }
 
+// All records.
 pub fn records_fit(g: Geometry, t: &[u32]) -> bool
     requires { ⌜ Roomy g (now t) ⌝ }
-    ensures { λ r. ⌜ r ≡ all (g .records) (λ s. imp (ltb 0 (viewOf g (now (t .entry)) .num s)) (lightSlot? (viewOf g (now (t .entry))) s)) ⌝ }
+    ensures { λ r. ⌜ r ≡ all (g .records) (λ s. imp (ltb 0 (viewOf g (now (t .entry)) .num s)) (linkedTo? (viewOf g (now (t .entry))) s s)) ⌝ }
 {
     let mut s: usize = 0;
     while s < g.records {

@@ -15,15 +15,17 @@ use Rattle.answer.proofs.Decided.{accepted-same}
 use Rattle.geometry.specs.declared.Geometry.{Geometry}
 use Rattle.geometry.specs.Limits.{Inside, blocks}
 use Rattle.log.specs.Runs.{Run, ending, runsFrom, runs}
+use Rattle.model.specs.Lists.{onPage}
 use Rattle.model.specs.View.{View, predNum, baseNum}
 use Rattle.model.specs.Effects.{Fate, freed, marked, kept, fate}
-use Rattle.model.specs.Held.{bit, tally, heldCount, available, freedOne, erased, frees}
+use Rattle.model.specs.Held.{heldCount, available, freedOne, erased, frees}
 use Rattle.model.specs.State.{State}
-use Rattle.model.specs.Calls.{slot, onPage, pairs, freeList, writing, erasing, deleting, conditions, result}
+use Rattle.model.specs.Calls.{slot, pairs, freeList, writing, erasing, deleting, conditions, result}
 use Rattle.model.specs.Layout.{stateOf}
 use Rattle.model.specs.Memory.{Memory, reply}
 use Rattle.model.specs.declared.Call.{Call}
 use Rattle.model.specs.declared.Call.the-variants.{Begin, Write, Erase, Seal, Fork, Delete, Read, Barrier, Compress, FreeList}
+use Rattle.model.proofs.Tally.{tally-le}
 use Rattle.model.proofs.HeldFacts.{held-done}
 use Rattle.model.proofs.Fine.{Fine, asks-D}
 use Rattle.model.proofs.Keeps.{accepted-is, sound-fine}
@@ -47,15 +49,6 @@ page-one zero = omega arith
 page-one (suc b) = omega arith
 
 -- ── at most as many as there are blocks ──
-
-tally-le : (t : ℕ → Bool) (k : ℕ) → tally t k ≤ k
-unfolding tally
-tally-le t zero = omega arith
-tally-le t (suc k) = go (t k) (tally-le t k)
-  where
-    go : (x : Bool) → tally t k ≤ k → bit x + tally t k ≤ suc k
-    go true h = omega arith
-    go false h = omega arith
 
 held-le : (K : View) → heldCount K ≤ K .blocks
 unfolding heldCount
@@ -97,7 +90,7 @@ one-block (suc a) p h k = omega arith
 module _ (g : Geometry) (inside : Inside g) (T : State) (R : Fine g T) where
   deleted-le : (r : ℕ) → NoneHolds (conditions g T (Delete r)) → length (frees (T .view) (deleting T r)) ≤ blocks g
   deleted-le r n =
-      omega (arith, held-done (T .view) (deleting T r) (R .good) (asks-D g inside T R r (n .0) (n .1 .0)), held-le (T .view), R .blocks)
+      omega (arith, held-done (T .view) (deleting T r) (R .sound) (asks-D g inside T R r (n .0) (n .1 .0)), held-le (T .view), R .blocks)
 
   listed-le : length (freeList g T) ≤ 2 * blocks g
   unfolding freeList runs

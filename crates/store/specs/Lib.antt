@@ -1,2 +1,3 @@
--- What the entry points promise.
+-- What the entry points promise, and the words that a making writes.
 pub mod Called
+pub mod Fresh

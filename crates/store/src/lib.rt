@@ -1,4 +1,3 @@
 // The store: what users call. Any six numbers, any memory, any arguments; nothing is trusted.
 pub mod call;
-pub mod letters;
 pub mod make;

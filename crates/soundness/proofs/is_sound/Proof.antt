@@ -3,9 +3,8 @@ use Prim.Native.Nat.{ℕ}
 use lib.ListN.{replicate, length-replicate}
 use borrow.Author.Needs.{needs}
 use borrow.Author.Tests.{not-false}
-use Rattle.soundness.proofs.Entries.{seen-none}
 use Rattle.soundness.proofs.Loops.{failed, passed}
-use Rattle.soundness.proofs.Whole.{range-known, sound-no-numbers, sound-no-range, sound-no-slots, sound-no-entries, sound-no-order, sound-no-rows, sound-yes}
+use Rattle.soundness.proofs.Whole.{range-known, seen-none, sound-no-numbers, sound-no-range, sound-no-links, sound-no-pages, sound-no-births, sound-no-words, sound-yes}
 use Rattle.soundness.proofs.is_sound.Statement.{statement}
 use Rattle.soundness.proofs.is_sound.Tie as tie
 
@@ -25,33 +24,45 @@ records-fit-requires : tie.Need-records-fit-requires
 records-fit-requires c κs = search needs
 
 returns-3 : tie.Need-returns-3
-returns-3 c = sound-no-slots _ _ _ (failed (c .before .records-fit .ensures) (c .if3 .taken))
+returns-3 c = sound-no-links _ _ _ (failed (c .before .records-fit .ensures) (c .if3 .taken))
 
-mark-entries-requires : tie.Need-mark-entries-requires
-mark-entries-requires c κs = (c .before .before .before .before .before .before .before .before .before .pre .0, range-known _ _ (passed (c .before .before .before .before .ranges-fit .ensures) (c .before .before .before .if2 .left)) .1, length-replicate {A = ℕ} 2048 0)
+pages-fit-requires : tie.Need-pages-fit-requires
+pages-fit-requires c κs = (c .before .before .before .before .before .before .before .before .before .pre .0, length-replicate {A = ℕ} 2048 0)
 
 returns-4 : tie.Need-returns-4
-returns-4 c = sound-no-entries _ _ _ (replicate 2048 0) (seen-none 2048) (failed (c .before .mark-entries .ensures .0) (c .if4 .taken))
+returns-4 c = sound-no-pages _ _ _ (replicate 2048 0) (seen-none 2048) (failed (c .before .pages-fit .ensures .0) (c .if4 .taken))
 
-neighbours-fit-requires : tie.Need-neighbours-fit-requires
-neighbours-fit-requires c κs = (c .before .before .before .before .before .before .before .before .before .before .before .pre .0, range-known _ _ (passed (c .before .before .before .before .before .before .ranges-fit .ensures) (c .before .before .before .before .before .if2 .left)) .1)
+births-agree-requires : tie.Need-births-agree-requires
+births-agree-requires c κs = search needs
 
 returns-5 : tie.Need-returns-5
-returns-5 c = sound-no-order _ _ _ (failed (c .before .neighbours-fit .ensures) (c .if5 .taken))
+returns-5 c =
+    let p = c .before .before .before .before .pages-fit in
+    sound-no-births _ _ _ (replicate 2048 0) (seen-none 2048) (p .last .1 .1 .0) (p .ensures .1 (not-false _ (c .before .before .before .if4 .left)))
+    (failed (c .before .births-agree .ensures) (c .if5 .taken))
 
-blocks-fit-requires : tie.Need-blocks-fit-requires
-blocks-fit-requires c κs = search needs
+words-fit-requires : tie.Need-words-fit-requires
+words-fit-requires c κs = search needs
 
 returns-6 : tie.Need-returns-6
-returns-6 c = sound-no-rows _ _ _ (replicate 2048 0) (seen-none 2048) _ (c .before .before .before .before .before .before .mark-entries .ensures .1 (not-false _ (c .before .before .before .before .before .if4 .left))) (failed (c .before .blocks-fit .ensures) (c .if6 .taken))
+returns-6 c = sound-no-words _ _ _ (failed (c .before .words-fit .ensures) (c .if6 .taken))
 
 log-holds-requires : tie.Need-log-holds-requires
-log-holds-requires c κs = (c .before .before .before .before .before .before .before .before .before .before .before .before .before .before .before .before .pre .0, c .before .before .before .before .before .before .before .before .before .before .before .before .before .before .before .before .pre .1, range-known _ _ (passed (c .before .before .before .before .before .before .before .before .before .before .before .ranges-fit .ensures) (c .before .before .before .before .before .before .before .before .before .before .if2 .left)) .0)
+log-holds-requires c κs =
+    let d = c .before .before .before .before .before .before .before .before .before .before .before .before .before .before .before .before in
+    (d .pre .0, d .pre .1, range-known _ _ (passed (c .before .before .before .before .before .before .before .before .before .before .before .ranges-fit .ensures) (c .before .before .before .before .before .before .before .before .before .before .if2 .left)))
 
 returns-7 : tie.Need-returns-7
-returns-7 c = sound-yes _ _ _ (replicate 2048 0) (seen-none 2048) _ (c .before .before .before .before .before .before .before .mark-entries .ensures .1 (not-false _ (c .before .before .before .before .before .before .if4 .left)))
-    (passed (c .before .before .before .before .before .before .before .before .before .before .before .before .before .before .numbers-fit .ensures) (c .before .before .before .before .before .before .before .before .before .before .before .before .before .if1 .left)) (passed (c .before .before .before .before .before .before .before .before .before .before .before .before .ranges-fit .ensures) (c .before .before .before .before .before .before .before .before .before .before .before .if2 .left)) (passed (c .before .before .before .before .before .before .before .before .before .before .records-fit .ensures) (c .before .before .before .before .before .before .before .before .before .if3 .left))
-    (passed (c .before .before .before .before .before .before .before .mark-entries .ensures .0) (c .before .before .before .before .before .before .if4 .left)) (passed (c .before .before .before .before .before .neighbours-fit .ensures) (c .before .before .before .before .if5 .left)) (passed (c .before .before .blocks-fit .ensures) (c .before .if6 .left))
+returns-7 c =
+    let p = c .before .before .before .before .before .before .before .pages-fit in
+    let q = c .before .before .before .before .before .before .if4 .left in
+    sound-yes _ _ _ (replicate 2048 0) (seen-none 2048) (p .last .1 .1 .0) (p .ensures .1 (not-false _ q))
+    (passed (c .before .before .before .before .before .before .before .before .before .before .before .before .before .before .numbers-fit .ensures) (c .before .before .before .before .before .before .before .before .before .before .before .before .before .if1 .left))
+    (passed (c .before .before .before .before .before .before .before .before .before .before .before .before .ranges-fit .ensures) (c .before .before .before .before .before .before .before .before .before .before .before .if2 .left))
+    (passed (c .before .before .before .before .before .before .before .before .before .before .records-fit .ensures) (c .before .before .before .before .before .before .before .before .before .if3 .left))
+    (passed (p .ensures .0) q)
+    (passed (c .before .before .before .before .births-agree .ensures) (c .before .before .before .if5 .left))
+    (passed (c .before .before .words-fit .ensures) (c .before .if6 .left))
     (c .log-holds .ensures)
 
 pub is-sound-spec : {M : Type 1} → statement M
@@ -64,11 +75,11 @@ is-sound-spec =
     returns-2
     records-fit-requires
     returns-3
-    mark-entries-requires
+    pages-fit-requires
     returns-4
-    neighbours-fit-requires
+    births-agree-requires
     returns-5
-    blocks-fit-requires
+    words-fit-requires
     returns-6
     log-holds-requires
     returns-7)

@@ -19,15 +19,10 @@ header-number-requires-3 c κs = search needs
 header-number-requires-4 : tie.Need-header-number-requires-4
 header-number-requires-4 c κs = search needs
 
-header-number-requires-5 : tie.Need-header-number-requires-5
-header-number-requires-5 c κs = search needs
-
-mul-entries : tie.Need-mul-entries
-mul-entries c = search needs
-
 returns : tie.Need-returns
-returns c = range-is _ _ (c .before .before .before .before .before .before .before .before .before .header-number .ensures) (c .before .before .before .before .before .before .before .before .marks-fit .ensures) (c .before .before .before .before .before .before .before .header-number2 .ensures) (c .before .before .before .before .before .header-number3 .ensures)
-    (c .before .before .before .header-number4 .ensures) (c .before .header-number5 .ensures)
+returns c =
+    range-is _ _ (c .before .before .before .before .before .before .before .header-number .ensures) (c .before .before .before .before .before .before .marks-fit .ensures) (c .before .before .before .before .before .header-number2 .ensures)
+    (c .before .before .before .header-number3 .ensures) (c .before .header-number4 .ensures)
 
 pub ranges-fit-spec : {M : Type 1} → statement M
 ranges-fit-spec =
@@ -38,6 +33,4 @@ ranges-fit-spec =
     header-number-requires-2
     header-number-requires-3
     header-number-requires-4
-    header-number-requires-5
-    mul-entries
     returns)

@@ -1,6 +1,5 @@
 -- `is_short`: one law for each return.
 use Rattle.soundness.proofs.Short.{short-tables, short-log, short-out}
-use native.Mathlib.Omega.{arith}
 use borrow.Author.Needs.{needs}
 use Rattle.soundness.proofs.lengths.is_short.Statement.{statement}
 use Rattle.soundness.proofs.lengths.is_short.Tie as tie
@@ -13,9 +12,6 @@ mul-if1 c = search needs
 
 add-if1 : tie.Need-add-if1
 add-if1 c = search needs
-
-mul-if1-2 : tie.Need-mul-if1-2
-mul-if1-2 c = search needs
 
 add-if1-2 : tie.Need-add-if1-2
 add-if1-2 c = search needs
@@ -45,7 +41,6 @@ is-short-spec =
     mul-blocks
     mul-if1
     add-if1
-    mul-if1-2
     add-if1-2
     returns
     mul-if2

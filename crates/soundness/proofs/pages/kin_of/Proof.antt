@@ -1,38 +1,98 @@
--- `kin_of`: the five numbers are those of the record.
+-- `kin_of`: the pred is the base where no record is before it, else that record.
 use borrow.Author.Needs.{needs}
-use Rattle.model.specs.Layout.{viewOf}
-use Rattle.soundness.proofs.Cells.{kin-is}
+use Rattle.soundness.proofs.PagesLinks.{kin-first, kin-next}
 use Rattle.soundness.proofs.pages.kin_of.Statement.{statement}
 use Rattle.soundness.proofs.pages.kin_of.Tie as tie
 
-record-number-requires : tie.Need-record-number-requires
-record-number-requires c κs = search needs
+add-wide : tie.Need-add-wide
+add-wide c = search needs
 
-record-number-requires-2 : tie.Need-record-number-requires-2
-record-number-requires-2 c κs = search needs
+mul-wide : tie.Need-mul-wide
+mul-wide c = search needs
 
-pred-of-requires : tie.Need-pred-of-requires
-pred-of-requires c κs = search needs
+shared-slice-read-wide : tie.Need-shared-slice-read-wide
+shared-slice-read-wide c = search needs
 
-pred-number-requires : tie.Need-pred-number-requires
-pred-number-requires c κs = search needs
+wide-requires : tie.Need-wide-requires
+wide-requires c κs = search needs
 
-base-number-requires : tie.Need-base-number-requires
-base-number-requires c κs = search needs
+add-wide-2 : tie.Need-add-wide-2
+add-wide-2 c = search needs
+
+mul-wide-2 : tie.Need-mul-wide-2
+mul-wide-2 c = search needs
+
+shared-slice-read-wide-2 : tie.Need-shared-slice-read-wide-2
+shared-slice-read-wide-2 c = search needs
+
+wide-requires-2 : tie.Need-wide-requires-2
+wide-requires-2 c κs = search needs
+
+reach-requires : tie.Need-reach-requires
+reach-requires c κs = search needs
+
+number-behind-requires : tie.Need-number-behind-requires
+number-behind-requires c κs = search needs
+
+add-wide-3 : tie.Need-add-wide-3
+add-wide-3 c = search needs
+
+mul-wide-3 : tie.Need-mul-wide-3
+mul-wide-3 c = search needs
+
+shared-slice-read-wide-3 : tie.Need-shared-slice-read-wide-3
+shared-slice-read-wide-3 c = search needs
+
+wide-requires-3 : tie.Need-wide-requires-3
+wide-requires-3 c κs = search needs
 
 returns : tie.Need-returns
-unfolding viewOf
-returns c = let a = c .before .before .before .before .before .before .args in
-    kin-is (viewOf (a .g) (a .t .now)) (a .s) (c .before .before .before .before .record-number .ensures) (c .before .before .before .record-number2 .ensures) (c .before .before .pred-of .ensures) (c .before .pred-number .ensures)
-    (c .base-number .ensures)
+returns c = kin-first _ _ _ (c .before .before .before .before .before .before .before .before .before .before .pre .1) (c .wide3 .ensures) (c .before .before .before .before .before .before .before .wide .ensures) (c .before .before .before .before .before .wide2 .ensures) (c .before .before .before .before .reach .ensures .0) (c .before .before .before .number-behind .ensures) (c .before .before .if1 .taken)
+
+reach-requires-2 : tie.Need-reach-requires-2
+reach-requires-2 c κs = search needs
+
+number-behind-requires-2 : tie.Need-number-behind-requires-2
+number-behind-requires-2 c κs = search needs
+
+add-wide-4 : tie.Need-add-wide-4
+add-wide-4 c = search needs
+
+mul-wide-4 : tie.Need-mul-wide-4
+mul-wide-4 c = search needs
+
+shared-slice-read-wide-4 : tie.Need-shared-slice-read-wide-4
+shared-slice-read-wide-4 c = search needs
+
+wide-requires-4 : tie.Need-wide-requires-4
+wide-requires-4 c κs = search needs
+
+returns-2 : tie.Need-returns-2
+returns-2 c = kin-next _ _ _ (c .before .before .before .before .before .before .before .before .before .before .before .before .pre .1) (c .wide4 .ensures) (c .before .before .before .before .before .before .before .before .before .wide .ensures) (c .before .before .before .before .before .before .before .wide2 .ensures) (c .before .before .before .before .before .before .reach .ensures .0) (c .before .before .before .before .before .number-behind .ensures) (c .before .before .before .before .if1 .left) (c .before .before .before .reach2 .ensures .0) (c .before .before .number-behind2 .ensures)
 
 pub kin-of-spec : {M : Type 1} → statement M
 kin-of-spec =
     tie.close
     (tie.spec
-    record-number-requires
-    record-number-requires-2
-    pred-of-requires
-    pred-number-requires
-    base-number-requires
-    returns)
+    add-wide
+    mul-wide
+    shared-slice-read-wide
+    wide-requires
+    add-wide-2
+    mul-wide-2
+    shared-slice-read-wide-2
+    wide-requires-2
+    reach-requires
+    number-behind-requires
+    add-wide-3
+    mul-wide-3
+    shared-slice-read-wide-3
+    wide-requires-3
+    returns
+    reach-requires-2
+    number-behind-requires-2
+    add-wide-4
+    mul-wide-4
+    shared-slice-read-wide-4
+    wide-requires-4
+    returns-2)

@@ -1,78 +1,53 @@
--- `pages_fit`: the pages before x fit.
-use mathlib.Core.Bool.{true}
-use mathlib.Core.Path.{_≡_, _∙_}
-use Prim.Native.Nat.{_≤_, _-_}
-use native.Mathlib.Omega.{arith}
+-- `pages_fit`: what is left of the slots comes to the same.
 use borrow.Author.Needs.{needs}
+use mathlib.Core.Bool.{false≢true}
+use Prim.Native.Nat.{_-_}
 use Rattle.model.specs.Layout.{viewOf}
-use Rattle.model.specs.Table.{all}
-use Rattle.soundness.specs.Light.{lightPage?}
-use Rattle.soundness.proofs.Light.{light-apart, light-run}
-use Rattle.soundness.proofs.Loops.{failed, passed, all-none, all-more, all-fails, all-end, and-first, and-late, and-both}
+use Rattle.soundness.proofs.PagesSlots.{Slots, slots-start, slots-stop, slots-go, slots-end}
 use Rattle.soundness.proofs.pages.pages_fit.Statement.{statement}
 use Rattle.soundness.proofs.pages.pages_fit.Tie as tie
 
 abbrev Inv-loop : tie.InvT-loop
-Inv-loop g t s kin x₀ x = (x ≤ g .pages) × (all x (λ x. lightPage? (viewOf g t) s x) ≡ true)
+Inv-loop g t own₀ gone₀ s₀ own gone s = Slots (viewOf g t) own₀ own gone s
 
 abbrev μ-loop : tie.MeasureT-loop
-μ-loop g t s kin x₀ x = g .pages - x
-
-kin-of-requires : tie.Need-kin-of-requires Inv-loop μ-loop
-kin-of-requires c κs = search needs
+μ-loop g t own₀ gone₀ s₀ own gone s = g .records - s
 
 loop-holds : tie.Need-loop-holds Inv-loop μ-loop
-loop-holds c = (omega arith, all-none _)
+loop-holds c = let d = c .before in
+    let a = d .args in
+    slots-start (viewOf (a .g) (a .t .now)) (a .own .now) (d .pre .1)
 
-page-link-requires : tie.Need-page-link-requires Inv-loop μ-loop
-page-link-requires c κs = search needs
-
-page-behind-requires : tie.Need-page-behind-requires Inv-loop μ-loop
-page-behind-requires c κs = search needs
-
-shared-to-requires : tie.Need-shared-to-requires Inv-loop μ-loop
-shared-to-requires c κs = search needs
-
-loop-less : tie.Need-loop-less Inv-loop μ-loop
-loop-less c = omega arith
-
-loop-again : tie.Need-loop-again Inv-loop μ-loop
-loop-again c = (
-  c .shared-to .ensures .0 .1,
-  light-run _ _ (c .before .before .before .before .before .before .before .kin-of .ensures) (c .before .before .before .page-link .ensures) (c .before .before .page-behind .ensures) (c .before .if2 .taken) (c .before .before .before .before .before .before .loop .inv .1) (c .shared-to .ensures .1),
-)
-
-page-fits-requires : tie.Need-page-fits-requires Inv-loop μ-loop
-page-fits-requires c κs = search needs
+slot-fits-requires : tie.Need-slot-fits-requires Inv-loop μ-loop
+slot-fits-requires c κs = let d = c .before .before .before .before .before .before in
+    let W = c .before .before .before .before .loop .inv in
+    (d .pre .0, c .before .before .if1 .taken, W .own-size, W .gone-size, W .low)
 
 returns : tie.Need-returns Inv-loop μ-loop
-returns c =
-    all-fails _ _ _ (c .before .before .before .before .before .if1 .taken)
-    (light-apart _ _ (c .before .before .before .before .before .before .before .before .kin-of .ensures) (c .before .before .before .before .page-link .ensures) (c .before .before .before .page-behind .ensures) (c .before .before .if2 .left) ∙ and-first _ (failed (c .before .page-fits .ensures) (c .if3 .taken)))
+unfolding viewOf
+returns c = let d = c .before .before .before .before .before .before .before .before in
+    let a = d .args in
+    (slots-stop (viewOf (a .g) (a .t .now)) (a .own .now) (c .before .before .before .before .before .before .loop .inv) (c .before .before .before .before .if1 .taken) (c .before .slot-fits .ensures .0) (c .if2 .taken), λ e. absurd (false≢true e))
 
-page-dies-requires : tie.Need-page-dies-requires Inv-loop μ-loop
-page-dies-requires c κs = search needs
+add-s : tie.Need-add-s Inv-loop μ-loop
+add-s c = search needs
+
+loop-less : tie.Need-loop-less Inv-loop μ-loop
+loop-less c = search needs
+
+loop-again : tie.Need-loop-again Inv-loop μ-loop
+unfolding viewOf
+loop-again c = let d = c .before .before .before .before .before .before .before .before in
+    let a = d .args in
+    let e = c .before .slot-fits .ensures in
+    slots-go (viewOf (a .g) (a .t .now)) (a .own .now) (c .before .before .before .before .before .before .loop .inv) (c .before .before .before .before .if1 .taken) (e .0) (c .if2 .left) (e .1 .1 .0) (e .1 .1 .1) (e .1 .0) (e .1 .1 .2)
 
 returns-2 : tie.Need-returns-2 Inv-loop μ-loop
-returns-2 c =
-    all-fails _ _ _ (c .before .before .before .before .before .before .before .if1 .taken)
-    (light-apart _ _ (c .before .before .before .before .before .before .before .before .before .before .kin-of .ensures) (c .before .before .before .before .before .before .page-link .ensures) (c .before .before .before .before .before .page-behind .ensures) (c .before .before .before .before .if2 .left) ∙ and-late (c .before .before .before .page-fits .ensures) (c .before .page-dies .ensures) (c .if4 .taken))
-
-add-x : tie.Need-add-x Inv-loop μ-loop
-add-x c = search needs
-
-loop-less-2 : tie.Need-loop-less-2 Inv-loop μ-loop
-loop-less-2 c = omega arith
-
-loop-again-2 : tie.Need-loop-again-2 Inv-loop μ-loop
-loop-again-2 c = (
-  omega arith,
-  all-more _ _ (c .before .before .before .before .before .before .before .before .before .loop .inv .1)
-      (light-apart _ _ (c .before .before .before .before .before .before .before .before .before .before .kin-of .ensures) (c .before .before .before .before .before .before .page-link .ensures) (c .before .before .before .before .before .page-behind .ensures) (c .before .before .before .before .if2 .left) ∙ and-both _ _ (passed (c .before .before .before .page-fits .ensures) (c .before .before .if3 .left)) (passed (c .before .page-dies .ensures) (c .if4 .left))),
-)
-
-returns-3 : tie.Need-returns-3 Inv-loop μ-loop
-returns-3 c = all-end _ _ _ (c .before .before .loop .inv .0) (c .if1 .left) (c .before .before .loop .inv .1)
+unfolding viewOf
+returns-2 c = let d = c .before .before .before .before in
+    let a = d .args in
+    let r = slots-end (viewOf (a .g) (a .t .now)) (a .own .now) (c .before .before .loop .inv) (c .if1 .left) in
+    (r .0, λ e. r .1)
 
 pub pages-fit-spec : {M : Type 1} → statement M
 pages-fit-spec =
@@ -80,18 +55,10 @@ pages-fit-spec =
     (tie.spec
     Inv-loop
     μ-loop
-    kin-of-requires
     loop-holds
-    page-link-requires
-    page-behind-requires
-    shared-to-requires
+    slot-fits-requires
+    returns
+    add-s
     loop-less
     loop-again
-    page-fits-requires
-    returns
-    page-dies-requires
-    returns-2
-    add-x
-    loop-less-2
-    loop-again-2
-    returns-3)
+    returns-2)

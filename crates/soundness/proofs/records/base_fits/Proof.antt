@@ -1,24 +1,19 @@
--- `base_fits`: the clause, of the rows that were read.
+-- `base_fits`: the clause, of the link that was read.
 use borrow.Author.Needs.{needs}
-use Rattle.soundness.proofs.Clauses.{base-none, base-some}
+use Rattle.model.specs.Layout.{viewOf}
+use Rattle.soundness.proofs.Clauses.{base-is}
 use Rattle.soundness.proofs.records.base_fits.Statement.{statement}
 use Rattle.soundness.proofs.records.base_fits.Tie as tie
 
-record-at-requires : tie.Need-record-at-requires
-record-at-requires c κs = search needs
+column-number-requires : tie.Need-column-number-requires
+column-number-requires c κs = search needs
+
+link-fits-requires : tie.Need-link-fits-requires
+link-fits-requires c κs = search needs
 
 returns : tie.Need-returns
-returns c = base-none _ _ (c .before .before .record-at .ensures) (c .if1 .taken)
-
-sub-record-at : tie.Need-sub-record-at
-sub-record-at c = search needs
-
-record-at-requires-2 : tie.Need-record-at-requires-2
-record-at-requires-2 c κs = search needs
-
-returns-2 : tie.Need-returns-2
-returns-2 c = base-some _ _ (c .before .before .before .before .before .before .before .before .record-at .ensures) (c .before .before .before .before .before .before .if1 .left) (c .before .before .before .before .record-at2 .ensures)
+unfolding viewOf
+returns c = let a = c .before .before .before .args in base-is (viewOf (a .g) (a .t .now)) (a .s) (c .before .column-number .ensures) (c .link-fits .ensures)
 
 pub base-fits-spec : {M : Type 1} → statement M
-base-fits-spec =
-    tie.close (tie.spec record-at-requires returns sub-record-at record-at-requires-2 returns-2)
+base-fits-spec = tie.close (tie.spec column-number-requires link-fits-requires returns)

@@ -1,24 +1,44 @@
--- `prev_fits`: the clause, of the rows that were read.
+-- `prev_fits`: the clause, of the numbers that were read.
 use borrow.Author.Needs.{needs}
+use Rattle.model.specs.Layout.{viewOf}
 use Rattle.soundness.proofs.Clauses.{prev-none, prev-some}
 use Rattle.soundness.proofs.records.prev_fits.Statement.{statement}
 use Rattle.soundness.proofs.records.prev_fits.Tie as tie
 
-record-at-requires : tie.Need-record-at-requires
-record-at-requires c κs = search needs
+column-number-requires : tie.Need-column-number-requires
+column-number-requires c κs = search needs
 
 returns : tie.Need-returns
-returns c = prev-none _ _ (c .before .before .record-at .ensures) (c .if1 .taken)
+unfolding viewOf
+returns c = let a = c .before .before .before .args in prev-none (viewOf (a .g) (a .t .now)) (a .s) (c .before .column-number .ensures) (c .if1 .taken)
 
-sub-record-at : tie.Need-sub-record-at
-sub-record-at c = search needs
+link-fits-requires : tie.Need-link-fits-requires
+link-fits-requires c κs = search needs
 
-record-at-requires-2 : tie.Need-record-at-requires-2
-record-at-requires-2 c κs = search needs
+sub-column-number : tie.Need-sub-column-number
+sub-column-number c = search needs
+
+column-number-requires-2 : tie.Need-column-number-requires-2
+column-number-requires-2 c κs = search needs
+
+column-number-requires-3 : tie.Need-column-number-requires-3
+column-number-requires-3 c κs = search needs
 
 returns-2 : tie.Need-returns-2
-returns-2 c = prev-some _ _ (c .before .before .before .before .before .before .before .before .before .before .before .before .record-at .ensures) (c .before .before .before .before .before .before .before .before .before .before .if1 .left) (c .before .before .before .before .before .before .before .before .record-at2 .ensures)
+unfolding viewOf
+returns-2 c =
+    let a = c .before .before .before .before .before .before .args in
+    prev-some (viewOf (a .g) (a .t .now)) (a .s) (c .before .before .before .before .column-number .ensures) (c .before .before .before .if1 .left) (c .before .before .link-fits .ensures)
+    (c .before .column-number2 .ensures) (c .column-number3 .ensures)
 
 pub prev-fits-spec : {M : Type 1} → statement M
 prev-fits-spec =
-    tie.close (tie.spec record-at-requires returns sub-record-at record-at-requires-2 returns-2)
+    tie.close
+    (tie.spec
+    column-number-requires
+    returns
+    link-fits-requires
+    sub-column-number
+    column-number-requires-2
+    column-number-requires-3
+    returns-2)

@@ -8,13 +8,13 @@ use borrow.Author.Needs.{needs}
 use Rattle.model.specs.Check.{imp}
 use Rattle.model.specs.Layout.{viewOf}
 use Rattle.model.specs.Table.{all}
-use Rattle.soundness.specs.Light.{lightSlot?}
+use Rattle.soundness.specs.Pairs.{linkedTo?}
 use Rattle.soundness.proofs.Loops.{all-none, all-stop, all-step, all-end}
 use Rattle.soundness.proofs.records.records_fit.Statement.{statement}
 use Rattle.soundness.proofs.records.records_fit.Tie as tie
 
 abbrev Inv-loop : tie.InvT-loop
-Inv-loop g t s₀ s = (s ≤ g .records) × (all s (λ s. imp (ltb 0 (viewOf g t .num s)) (lightSlot? (viewOf g t) s)) ≡ true)
+Inv-loop g t s₀ s = (s ≤ g .records) × (all s (λ s. imp (ltb 0 (viewOf g t .num s)) (linkedTo? (viewOf g t) s s)) ≡ true)
 
 abbrev μ-loop : tie.MeasureT-loop
 μ-loop g t s₀ s = g .records - s
