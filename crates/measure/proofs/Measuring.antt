@@ -1,6 +1,5 @@
 -- What the loop over the lines keeps: the lengths of its arrays, replies inside their buffer, and what a session keeps.
-use mathlib.Core.Path.{_≡_, refl, sym, ap, _∙_}
-use mathlib.Core.Bool.{false, false≢true}
+use mathlib.Core.Path.{_≡_, refl, ap}
 use mathlib.Core.List.{List, _++_}
 use Prim.Native.Nat.{ℕ, _+_, _-_, _≤_}
 use native.Mathlib.Omega.{arith}
@@ -13,7 +12,7 @@ use Rattle.session.specs.declared.Session.{Session}
 use Rattle.session.specs.Step.{Kept, Few}
 
 pub record Running (s : Session) (t bytes numbers lent replies : List ℕ) (used : ℕ) : Type 0 where
-  pub tables : length t ≡ 33824
+  pub tables : length t ≡ 36864
   pub log : length bytes ≡ 65536
   pub out : length numbers ≡ 4160
   pub same : length replies ≡ length lent
@@ -21,10 +20,10 @@ pub record Running (s : Session) (t bytes numbers lent replies : List ℕ) (used
   pub kept : Kept s t bytes numbers
 
 -- before the first line
-pub running : (s : Session) (replies : List ℕ) → s .made ≡ false →
-    Running s (replicate 33824 0) (replicate 65536 0) (replicate 4160 0) replies replies 0
+pub running : (s : Session) (replies : List ℕ) → s .made ≡ 0 →
+    Running s (replicate 36864 0) (replicate 65536 0) (replicate 4160 0) replies replies 0
 running s replies e =
-    let t = length-replicate {A = ℕ} 33824 0 in
+    let t = length-replicate {A = ℕ} 36864 0 in
     let l = length-replicate {A = ℕ} 65536 0 in
     let o = length-replicate {A = ℕ} 4160 0 in
     record {
@@ -37,8 +36,8 @@ running s replies e =
         tables = omega arith;
         log = omega arith;
         out = omega arith;
-        inside = λ m. absurd (false≢true (sym e ∙ m));
-        sound = λ m. absurd (false≢true (sym e ∙ m));
+        inside = λ m. absurd (let z : ⊥ = omega arith in z);
+        sound = λ m. absurd (let z : ⊥ = omega arith in z);
       };
     }
 

@@ -1,17 +1,14 @@
-// What the benchmarks call: a script served into a lent buffer, and one call through the store's full check.
-// Nothing is promised here beyond safety: the promises are those of `session` and `store`.
-use answer::Answer;
-use script::reader::Line;
-use script::reader::line_from;
+// What the benchmarks call: a script served into a lent buffer. Nothing is promised here beyond safety: the promises are those of `session`.
+// No other call stands beside it: a second caller of the engine would change what the compiler does inline, and the runner has but one.
 use script::reply::put_reply;
+use script::said::said_at;
 use session::start;
 use session::step;
-use store::letters::read;
 
 // The replies to the lines of a text, in the lent buffer; stops once less than 65,536 bytes of it are free. Returns how many bytes of replies there are.
 #[no_mangle]
 pub extern "C" fn measure_script(text: &[u8], replies: &mut [u8]) -> usize {
-    let mut t = [0u32; 33824];
+    let mut t = [0u32; 36864];
     let mut log = [0u8; 65536];
     let mut out = [0u32; 4160];
     let mut session = start();
@@ -21,49 +18,14 @@ pub extern "C" fn measure_script(text: &[u8], replies: &mut [u8]) -> usize {
         if replies.len() - used < 65536 {
             return used;
         }
-        let line = line_from(text, at);
-        let Line::Part(from, end) = line else {
-            return used;
-        };
-        let stepped = step(session, &text[from..end], &mut t, &mut log, &mut out);
+        let said = said_at(text, at);
+        let says = said.says;
+        let end = said.end;
+        let stepped = step(session, says, &mut t, &mut log, &mut out);
         session = stepped.session;
         let answer = stepped.answer;
         used = put_reply(replies, used, answer, &out);
         at = end + 1;
     }
     used
-}
-
-// One R through the store on lent memory: 0, or the refusal.
-#[no_mangle]
-pub extern "C" fn measure_call(
-    arenas: usize,
-    per: usize,
-    pages: usize,
-    records: usize,
-    turn: usize,
-    words: usize,
-    tables: &mut [u32],
-    log: &mut [u8],
-    out: &mut [u32],
-    n: u32,
-    page: u32,
-) -> u32 {
-    let answer = read(
-        arenas,
-        per,
-        pages,
-        records,
-        turn,
-        words,
-        tables,
-        log,
-        out,
-        n,
-        page,
-    );
-    match answer {
-        Answer::Done(_) => 0,
-        Answer::Refused(k) => k as u32,
-    }
 }

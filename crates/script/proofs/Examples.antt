@@ -7,7 +7,8 @@ use Rattle.script.specs.declared.parse.Parsed.{Parsed}
 use Rattle.script.specs.declared.parse.Parsed.the-variants.{Store, Asks}
 use Rattle.script.specs.Decimal.{digits, decimal, spaced}
 use Rattle.script.specs.Parse.{parsed, opens, callLine, numbersFrom, numberFrom, firstDigit, digitsFrom, countOf, callOf}
-use Rattle.script.specs.Lines.{linesOf}
+use Rattle.script.specs.Lines.{run, linesOf}
+use Rattle.script.specs.Said.{saidAt}
 use Rattle.script.specs.ReplyText.{replyText}
 
 -- `store 1 4 2 4 8 10`
@@ -70,3 +71,8 @@ three-lines = refl
 one-line : linesOf (66 ∷ 10 ∷ []) ≡ (66 ∷ []) ∷ []
 unfolding linesOf
 one-line = refl
+
+-- `B`, then `D 9` with no line feed behind it: the second line says its call, and ends where the text does
+last-said : saidAt (66 ∷ 10 ∷ 68 ∷ 32 ∷ 57 ∷ []) 2 ≡ record { says = Asks (Delete 9); end = 5 }
+unfolding saidAt run parsed opens callLine countOf callOf numbersFrom numberFrom firstDigit digitsFrom
+last-said = refl

@@ -8,4 +8,5 @@ pub mod Printing
 pub mod Spelling
 pub mod Saying
 pub mod LinesFacts
+pub mod OnePass
 pub mod Examples

@@ -22,7 +22,7 @@ lines-first b (c ∷ l) =
     let e : suc (run (c ∷ l)) + 1 ≡ suc (run (c ∷ l) + 1) = omega arith in
     rw (f, e, lines-first c l))
 
-slice-is : (text : List ℕ) (at n : ℕ) → at ≤ length text → slice at (at + n) text ≡ take n (drop at text)
+pub slice-is : (text : List ℕ) (at n : ℕ) → at ≤ length text → slice at (at + n) text ≡ take n (drop at text)
 slice-is text at n h = ap (drop at) (take-add at n text) ∙ drop-at (take at text) (take n (drop at text)) at (length-take-le at text h)
 
 -- THE READER MEETS THE LINES: from any position, each next line behind the line feed of the one before
@@ -102,7 +102,7 @@ lines-last (x ∷ ls) b l h k =
     ∙ line-first x (ended ls ++ (b ∷ l)) (h .0)
     ∙ ap (λ (y : List (List ℕ)). x ∷ y) (lines-last ls b l (h .1) k)
 
-run-short : (l : List ℕ) → run l ≤ length l
+pub run-short : (l : List ℕ) → run l ≤ length l
 unfolding run
 run-short [] = omega arith
 run-short (b ∷ l) =

@@ -26,7 +26,7 @@ use Rattle.script.proofs.Spelling.{Ends, number-spelt, number-read}
 -- ── the numbers of a line ──
 
 -- what stands behind the digits that were read
-rest-is : (line : List ℕ) (at : ℕ) (d rest : List ℕ) → drop at line ≡ d ++ rest → drop (at + length d) line ≡ rest
+pub rest-is : (line : List ℕ) (at : ℕ) (d rest : List ℕ) → drop at line ≡ d ++ rest → drop (at + length d) line ≡ rest
 rest-is line at d rest e = sym (drop-drop (length d) at line) ∙ ap (drop (length d)) e ∙ drop-append-seam d rest
 
 some-same : {a b : List ℕ} → some a ≡ some b → a ≡ b
@@ -137,7 +137,7 @@ store-says line o (some ns) e =
     (opens-yes store line o ∙ ap (λ (x : List ℕ). store ++ x) (t .3 ∙ ap spaced (sym six)), subst AllSmall (sym six) (t .4))
 
 -- a call's letter and numbers are those it was made of
-made-of : (ms : List ℕ) (b : ℕ) → length ms ≡ countOf b → countOf b ≤ 3
+pub made-of : (ms : List ℕ) (b : ℕ) → length ms ≡ countOf b → countOf b ≤ 3
     → (letter (callOf b (getD ms 0 0) (getD ms 1 0) (getD ms 2 0)) ≡ b) × (numbers (callOf b (getD ms 0 0) (getD ms 1 0) (getD ms 2 0)) ≡ ms)
 unfolding countOf callOf
 made-of ms =
@@ -208,7 +208,7 @@ letter-fits Barrier l = (refl, refl, refl, refl)
 letter-fits Compress l = (refl, refl, refl, refl)
 letter-fits FreeList l = (refl, refl, refl, refl)
 
-said : (p : Parsed) → (p ≡ Parsed.No → ⊥) → length (spelled p) ≤ 80 → Small p → parsed (spelled p) ≡ p
+pub said : (p : Parsed) → (p ≡ Parsed.No → ⊥) → length (spelled p) ≤ 80 → Small p → parsed (spelled p) ≡ p
 unfolding parsed spelled callLine
 said (Store s) n h k =
     let line : List ℕ = store ++ spaced (sixNumbers s) in

@@ -2,5 +2,6 @@
 pub mod Decimal
 pub mod Lines
 pub mod Parse
+pub mod Said
 pub mod Grammar
 pub mod ReplyText

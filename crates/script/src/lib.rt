@@ -3,3 +3,4 @@ pub mod number;
 pub mod parse;
 pub mod reader;
 pub mod reply;
+pub mod said;

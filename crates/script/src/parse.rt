@@ -80,7 +80,7 @@ fn store_line(line: &[u8]) -> Parsed
 }
 
 // How many numbers follow a letter; 4 for no letter of a call.
-fn count_of(letter: u8) -> usize
+pub fn count_of(letter: u8) -> usize
     ensures { λ r. ⌜ r ≡ countOf letter ⌝ }
 {
     match letter {
@@ -99,7 +99,7 @@ fn count_of(letter: u8) -> usize
 }
 
 // The call of a letter and its numbers.
-fn call_of(letter: u8, x: u32, y: u32, z: u32) -> Call
+pub fn call_of(letter: u8, x: u32, y: u32, z: u32) -> Call
     ensures { λ r. ⌜ r ≡ callOf letter x y z ⌝ }
 {
     match letter {

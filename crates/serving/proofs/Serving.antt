@@ -1,6 +1,5 @@
 -- What the loop over the lines keeps: the lengths of its arrays, room for a longest reply, and what a session keeps.
-use mathlib.Core.Path.{_≡_, refl, sym, ap, _∙_}
-use mathlib.Core.Bool.{true, false, false≢true}
+use mathlib.Core.Path.{_≡_, ap}
 use mathlib.Core.List.{List, _++_}
 use Prim.Native.Nat.{ℕ, _+_, _*_, _≤_, _<_}
 use native.Mathlib.Omega.{arith}
@@ -13,37 +12,37 @@ use Rattle.session.specs.declared.Session.{Session}
 use Rattle.session.specs.Step.{Kept, Few}
 
 pub record Running (s : Session) (t bytes numbers replies : List ℕ) (used : ℕ) : Type 0 where
-  pub tables : length t ≡ 33824
+  pub tables : length t ≡ 36864
   pub log : length bytes ≡ 65536
   pub out : length numbers ≡ 4160
-  pub text : length replies ≡ 131072
-  pub half : used ≤ 65536
+  pub text : length replies ≡ 65536
+  pub low : used ≤ 16000
   pub kept : Kept s t bytes numbers
 
 -- before the first line
-pub running : (s : Session) → s .made ≡ false →
-    Running s (replicate 33824 0) (replicate 65536 0) (replicate 4160 0) (replicate 131072 0) 0
+pub running : (s : Session) → s .made ≡ 0 →
+    Running s (replicate 36864 0) (replicate 65536 0) (replicate 4160 0) (replicate 65536 0) 0
 running s e =
-    let t = length-replicate {A = ℕ} 33824 0 in
+    let t = length-replicate {A = ℕ} 36864 0 in
     let l = length-replicate {A = ℕ} 65536 0 in
     let o = length-replicate {A = ℕ} 4160 0 in
     record {
       tables = t;
       log = l;
       out = o;
-      text = length-replicate {A = ℕ} 131072 0;
-      half = omega arith;
+      text = length-replicate {A = ℕ} 65536 0;
+      low = omega arith;
       kept = record {
         tables = omega arith;
         log = omega arith;
         out = omega arith;
-        inside = λ m. absurd (false≢true (sym e ∙ m));
-        sound = λ m. absurd (false≢true (sym e ∙ m));
+        inside = λ m. absurd (let z : ⊥ = omega arith in z);
+        sound = λ m. absurd (let z : ⊥ = omega arith in z);
       };
     }
 
 -- an answer of at most 4,096 numbers fits
-pub room : (r : Answer) → Few r → (text out : List ℕ) (used : ℕ) → length text ≡ 131072 → 4160 ≤ length out → used ≤ 65536 → Room text used r out
+pub room : (r : Answer) → Few r → (text out : List ℕ) (used : ℕ) → length text ≡ 65536 → 4160 ≤ length out → used ≤ 16000 → Room text used r out
 room (Done n) f text out used e h k = record { fits = omega arith; gives = omega arith }
 room (Refused n) f text out used e h k = record { fits = omega arith; gives = omega arith }
 

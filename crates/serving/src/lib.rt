@@ -1,21 +1,18 @@
 // A script served: a reply on standard output for each line of a text.
 ghost use Prim.Native.Nat.{_≤_};
 ghost use lib.ListN.{length};
-use answer::Answer;
 use libc::STDOUT_FILENO;
-use script::reader::Line;
-use script::reader::line_from;
 use script::reply::put_reply;
-use session::Session;
+use script::said::said_at;
 use session::start;
 use session::step;
 
 // Writes what stands in the buffer once less than a longest reply is free; returns how many bytes stand there then.
 fn flushed(replies: &[u8], used: usize) -> usize
     requires { ⌜ used ≤ length (now replies) ⌝ }
-    ensures { λ r. ⌜ r ≤ 65536 ⌝ }
+    ensures { λ r. ⌜ r ≤ 16000 ⌝ }
 {
-    if used <= 65536 {
+    if used <= 16000 {
         return used;
     }
     io::write_all(STDOUT_FILENO, &replies[..used]);
@@ -24,19 +21,18 @@ fn flushed(replies: &[u8], used: usize) -> usize
 
 // The lines of a text, each with its reply.
 pub fn serve(text: &[u8]) {
-    let mut t = [0u32; 33824];
+    let mut t = [0u32; 36864];
     let mut log = [0u8; 65536];
     let mut out = [0u32; 4160];
-    let mut replies = [0u8; 131072];
+    let mut replies = [0u8; 65536];
     let mut session = start();
     let mut used: usize = 0;
     let mut at: usize = 0;
     while at < text.len() {
-        let line = line_from(text, at);
-        let Line::Part(from, end) = line else {
-            return;
-        };
-        let stepped = step(session, &text[from..end], &mut t, &mut log, &mut out);
+        let said = said_at(text, at);
+        let says = said.says;
+        let end = said.end;
+        let stepped = step(session, says, &mut t, &mut log, &mut out);
         session = stepped.session;
         let answer = stepped.answer;
         used = put_reply(&mut replies, used, answer, &out);

@@ -1,9 +1,10 @@
 -- THE RUNNER, line by line. "Each parsed line is taken apart as a call, or the runner prints 1. Before a store exists every other call gives 4."
 -- "a later such line, if accepted, starts afresh."
 use mathlib.Core.Path.{_≡_}
-use mathlib.Core.Bool.{Bool, true, cond}
+use mathlib.Core.Bool.{cond}
 use mathlib.Core.List.{List}
-use Prim.Native.Nat.{ℕ, _≤_}
+use Prim.Native.Nat.{ℕ, _≤_, _<_}
+use lib.Dec.{eqb}
 use lib.ListN.{length}
 use Rattle.answer.specs.declared.Answer.{Answer}
 use Rattle.answer.specs.declared.Answer.the-variants.{Done, Refused}
@@ -25,17 +26,17 @@ geometryIn x = geometryOf (x .arenas) (x .per) (x .pages) (x .records) (x .turn)
 -- the reply to a line
 unfoldable pub stepReply : Session → Memory → Parsed → Reply
 stepReply s M (Store x) = makeReply (geometryIn x) M
-stepReply s M (Asks c) = cond (s .made) (reply (s .g) M c) (refused 4)
+stepReply s M (Asks c) = cond (eqb (s .made) 0) (refused 4) (reply (s .g) M c)
 stepReply s M No = refused 1
 
 -- what it leaves in the lent memory
 unfoldable pub stepMemory : Session → Memory → Parsed → Memory
 stepMemory s M (Store x) = makeAfter (geometryIn x) M
-stepMemory s M (Asks c) = cond (s .made) (after (s .g) M c) M
+stepMemory s M (Asks c) = cond (eqb (s .made) 0) M (after (s .g) M c)
 stepMemory s M No = M
 
 abbrev pub startedBy : Reply → Session → Geometry → Session
-startedBy (accepted l) s g = record { made = true; g = g }
+startedBy (accepted l) s g = record { made = 1; g = g }
 startedBy (refused n) s g = s
 
 -- whether there is a store then, and its geometry
@@ -46,11 +47,11 @@ stepSession s M No = s
 
 -- what the runner keeps: memory enough for every geometry inside its limits, and, once there is a store, soundness
 pub record Kept (s : Session) (t bytes numbers : List ℕ) : Type 0 where
-  pub tables : 33824 ≤ length t
+  pub tables : 36864 ≤ length t
   pub log : 65536 ≤ length bytes
   pub out : 4160 ≤ length numbers
-  pub inside : s .made ≡ true → Inside (s .g)
-  pub sound : s .made ≡ true → SoundStore (s .g) t bytes
+  pub inside : 0 < s .made → Inside (s .g)
+  pub sound : 0 < s .made → SoundStore (s .g) t bytes
 
 -- an answer that gives at most 4,096 numbers
 abbrev pub Few : Answer → Type 0

@@ -1,9 +1,7 @@
 // A script's run on memory that the runner owns: a line in, an answer out. Soundness is kept, not checked anew.
 ghost use mathlib.Core.Path.{_≡_};
-ghost use mathlib.Core.Bool.{false};
 ghost use Rattle.answer.specs.Reply.{replyOf};
 ghost use Rattle.answer.specs.declared.Answer.the-variants.{Refused};
-ghost use Rattle.script.specs.Parse.{parsed};
 ghost use Rattle.model.specs.Memory.{lent};
 ghost use Rattle.script.specs.declared.parse.Parsed.the-variants.{Store, Asks};
 ghost use Rattle.session.specs.Step.{stepReply, stepMemory, stepSession, Kept, Few, Stepping};
@@ -13,13 +11,13 @@ use geometry::Geometry;
 use model::Call;
 use script::parse::Parsed;
 use script::parse::Six;
-use script::parse::parse;
 use store::make::make;
 use tables::find::wide;
 
-// Whether a store was made, and its geometry.
+// Whether a store was made, 1 or 0, and its geometry. A number and no bool: a bool would leave a gap, and a copy of the struct would read more bytes
+// than were written at once.
 pub struct Session {
-    pub made: bool,
+    pub made: usize,
     pub g: Geometry,
 }
 
@@ -31,10 +29,10 @@ pub struct Stepped {
 
 // Before the first line there is no store.
 pub fn start() -> Session
-    ensures { λ r. ⌜ r .made ≡ false ⌝ }
+    ensures { λ r. ⌜ r .made ≡ 0 ⌝ }
 {
     Session {
-        made: false,
+        made: 0,
         g: Geometry {
             arenas: 1,
             per: 1,
@@ -83,7 +81,7 @@ fn store_line(s: Session, x: Six, t: &mut [u32], log: &[u8], out: &[u32]) -> Ste
         return Stepped { session: s, answer };
     };
     Stepped {
-        session: Session { made: true, g },
+        session: Session { made: 1, g },
         answer: Answer::Done(n),
     }
 }
@@ -93,7 +91,7 @@ fn call_line(s: Session, c: Call, t: &mut [u32], log: &mut [u8], out: &mut [u32]
     requires { ⌜ Kept s (now t) (now log) (now out) ⌝ }
     ensures { λ r. ⌜ Stepping s (lent (now (t .entry)) (now (log .entry)) (now (out .entry))) (Asks c) r (lent (now (t .exit)) (now (log .exit)) (now (out .exit))) ⌝ }
 {
-    if !s.made {
+    if s.made == 0 {
         return refuse(s, 4);
     }
     let g = s.g;
@@ -101,18 +99,17 @@ fn call_line(s: Session, c: Call, t: &mut [u32], log: &mut [u8], out: &mut [u32]
     Stepped { session: s, answer }
 }
 
-// One line.
-pub fn step(s: Session, line: &[u8], t: &mut [u32], log: &mut [u8], out: &mut [u32]) -> Stepped
+// One line, by what it says.
+pub fn step(s: Session, said: Parsed, t: &mut [u32], log: &mut [u8], out: &mut [u32]) -> Stepped
     requires { ⌜ Kept s (now t) (now log) (now out) ⌝ }
-    ensures reply { λ r. ⌜ replyOf (r .answer) (now (out .exit)) ≡ stepReply s (lent (now (t .entry)) (now (log .entry)) (now (out .entry))) (parsed (now (line .entry))) ⌝ }
-    ensures session { λ r. ⌜ r .session ≡ stepSession s (lent (now (t .entry)) (now (log .entry)) (now (out .entry))) (parsed (now (line .entry))) ⌝ }
-    ensures tables { λ r. ⌜ now (t .exit) ≡ stepMemory s (lent (now (t .entry)) (now (log .entry)) (now (out .entry))) (parsed (now (line .entry))) .tables ⌝ }
-    ensures log { λ r. ⌜ now (log .exit) ≡ stepMemory s (lent (now (t .entry)) (now (log .entry)) (now (out .entry))) (parsed (now (line .entry))) .log ⌝ }
-    ensures out { λ r. ⌜ now (out .exit) ≡ stepMemory s (lent (now (t .entry)) (now (log .entry)) (now (out .entry))) (parsed (now (line .entry))) .out ⌝ }
+    ensures reply { λ r. ⌜ replyOf (r .answer) (now (out .exit)) ≡ stepReply s (lent (now (t .entry)) (now (log .entry)) (now (out .entry))) said ⌝ }
+    ensures session { λ r. ⌜ r .session ≡ stepSession s (lent (now (t .entry)) (now (log .entry)) (now (out .entry))) said ⌝ }
+    ensures tables { λ r. ⌜ now (t .exit) ≡ stepMemory s (lent (now (t .entry)) (now (log .entry)) (now (out .entry))) said .tables ⌝ }
+    ensures log { λ r. ⌜ now (log .exit) ≡ stepMemory s (lent (now (t .entry)) (now (log .entry)) (now (out .entry))) said .log ⌝ }
+    ensures out { λ r. ⌜ now (out .exit) ≡ stepMemory s (lent (now (t .entry)) (now (log .entry)) (now (out .entry))) said .out ⌝ }
     ensures kept { λ r. ⌜ Kept (r .session) (now (t .exit)) (now (log .exit)) (now (out .exit)) ⌝ }
     ensures few { λ r. ⌜ Few (r .answer) ⌝ }
 {
-    let said = parse(line);
     if let Parsed::Store(x) = said {
         return store_line(s, x, t, log, out);
     }

@@ -1,8 +1,7 @@
 -- `measure_script`: the session is kept from line to line, and each reply fits.
-use mathlib.Core.Path.{_≡_, sym, _∙_}
-use Prim.Native.Nat.{_-_, _≤_, _<_}
+use mathlib.Core.Path.{sym, _∙_}
+use Prim.Native.Nat.{_-_}
 use lib.ListN.{length}
-use Rattle.script.proofs.LinesFacts.{part-inside}
 use Rattle.measure.proofs.Measuring.{Running, running, room, written-inside}
 use borrow.Author.Needs.{needs}
 use native.Mathlib.Omega.{arith}
@@ -14,13 +13,6 @@ Inv-loop text replies₀ t₀ log₀ out₀ session₀ used₀ at₀ replies t l
 
 abbrev μ-loop : tie.MeasureT-loop
 μ-loop text replies₀ t₀ log₀ out₀ session₀ used₀ at₀ replies t log out session used at = length text - at
-
--- the line that was found lies inside the text
-found : (c : tie.After-line Inv-loop μ-loop) →
-    (c .line .given .0 .0 ≡ c .before .before .before .before .before .loop .at) × (c .before .before .before .before .before .loop .at < length (c .before .before .before .before .before .before .before .before .before .args .text .now)) ×
-    (c .line .given .0 .0 ≤ c .line .given .0 .1 .0) × (c .line .given .0 .1 .0 ≤ length (c .before .before .before .before .before .before .before .before .before .args .text .now))
-found c =
-    part-inside (c .before .before .before .before .before .before .before .before .before .args .text .now) (c .before .before .before .before .before .loop .at) (c .line .given .0 .0) (c .line .given .0 .1 .0) (sym (c .before .before .line-from .ensures) ∙ c .line .given .1)
 
 start-requires : tie.Need-start-requires Inv-loop μ-loop
 start-requires c κs = search needs
@@ -37,61 +29,40 @@ same-length c = c .before .before .loop .inv .same
 returns : tie.Need-returns Inv-loop μ-loop
 returns c = search needs
 
-line-from-requires : tie.Need-line-from-requires Inv-loop μ-loop
-line-from-requires c κs = search needs
-
-enum-known-line : tie.Need-enum-known-line Inv-loop μ-loop
-enum-known-line c = search needs
-
-enum-told : tie.Need-enum-told Inv-loop μ-loop
-enum-told c = search needs
-
-same-length-2 : tie.Need-same-length-2 Inv-loop μ-loop
-same-length-2 c = c .before .before .before .before .before .loop .inv .same
-
-returns-2 : tie.Need-returns-2 Inv-loop μ-loop
-returns-2 c = search needs
-
-sub-step : tie.Need-sub-step Inv-loop μ-loop
-sub-step c = omega (arith, found (c .before))
-
-part-step-start : tie.Need-part-step-start Inv-loop μ-loop
-part-step-start c = omega (arith, found (c .before))
-
-part-step-end : tie.Need-part-step-end Inv-loop μ-loop
-part-step-end c = omega (arith, found (c .before))
+said-at-requires : tie.Need-said-at-requires Inv-loop μ-loop
+said-at-requires c κs = search needs
 
 slice-aggregate-step : tie.Need-slice-aggregate-step Inv-loop μ-loop
-slice-aggregate-step c = sym (c .before .before .before .before .before .before .before .before .loop .inv .tables)
+slice-aggregate-step c = sym (c .before .before .before .before .loop .inv .tables)
 
 slice-aggregate-step-2 : tie.Need-slice-aggregate-step-2 Inv-loop μ-loop
-slice-aggregate-step-2 c = sym (c .before .before .before .before .before .before .before .before .before .loop .inv .log)
+slice-aggregate-step-2 c = sym (c .before .before .before .before .before .loop .inv .log)
 
 slice-aggregate-step-3 : tie.Need-slice-aggregate-step-3 Inv-loop μ-loop
-slice-aggregate-step-3 c = sym (c .before .before .before .before .before .before .before .before .before .before .loop .inv .out)
+slice-aggregate-step-3 c = sym (c .before .before .before .before .before .before .loop .inv .out)
 
 step-requires : tie.Need-step-requires Inv-loop μ-loop
-step-requires c κs = c .before .before .before .before .before .before .before .before .before .before .loop .inv .kept
+step-requires c κs = c .before .before .before .before .before .before .loop .inv .kept
 
 slice-aggregate-put-reply : tie.Need-slice-aggregate-put-reply Inv-loop μ-loop
-slice-aggregate-put-reply c = sym (c .before .before .before .before .before .before .step .kept .1 .1 .1 .1 .0 ∙ c .before .before .before .before .before .before .before .before .before .before .before .before .before .before .before .before .before .loop .inv .out)
+slice-aggregate-put-reply c = sym (c .before .before .before .before .before .before .step .kept .1 .1 .1 .1 .0 ∙ c .before .before .before .before .before .before .before .before .before .before .before .before .before .loop .inv .out)
 
 put-reply-requires : tie.Need-put-reply-requires Inv-loop μ-loop
 put-reply-requires c κs =
     let e = c .before .before .before .before .before .before .step .ensures .1 .1 .1 .1 .1 in
-    room _ (e .1) _ _ _ (omega (arith, c .before .before .before .before .before .before .before .before .before .before .before .before .before .before .before .if1 .left)) (e .0 .out)
+    room _ (e .1) _ _ _ (omega (arith, c .before .before .before .before .before .before .before .before .before .before .before .if1 .left)) (e .0 .out)
 
 add-at : tie.Need-add-at Inv-loop μ-loop
-add-at c = omega (arith, found (c .before .before .before .before .before .before .before .before .before .before .before .before .before .before .before), c .before .before .before .before .before .before .before .before .before .before .before .before .before .before .before .before .before .before .before .before .before .before .before .before .good)
+add-at c = omega (arith, c .before .before .before .before .before .before .before .before .before .before .before .before .before .said-at .ensures .1, c .before .before .before .before .before .before .before .before .before .before .before .before .before .before .before .before .before .before .before .before .good)
 
 loop-less : tie.Need-loop-less Inv-loop μ-loop
-loop-less c = omega (arith, found (c .before .before .before .before .before .before .before .before .before .before .before .before .before .before .before))
+loop-less c = omega (arith, c .before .before .before .before .before .before .before .before .before .before .before .before .before .said-at .ensures .1)
 
 loop-again : tie.Need-loop-again Inv-loop μ-loop
 loop-again c =
     let s = c .before .before .before .before .before .before .before .before .before .step in
     let p = c .before .before .put-reply in
-    let r = c .before .before .before .before .before .before .before .before .before .before .before .before .before .before .before .before .before .before .before .before .loop .inv in
+    let r = c .before .before .before .before .before .before .before .before .before .before .before .before .before .before .before .before .loop .inv in
     record {
       tables = s .kept .1 .1 .0 ∙ r .tables;
       log = s .kept .1 .1 .1 .0 ∙ r .log;
@@ -101,11 +72,11 @@ loop-again c =
       kept = s .ensures .1 .1 .1 .1 .1 .0;
     }
 
-same-length-3 : tie.Need-same-length-3 Inv-loop μ-loop
-same-length-3 c = c .before .loop .inv .same
+same-length-2 : tie.Need-same-length-2 Inv-loop μ-loop
+same-length-2 c = c .before .loop .inv .same
 
-returns-3 : tie.Need-returns-3 Inv-loop μ-loop
-returns-3 c = search needs
+returns-2 : tie.Need-returns-2 Inv-loop μ-loop
+returns-2 c = search needs
 
 pub measure-script-spec : {M : Type 1} → statement M
 measure-script-spec =
@@ -118,14 +89,7 @@ measure-script-spec =
     sub-if1
     same-length
     returns
-    line-from-requires
-    enum-known-line
-    enum-told
-    same-length-2
-    returns-2
-    sub-step
-    part-step-start
-    part-step-end
+    said-at-requires
     slice-aggregate-step
     slice-aggregate-step-2
     slice-aggregate-step-3
@@ -135,5 +99,5 @@ measure-script-spec =
     add-at
     loop-less
     loop-again
-    same-length-3
-    returns-3)
+    same-length-2
+    returns-2)

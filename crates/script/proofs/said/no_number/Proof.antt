@@ -1,0 +1,32 @@
+-- `no_number` meets its contract: a letter up to the line's end is the whole line.
+use native.Mathlib.Omega.{arith}
+use borrow.Author.Needs.{needs}
+use mathlib.Core.Path.{sym}
+use mathlib.Core.List.{[]}
+use Rattle.script.proofs.OnePass.{stand-none, call-found}
+use Rattle.script.proofs.said.no_number.Statement.{statement}
+use Rattle.script.proofs.said.no_number.Tie as tie
+
+add-end : tie.Need-add-end
+add-end c = search needs
+
+ends-requires : tie.Need-ends-requires
+ends-requires c κs = search needs
+
+call-of-requires : tie.Need-call-of-requires
+call-of-requires c κs = search needs
+
+returns : tie.Need-returns
+returns c = let a = c .before .before .before .before .args in
+    let p = c .before .before .before .before .pre in
+    call-found (a .text .now) (a .at) (a .letter) [] _ (p .0) (p .1) (stand-none _ _) _ _ (sym (p .2)) (omega arith) (c .call-of .ensures) (c .before .before .ends .ensures) (c .before .if1 .taken)
+
+by-line-requires : tie.Need-by-line-requires
+by-line-requires c κs = search needs
+
+returns-2 : tie.Need-returns-2
+returns-2 c = search needs
+
+pub no-number-spec : {M : Type 1} → statement M
+no-number-spec =
+    tie.close (tie.spec add-end ends-requires call-of-requires returns by-line-requires returns-2)
