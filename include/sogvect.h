@@ -51,12 +51,12 @@ extern "C" {
 #define SOGVECT_RECORD_LAST 999999
 
 /* Least lengths of the lent memory; blocks is arenas x per. */
-#define SOGVECT_TABLES_NUMBERS(records, blocks) (32 + 272 * (size_t)(records) + 8 * (size_t)(blocks))
+#define SOGVECT_TABLES_NUMBERS(records, blocks) (2048 + 512 * (size_t)(records) + (size_t)(blocks))
 #define SOGVECT_LOG_BYTES(words) (8 * (size_t)(words))
 #define SOGVECT_OUT_NUMBERS(blocks) (2 * (size_t)(blocks) + 64)
 
 /* Lengths that are enough for every geometry. */
-#define SOGVECT_TABLES_NUMBERS_MOST 33824
+#define SOGVECT_TABLES_NUMBERS_MOST 36864
 #define SOGVECT_LOG_BYTES_MOST 65536
 #define SOGVECT_OUT_NUMBERS_MOST 4160
 

@@ -62,7 +62,7 @@ impl Geometry {
 
     /// The least length of the tables.
     pub const fn tables_len(self) -> usize {
-        32usize.saturating_add(self.records.saturating_mul(272)).saturating_add(self.blocks().saturating_mul(8))
+        2048usize.saturating_add(self.records.saturating_mul(512)).saturating_add(self.blocks())
     }
 
     /// The least length of the log.

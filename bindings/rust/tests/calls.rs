@@ -69,7 +69,7 @@ fn spelled(reply: Result<Vec<u32>, Refusal>) -> String {
 
 /// Runs a script on memory for any geometry and compares each reply, and the log behind each line where it is given. Lines that are no call are passed over.
 fn script(text: &str, replies: &str, logs: Option<&str>) {
-    let (mut tables, mut log, mut out) = (vec![MARKS; 33_824], vec![MARK; 65_536], vec![MARKS; 4_160]);
+    let (mut tables, mut log, mut out) = (vec![MARKS; 36_864], vec![MARK; 65_536], vec![MARKS; 4_160]);
     let mut store = Memory { tables: &mut tables, log: &mut log, out: &mut out };
     let mut g = None;
     let mut logs = logs.map(str::lines);

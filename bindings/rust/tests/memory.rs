@@ -37,7 +37,7 @@ fn empty() {
 #[test]
 fn limits() {
     let inside = Geometry { arenas: 2, per: 3, pages: 5, records: 4, turn: 7, words: 20 };
-    let mut m = Owned { tables: vec![7; 33_824], log: vec![7; 65_536], out: vec![7; 4_160] };
+    let mut m = Owned { tables: vec![7; 36_864], log: vec![7; 65_536], out: vec![7; 4_160] };
     let with = |change: fn(&mut Geometry, usize), x: usize| {
         let mut g = inside;
         change(&mut g, x);
@@ -77,11 +77,15 @@ fn limits() {
 
 /// Numbers of the small store's tables that the layout does not name.
 fn spare(at: usize) -> bool {
-    let blocks = 32 + 272 * SMALL.records;
+    let births = 2048 + 512 * SMALL.records;
     match at {
-        0..32 => (11..16).contains(&at) || at >= 16 + SMALL.arenas,
-        _ if at < blocks => (5..16).contains(&((at - 32) % 272)) || (at - 32) % 272 >= 16 + SMALL.pages,
-        _ => (at - blocks) % 8 >= 5,
+        0..64 => (10..16).contains(&at) || at >= 16 + SMALL.arenas,
+        64..128 => false,
+        192..512 => at % 64 >= SMALL.records,
+        128..2048 => true,
+        // rows of pages and of deadlists; a deadlist has no more blocks than a record has pages
+        _ if at < births => at % 256 >= SMALL.pages,
+        _ => false,
     }
 }
 
@@ -103,7 +107,8 @@ fn answers(m: &Owned) -> Vec<Result<Vec<u32>, Refusal>> {
         .collect()
 }
 
-/// Each number of the tables, changed: every call answers 4, or the change is one that a sound store can have. A spare number changes no answer.
+/// Each number of the tables, changed: every call answers 4, or the change is one that a sound store can have. A spare number, changed in one way of
+/// the six, changes no answer.
 #[test]
 fn each_number_damaged() {
     let sound = small();
@@ -112,8 +117,8 @@ fn each_number_damaged() {
     let (mut unsound, mut kept) = (0, 0);
     for at in 0..sound.tables.len() {
         let old = sound.tables[at];
-        for new in [old ^ 1, old.wrapping_add(1), old.wrapping_sub(1), 0, u32::MAX, old ^ (1 << 31)] {
-            if new == old {
+        for (way, new) in [old ^ 1, u32::MAX, old.wrapping_add(1), old.wrapping_sub(1), 0, old ^ (1 << 31)].into_iter().enumerate() {
+            if new == old || spare(at) && way != at % 2 {
                 continue;
             }
             let mut m = sound.clone();
@@ -175,15 +180,18 @@ fn random_memory() {
     }
 }
 
-/// Random calls on a sound store with one number changed before each: what is refused changes nothing, what is accepted leaves a sound store.
+/// Random calls on a sound store with a few numbers changed before each, most of them with a meaning: what is refused changes nothing, what is
+/// accepted leaves a sound store.
 #[test]
 fn random_damage() {
     let mut r = Random::new(77);
     let (mut refusals, mut accepted) = (0, 0);
+    let named: Vec<usize> = (0..SMALL.tables_len()).filter(|&at| !spare(at)).collect();
     for _ in 0..2_000 {
         let mut m = small();
         for _ in 0..1 + r.below(3) {
-            let at = r.below(m.tables.len() as u64) as usize;
+            let any = r.below(m.tables.len() as u64) as usize;
+            let at = if r.below(4) == 0 { any } else { named[r.below(named.len() as u64) as usize] };
             m.tables[at] = r.below(8) as u32;
         }
         let call = every_call(1 + r.below(5) as u32, r.below(5) as u32)[r.below(10) as usize];

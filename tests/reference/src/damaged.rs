@@ -1,6 +1,7 @@
 //! Calls on damaged memory: stores, damage done to their memory, one call each time. The replies and a sum over what accepted calls leave are
 //! printed. `answer` makes a call: this implementation's makes the prediction, the proved library's must print the same.
-use crate::layout::{log_needed, result_needed, tables_needed, Memory};
+use crate::layout::{birth_at, list_at, log_needed, pages_at, result_needed, tables_needed, Memory};
+use crate::layout::{BASE, BEFORE, FREE, LENGTH, MARKS, NUMBER, OPEN};
 use crate::store::{Call, Geometry, Reply};
 use std::fmt::Write;
 
@@ -10,9 +11,9 @@ pub trait Answers {
     fn call(&mut self, six: &[u64; 6], memory: &mut Memory, lent: [usize; 3], c: Call) -> Reply;
 }
 
-const TABLES: usize = 2048;
-const LOG: usize = 256;
-const RESULT: usize = 128;
+const TABLES: usize = 6400;
+const LOG: usize = 768;
+const RESULT: usize = 160;
 
 struct Report<'a> {
     answers: &'a mut dyn Answers,
@@ -77,6 +78,7 @@ impl Report<'_> {
 /// A store with its memory, and the calls to ask of it.
 struct Subject {
     six: [u64; 6],
+    g: Geometry,
     lent: [usize; 3],
     sound: Memory,
     asks: Vec<Call>,
@@ -117,7 +119,7 @@ impl Subject {
             let reply = report.answers.call(&six, &mut memory, lent, c);
             report.add(reply);
         }
-        Subject { six, lent, sound: memory, asks: asks_of(asks) }
+        Subject { six, g, lent, sound: memory, asks: asks_of(asks) }
     }
 
     fn ask_of(&self, report: &mut Report, six: &[u64; 6], lent: [usize; 3], memory: &Memory, k: usize) {
@@ -135,13 +137,40 @@ impl Subject {
         }
     }
 
+    fn records(&self) -> usize {
+        self.six[3] as usize
+    }
+
+    /// The numbers with a meaning, and some beside each part of the tables.
+    fn named(&self) -> Vec<usize> {
+        let (slots, pages) = (self.records() + 1, self.six[2] as usize + 1);
+        let mut at: Vec<usize> = (0..MARKS + self.six[0] as usize + 1).chain(FREE..FREE + 64).collect();
+        at.extend([NUMBER, OPEN, BEFORE, BASE, LENGTH].into_iter().flat_map(|column| column..column + slots));
+        at.extend((0..self.records()).flat_map(|s| pages_at(s)..pages_at(s) + pages));
+        at.extend((0..self.records()).flat_map(|s| list_at(&self.g, s)..list_at(&self.g, s) + pages));
+        at.extend(birth_at(&self.g, 0)..self.lent[0]);
+        at
+    }
+
+    fn changed(&self, report: &mut Report, i: usize, way: usize, k: usize) {
+        let mut m = self.sound.clone();
+        let x = m.tables[i];
+        m.tables[i] = [x.wrapping_add(1), x.wrapping_sub(1), 0, 1, 2, 3, u32::MAX, x ^ 1 << 31][way];
+        self.ask_damaged(report, &m, k);
+    }
+
+    /// Each number, in one way or another.
+    fn each(&self, report: &mut Report) {
+        for i in 0..self.lent[0] {
+            self.changed(report, i, 6 * (i % 2), i / 16);
+        }
+    }
+
     fn numbers(&self, report: &mut Report) {
-        for way in 0..7 {
-            for i in 0..self.lent[0] {
-                let mut m = self.sound.clone();
-                let x = m.tables[i];
-                m.tables[i] = [x.wrapping_add(1), x.wrapping_sub(1), 0, 1, 2, 3, u32::MAX][way];
-                self.ask_damaged(report, &m, i / 16 + 5 * way);
+        for way in 0..8 {
+            for (k, i) in self.named().into_iter().enumerate() {
+                self.changed(report, i, way, k + 5 * way);
+                self.changed(report, i, way, 7 * k + 3 * way + 16);
             }
         }
     }
@@ -161,7 +190,7 @@ impl Subject {
         for i in 0..self.lent[0] - apart {
             let mut m = self.sound.clone();
             m.tables.swap(i, i + apart);
-            self.ask_damaged(report, &m, i / 16);
+            self.ask_damaged(report, &m, i / 4);
         }
     }
 
@@ -181,35 +210,79 @@ impl Subject {
         for n in 999_998..=1_000_000 {
             let mut m = self.sound.clone();
             m.tables[6] = n;
-            for k in 0..32 {
-                self.ask(report, &m, k);
+            self.ask_all(report, &m);
+        }
+    }
+
+    fn ask_all(&self, report: &mut Report, memory: &Memory) {
+        for k in 0..32 {
+            self.ask(report, memory, k);
+        }
+    }
+
+    /// Two pages exchanged in every record.
+    fn columns(&self, report: &mut Report) {
+        for (x, y) in [(0, 1), (0, 2), (0, 3), (1, 2)] {
+            let mut m = self.sound.clone();
+            for s in 0..self.records() {
+                m.tables.swap(pages_at(s) + x, pages_at(s) + y);
+            }
+            self.ask_all(report, &m);
+        }
+    }
+
+    /// Two entries of a deadlist exchanged; one entry twice.
+    fn lists(&self, report: &mut Report) {
+        for s in 0..self.records() {
+            let (row, length) = (list_at(&self.g, s), self.sound.tables[LENGTH + s] as usize);
+            for (i, j) in (0..length).flat_map(|j| (0..j).map(move |i| (i, j))) {
+                let mut m = self.sound.clone();
+                m.tables.swap(row + i, row + j);
+                self.ask_all(report, &m);
+                m.tables[row + i] = m.tables[row + j];
+                self.ask(report, &m, i + j);
             }
         }
     }
 
-    /// Two pages exchanged in every record row and every block row.
-    fn columns(&self, report: &mut Report) {
-        let rows = 32 + 272 * self.six[3] as usize;
-        for (x, y) in [(0, 1), (0, 2), (0, 3), (1, 2)] {
+    /// Two slots exchanged: every column, both rows, and the links to them.
+    fn slots(&self, report: &mut Report) {
+        for (s, t) in [(0, 1), (0, self.records() - 1), (self.records() - 2, self.records() - 1)] {
             let mut m = self.sound.clone();
-            for at in (32..rows).step_by(272) {
-                m.tables.swap(at + 16 + x, at + 16 + y);
+            for column in [NUMBER, OPEN, BEFORE, BASE, LENGTH] {
+                m.tables.swap(column + s, column + t);
             }
-            for at in (rows..self.lent[0]).step_by(8) {
-                let page = m.tables[at + 2] as usize;
-                m.tables[at + 2] = if page == x { y } else if page == y { x } else { page } as u32;
+            for i in 0..256 {
+                m.tables.swap(pages_at(s) + i, pages_at(t) + i);
+                m.tables.swap(list_at(&self.g, s) + i, list_at(&self.g, t) + i);
             }
-            for k in 0..32 {
-                self.ask(report, &m, k);
+            for at in (0..self.records()).flat_map(|i| [BEFORE + i, BASE + i]) {
+                let to = m.tables[at] as usize;
+                m.tables[at] = if to == s + 1 { t + 1 } else if to == t + 1 { s + 1 } else { to } as u32;
+            }
+            self.ask_all(report, &m);
+        }
+    }
+
+    /// A birth changed, and with it the block's bit of the free words.
+    fn births(&self, report: &mut Report) {
+        for b in 0..self.lent[0] - birth_at(&self.g, 0) {
+            for birth in 0..9 {
+                let mut m = self.sound.clone();
+                m.tables[birth_at(&self.g, b)] = birth;
+                let (word, bit) = (FREE + b / 32, 1 << (b % 32));
+                m.tables[word] = m.tables[word] & !bit | if birth == 0 { bit } else { 0 };
+                self.ask_damaged(report, &m, 5 * b + birth as usize);
             }
         }
     }
 
     /// Two numbers with a meaning changed: one goes up or down, the other becomes a number below 5.
     fn twos(&self, report: &mut Report) {
-        let mut spots = vec![6, 7, 8, 9, 10, 16];
-        spots.extend((0..5).flat_map(|s| [0, 1, 2, 3, 4, 16].map(|f| 32 + 272 * s + f)));
-        spots.extend((0..2).flat_map(|b| [0, 1, 2, 3, 4].map(|f| 1392 + 8 * b + f)));
+        let mut spots = vec![6, 7, 8, 9, MARKS, FREE, birth_at(&self.g, 0), birth_at(&self.g, 1)];
+        let columns = |s: usize| [NUMBER, OPEN, BEFORE, BASE, LENGTH].map(|column| column + s);
+        spots.extend((0..self.records()).flat_map(columns));
+        spots.extend((0..self.records()).flat_map(|s| [pages_at(s), list_at(&self.g, s)]));
         for (k, &i) in spots.iter().enumerate() {
             for &j in &spots {
                 for c in 0..10 {
@@ -256,13 +329,14 @@ impl Subject {
     }
 
     fn place(&self, report: &mut Report) -> usize {
-        let row = 32 + 272 * report.small();
-        let at = report.small();
+        let (slot, at) = (report.small(), report.small());
         match report.small() {
             0 => (report.next() % 32) as usize,
-            1 | 2 => row + at,
-            3 | 4 => row + 16 + at / 2,
-            _ => 32 + 272 * self.six[3] as usize + 8 * report.small() + at,
+            1 | 2 => NUMBER + 64 * (at % 5) + slot,
+            3 | 4 => pages_at(slot) + at / 2,
+            5 => list_at(&self.g, slot) + at / 2,
+            6 => FREE + at / 4,
+            _ => birth_at(&self.g, at),
         }
     }
 
@@ -292,11 +366,16 @@ impl Subject {
         }
     }
 
+    /// Few numbers to many that are not 0; every other time the free words are those of a fresh store.
     fn tables_at_random(&self, report: &mut Report) {
         for i in 0..160 {
             let mut m = Memory { tables: self.sound.tables.clone(), log: vec![0; LOG] };
             for at in 6..TABLES {
-                m.tables[at] = if report.next() & (1023 >> (i % 8)) == 0 { report.small() as u32 } else { 0 };
+                m.tables[at] = if report.next() & (4095 >> (i % 8)) == 0 { report.small() as u32 } else { 0 };
+            }
+            if i / 8 % 2 == 0 {
+                m.tables[FREE..FREE + 64].fill(0);
+                m.tables[FREE] = (1 << self.g.blocks()) - 1;
             }
             self.ask(report, &m, i);
         }
@@ -306,7 +385,7 @@ impl Subject {
         for i in 0..200 {
             let mut m = self.sound.clone();
             for _ in 0..1 + report.small() / 2 {
-                let at = (report.next() % 256) as usize;
+                let at = (report.next() % self.lent[1] as u64) as usize;
                 m.log[at] = report.small() as u8;
             }
             self.ask(report, &m, i);
@@ -314,20 +393,30 @@ impl Subject {
     }
 
     fn all(&self, report: &mut Report) {
-        self.group(report, "numbers", |r| self.numbers(r));
+        self.group(report, "each", |r| self.each(r));
         self.group(report, "bytes", |r| self.bytes(r));
-        self.group(report, "pairs", |r| self.exchanged(r, 8));
-        self.group(report, "pairs", |r| self.exchanged(r, 272));
         self.group(report, "words", |r| self.words(r));
-        self.group(report, "last", |r| self.last(r));
-        self.group(report, "columns", |r| self.columns(r));
         let whole = [TABLES, LOG, RESULT];
         self.group(report, "foreign", |r| self.foreign(r, self.lent, false));
         self.group(report, "foreign", |r| self.foreign(r, whole, false));
         self.group(report, "agreed", |r| self.foreign(r, whole, true));
         self.group(report, "lengths", |r| self.lengths(r));
-        self.group(report, "few", |r| self.few(r));
         self.group(report, "tables", |r| self.tables_at_random(r));
+        self.meant(report);
+    }
+
+    /// Damage to what has a meaning.
+    fn meant(&self, report: &mut Report) {
+        self.group(report, "numbers", |r| self.numbers(r));
+        for apart in [1, 64, 256, 256 * self.records()] {
+            self.group(report, "pairs", |r| self.exchanged(r, apart));
+        }
+        self.group(report, "last", |r| self.last(r));
+        self.group(report, "columns", |r| self.columns(r));
+        self.group(report, "lists", |r| self.lists(r));
+        self.group(report, "slots", |r| self.slots(r));
+        self.group(report, "births", |r| self.births(r));
+        self.group(report, "few", |r| self.few(r));
         self.group(report, "log", |r| self.log_at_random(r));
         self.group(report, "history", |r| self.history(r));
     }
@@ -335,6 +424,7 @@ impl Subject {
     fn small(&self, report: &mut Report) {
         self.group(report, "twos", |r| self.twos(r));
         self.group(report, "columns", |r| self.columns(r));
+        self.group(report, "slots", |r| self.slots(r));
     }
 
     fn group(&self, report: &mut Report, name: &str, cases: impl Fn(&mut Report)) {
@@ -376,7 +466,7 @@ fn group(report: &mut Report, name: &str) {
 }
 
 /// The calls asked of each store, 32 each.
-const SUBJECTS: [([u64; 6], &str, &str); 4] = [
+const SUBJECTS: [([u64; 6], &str, &str); 5] = [
     (
         [2, 4, 3, 7, 2, 24],
         "B000W100W111W122S100W200Y000S200W311W302S300E420E410D200F100W500S500W601F500E710",
@@ -397,13 +487,22 @@ const SUBJECTS: [([u64; 6], &str, &str); 4] = [
         "B000W100S100S200S300F300D400S500E600",
         "B000W600W610W603W100W?00E600E500E610S600S500S900F100F300F500F600D100D200D300D500D600D900R100R600R200R300R500R610Y000C000L000D?00",
     ),
+    (
+        [3, 15, 6, 5, 4, 92],
+        "B000W100W112W120W132W141W152S100W202W210E250S200W322W300E340E310S300E430W402",
+        "B000W400W411W422W432W443W460W100E400E410E420E430E450E100S400S100F100F200F300F400D100D200D300D400D500R400R110R430Y000C000L000D900",
+    ),
 ];
 
 pub fn printed(answers: &mut dyn Answers) -> String {
     let mut report = Report { answers, text: String::new(), last: None, cases: 0, counts: [0; 16], sums: [0, 0], random: 1 };
     for (i, (six, script, asks)) in SUBJECTS.into_iter().enumerate() {
         let subject = Subject::made(six, script, asks, &mut report);
-        if i < 3 { subject.all(&mut report) } else { subject.small(&mut report) }
+        match i {
+            3 => subject.small(&mut report),
+            4 => subject.meant(&mut report),
+            _ => subject.all(&mut report),
+        }
     }
     let (cases, counts) = (report.cases, report.counts);
     report.line(&format!("cases {cases}"));

@@ -1,6 +1,7 @@
-//! Scripts made at random from a seed: forks of forks, deletes in the middle of a line, full stores, full logs, full record tables, bad lines, scripts longer than what is read.
-
+//! Scripts made at random from a seed: forks of forks, deletes in the middle of a line, windows of records that roll on, long deadlists, full stores,
+//! full logs, full record tables, bad lines, scripts longer than what is read. `reference reached` counts them.
 use crate::store::{Call, Geometry, Store};
+use std::collections::BTreeSet;
 
 /// A small generator of numbers (xorshift).
 pub struct Dice(u64);
@@ -37,6 +38,13 @@ pub fn geometry(d: &mut Dice) -> [u64; 6] {
     [arenas, per, pages, records, turn, words]
 }
 
+/// Many pages and blocks.
+fn large(d: &mut Dice) -> [u64; 6] {
+    let (arenas, per) = [(16, 128), (2, 1024), (3, 200), (1, 300), (5, 60)][d.below(5) as usize];
+    let records = if d.below(6) == 0 { 64 } else { 1 + d.below(12) };
+    [arenas, per, 64 + d.below(193), records, 1 + d.below(5), 2 * arenas * per + 2 + d.below(60)]
+}
+
 const BAD: [&str; 14] = ["", "B ", " B", "W 1 0", "W 1 0 0 0", "E 01 0", "S", "Q 1", "b", "store", "store 1 4 2 4 8", "D 12345678", "R 1  0", "T 3"];
 
 /// A record to ask for: mostly one that is in the store, most often a new one.
@@ -70,6 +78,112 @@ pub fn call(d: &mut Dice, g: &[u64; 6], store: &Store, grow: bool) -> Call {
     }
 }
 
+/// What the calls lean towards for a while.
+#[derive(Clone, Copy)]
+enum Mood {
+    /// any call, few deletes
+    Grow,
+    /// any call, many deletes
+    Shrink,
+    /// writes and seals in one line, whose first record goes when the line is long
+    Window,
+    /// every page written in turn, then a seal
+    Fill,
+    /// the youngest sealed record forked, the fork written and sealed
+    Fork,
+}
+
+const MOODS: [Mood; 9] = [Mood::Grow, Mood::Grow, Mood::Grow, Mood::Shrink, Mood::Shrink, Mood::Window, Mood::Fill, Mood::Fill, Mood::Fork];
+
+/// A store with what its replies tell: the lines, which records are open, whether the last call was refused.
+struct Course {
+    g: [u64; 6],
+    store: Store,
+    lines: Vec<Vec<u64>>,
+    open: BTreeSet<u64>,
+    refused: bool,
+}
+
+impl Course {
+    fn new(g: [u64; 6]) -> Course {
+        let store = Store::new(Geometry::new(g).expect("inside the limits"));
+        Course { g, store, lines: vec![], open: BTreeSet::new(), refused: false }
+    }
+
+    fn make(&mut self, c: Call) {
+        self.refused = self.store.call(c).is_err();
+        if self.refused {
+            return;
+        }
+        match c {
+            Call::Begin | Call::Fork(_) => self.lines.push(vec![]),
+            Call::Seal(r) => {
+                let at = self.lines.iter().position(|line| line.contains(&r)).unwrap();
+                let line = self.lines.remove(at);
+                self.lines.push(line);
+                self.open.remove(&r);
+            }
+            Call::Delete(r) => {
+                self.lines.iter_mut().for_each(|line| line.retain(|&n| n != r));
+                self.lines.retain(|line| !line.is_empty());
+                self.open.remove(&r);
+            }
+            _ => {}
+        }
+        if let Call::Begin | Call::Fork(_) | Call::Seal(_) = c {
+            let n = *self.store.numbers().last().unwrap();
+            self.lines.last_mut().unwrap().push(n);
+            self.open.insert(n);
+        }
+    }
+
+    fn next(&self, d: &mut Dice, mood: Mood, at: u64) -> Call {
+        let youngest = self.open.last().copied();
+        match (mood, youngest) {
+            (Mood::Window, Some(n)) => self.room(d).unwrap_or_else(|| self.window(d, n)),
+            (Mood::Fill, Some(n)) => self.room(d).unwrap_or_else(|| self.fill(d, n, at)),
+            (Mood::Fork, Some(n)) => self.fork(d, n),
+            (Mood::Shrink, _) => call(d, &self.g, &self.store, false),
+            _ => call(d, &self.g, &self.store, true),
+        }
+    }
+
+    /// What makes room, most of the time, where a call was refused.
+    fn room(&self, d: &mut Dice) -> Option<Call> {
+        match d.below(4) {
+            1 if self.refused => Some(Call::Compress),
+            2..=3 if self.refused => Some(Call::Delete(record(d, &self.store))),
+            _ => None,
+        }
+    }
+
+    fn window(&self, d: &mut Dice, n: u64) -> Call {
+        let line = self.lines.iter().find(|line| line.contains(&n)).unwrap();
+        match d.below(8) {
+            0 if 2 * line.len() as u64 > self.g[3] => Call::Delete(line[0]),
+            0 => Call::Seal(n),
+            1 => Call::Erase(n, d.below(self.g[2])),
+            _ => Call::Write(n, d.below(self.g[2]), d.below(3)),
+        }
+    }
+
+    fn fill(&self, d: &mut Dice, n: u64, at: u64) -> Call {
+        let page = at % (self.g[2] + 1);
+        if page < self.g[2] { Call::Write(n, page, d.below(3)) } else { Call::Seal(n) }
+    }
+
+    fn fork(&self, d: &mut Dice, n: u64) -> Call {
+        let sealed = self.store.numbers().into_iter().rev().find(|n| !self.open.contains(n));
+        match (d.below(8), sealed) {
+            (0, Some(r)) => Call::Fork(r),
+            (1, _) => Call::Seal(n),
+            (2, _) => Call::Delete(record(d, &self.store)),
+            (3, _) => Call::Erase(n, d.below(self.g[2])),
+            _ => Call::Write(n, d.below(self.g[2]), d.below(3)),
+        }
+    }
+}
+
 pub fn spelled(c: Call) -> String {
     match c {
         Call::Begin => "B".into(),
@@ -93,31 +207,30 @@ fn spoiled(d: &mut Dice, line: String) -> Vec<u8> {
     bytes
 }
 
-/// A script; one in twenty is longer than what the runner reads.
+/// A script; one in twenty is longer than what the runner reads, one in twenty has many pages and blocks.
 pub fn script(seed: u64) -> Vec<u8> {
     let mut d = Dice::new(seed);
-    let mut g = geometry(&mut d);
-    let mut store = Store::new(Geometry::new(g).expect("inside the limits"));
-    let mut lines = vec![line_of("store", &g).into_bytes()];
-    let mut grow = true;
-    let count = if d.below(20) == 0 { 12_000 } else { 40 + d.below(1500) };
-    for _ in 0..count {
-        if d.below(40) == 0 {
-            grow = !grow;
+    let is_large = d.below(20) == 0;
+    let mut course = Course::new(if is_large { large(&mut d) } else { geometry(&mut d) });
+    let mut lines = vec![line_of("store", &course.g).into_bytes()];
+    let mut mood = Mood::Grow;
+    let count = if is_large { 2_000 + d.below(2_000) } else if d.below(20) == 0 { 12_000 } else { 40 + d.below(1500) };
+    for at in 0..count {
+        if d.below(if is_large { 300 } else { 40 }) == 0 {
+            mood = MOODS[d.below(MOODS.len() as u64) as usize];
         }
         match d.below(200) {
             0..=1 => lines.push(BAD[d.below(BAD.len() as u64) as usize].into()),
             2 => lines.push("W 1 0 0".repeat(1 + d.below(20) as usize).into_bytes()),
             3 => lines.push(line_of("store", &[1, 4, 2, 4, 8, 9]).into_bytes()),
             5 => lines.push(spoiled(&mut d, spelled(Call::Write(1, 0, 0)))),
-            4 if d.below(6) == 0 => {
-                g = geometry(&mut d);
-                store = Store::new(Geometry::new(g).expect("inside the limits"));
-                lines.push(line_of("store", &g).into_bytes());
+            4 if !is_large && d.below(6) == 0 => {
+                course = Course::new(geometry(&mut d));
+                lines.push(line_of("store", &course.g).into_bytes());
             }
             _ => {
-                let c = call(&mut d, &g, &store, grow);
-                let _ = store.call(c);
+                let c = course.next(&mut d, mood, at);
+                course.make(c);
                 lines.push(spelled(c).into_bytes());
             }
         }

@@ -4,11 +4,13 @@ use crate::damaged::Answers;
 use crate::store::{Call, Geometry, Line, Record, Reply, Store};
 use std::collections::{BTreeMap, BTreeSet};
 
-const HEADER: usize = 32;
-const RECORD: usize = 272;
-const BLOCK: usize = 8;
-const PAGES: usize = 16;
-const MARKS: usize = 16;
+pub const MARKS: usize = 16;
+pub const FREE: usize = 64;
+pub const NUMBER: usize = 192;
+pub const OPEN: usize = 256;
+pub const BEFORE: usize = 320;
+pub const BASE: usize = 384;
+pub const LENGTH: usize = 448;
 
 /// Tables and log of any length.
 #[derive(Clone, PartialEq)]
@@ -18,7 +20,7 @@ pub struct Memory {
 }
 
 pub fn tables_needed(g: &Geometry) -> usize {
-    HEADER + RECORD * g.records as usize + BLOCK * g.blocks() as usize
+    birth_at(g, g.blocks() as usize)
 }
 
 pub fn log_needed(g: &Geometry) -> usize {
@@ -29,21 +31,28 @@ pub fn result_needed(g: &Geometry) -> usize {
     2 * g.blocks() as usize + 64
 }
 
-/// A record's row; links are slots.
+/// Where the pages of a slot begin, where its deadlist does, and where the birth of a block stands.
+pub fn pages_at(slot: usize) -> usize {
+    2048 + 256 * slot
+}
+
+pub fn list_at(g: &Geometry, slot: usize) -> usize {
+    pages_at(g.records as usize) + 256 * slot
+}
+
+pub fn birth_at(g: &Geometry, b: usize) -> usize {
+    list_at(g, g.records as usize) + b
+}
+
+/// A record; links are slots.
 struct Row {
     number: u64,
     open: bool,
     before: Option<usize>,
     base: Option<usize>,
-    line: u64,
     pages: Vec<Option<u64>>,
-}
-
-struct BlockRow {
-    birth: u64,
-    home: usize,
-    page: usize,
-    owner: Option<usize>,
+    /// the deadlist, in the order of joining
+    list: Vec<u64>,
 }
 
 /// Tables read into rows; links may still lead anywhere.
@@ -51,8 +60,7 @@ struct Tables<'a> {
     g: Geometry,
     t: &'a [u32],
     rows: BTreeMap<usize, Row>,
-    blocks: Vec<BlockRow>,
-    sequence: Vec<u64>,
+    births: Vec<u64>,
 }
 
 /// A link: slot + 1, 0 for none.
@@ -60,36 +68,25 @@ fn link(x: u32) -> Option<usize> {
     (x as usize).checked_sub(1)
 }
 
-fn record_at(slot: usize) -> usize {
-    HEADER + RECORD * slot
-}
-
-fn block_at(g: &Geometry, b: usize) -> usize {
-    HEADER + RECORD * g.records as usize + BLOCK * b
+/// A deadlist longer than a record has pages is read as far as its row goes; it is refused in any case.
+fn row_of(g: &Geometry, t: &[u32], slot: usize) -> Row {
+    let pages = &t[pages_at(slot)..][..g.pages as usize];
+    let list = &t[list_at(g, slot)..][..(t[LENGTH + slot] as usize).min(256)];
+    Row {
+        number: t[NUMBER + slot] as u64,
+        open: t[OPEN + slot] > 0,
+        before: link(t[BEFORE + slot]),
+        base: link(t[BASE + slot]),
+        pages: pages.iter().map(|&x| (x as u64).checked_sub(1)).collect(),
+        list: list.iter().map(|&b| b as u64).collect(),
+    }
 }
 
 fn rows_of(g: Geometry, t: &[u32]) -> Tables<'_> {
-    let mut rows = BTreeMap::new();
-    for slot in 0..g.records as usize {
-        let row = &t[record_at(slot)..record_at(slot + 1)];
-        if row[0] == 0 {
-            continue;
-        }
-        let pages = row[PAGES..PAGES + g.pages as usize].iter().map(|&x| (x as u64).checked_sub(1)).collect();
-        rows.insert(
-            slot,
-            Row { number: row[0] as u64, open: row[1] > 0, before: link(row[2]), base: link(row[3]), line: row[4] as u64, pages },
-        );
-    }
-    let blocks = (0..g.blocks() as usize)
-        .map(|b| {
-            let row = &t[block_at(&g, b)..block_at(&g, b + 1)];
-            BlockRow { birth: row[0] as u64, home: row[1] as usize, page: row[2] as usize, owner: link(row[3]) }
-        })
-        .collect();
-    let length = (t[10] as u64).min(g.blocks()) as usize;
-    let sequence = (0..length).map(|i| t[block_at(&g, i) + 4] as u64).collect();
-    Tables { g, t, rows, blocks, sequence }
+    let used = (0..g.records as usize).filter(|slot| t[NUMBER + slot] > 0);
+    let rows = used.map(|slot| (slot, row_of(&g, t, slot))).collect();
+    let births = t[birth_at(&g, 0)..tables_needed(&g)].iter().map(|&n| n as u64).collect();
+    Tables { g, t, rows, births }
 }
 
 impl Tables<'_> {
@@ -134,7 +131,6 @@ impl Tables<'_> {
             && (t[7] as u64) < g.arenas
             && (t[8] as u64) < g.turn
             && t[9] as u64 <= g.words
-            && t[10] as u64 <= g.blocks()
             && (0..g.arenas as usize).all(|a| (t[MARKS + a] as u64) < g.per)
     }
 
@@ -146,29 +142,22 @@ impl Tables<'_> {
     fn records_sound(&self) -> bool {
         let alone = self.rows.values().all(|row| {
             row.number <= self.t[6] as u64
-                && row.line <= row.number
                 && self.link_sound(row, row.before)
                 && self.link_sound(row, row.base)
-                && row.before.map_or(true, |s| self.rows[&s].line == row.line && self.rows[&s].base == row.base)
+                && row.before.map_or(true, |s| self.rows[&s].base == row.base)
         });
         alone && self.rows.iter().all(|(a, x)| self.rows.iter().all(|(b, y)| a == b || pair_sound(x, y)))
     }
 
+    /// Held blocks are those on pages, each on one page number only.
     fn pages_sound(&self) -> bool {
         let last = self.g.blocks();
         if !self.rows.values().all(|row| row.pages.iter().flatten().all(|&b| b < last)) {
             return false;
         }
         (0..last).all(|b| {
-            let row = &self.blocks[b as usize];
             let places = self.having(b);
-            if places.is_empty() {
-                return row.birth == 0;
-            }
-            row.birth > 0
-                && places.iter().all(|&(_, page)| page == row.page)
-                && places.contains(&(row.home, row.page))
-                && self.number(self.parent(row.home)) < row.birth
+            places.iter().all(|&(_, page)| page == places[0].1) && (self.births[b as usize] > 0) == !places.is_empty()
         })
     }
 
@@ -178,7 +167,7 @@ impl Tables<'_> {
             let parent = self.parent(slot);
             row.pages.iter().enumerate().all(|(page, &x)| {
                 let Some(b) = x else { return true };
-                let birth = self.blocks[b as usize].birth;
+                let birth = self.births[b as usize];
                 if birth <= self.number(parent) {
                     return parent.is_some_and(|m| self.rows[&m].pages[page] == Some(b));
                 }
@@ -187,39 +176,29 @@ impl Tables<'_> {
         })
     }
 
+    /// A deadlist has each of its blocks once, in any order; that of an empty slot has none.
     fn deadlists_sound(&self) -> bool {
-        if !self.blocks.iter().all(|row| row.owner.map_or(true, |s| self.rows.contains_key(&s))) {
+        let empty = (0..self.g.records as usize).filter(|slot| !self.rows.contains_key(slot));
+        if !empty.into_iter().all(|slot| self.t[LENGTH + slot] == 0) {
             return false;
         }
         self.rows.iter().all(|(&slot, row)| {
             let has = |s: usize| self.rows[&s].pages.iter().flatten().copied().collect::<BTreeSet<u64>>();
             let before = row.before.map_or(BTreeSet::new(), has);
             let base = self.number(row.base);
-            let should: BTreeSet<u64> = before.difference(&has(slot)).copied().filter(|&b| self.blocks[b as usize].birth > base).collect();
-            let is: BTreeSet<u64> = (0..self.g.blocks()).filter(|&b| self.blocks[b as usize].owner == Some(slot)).collect();
-            should == is
+            let should: BTreeSet<u64> = before.difference(&has(slot)).copied().filter(|&b| self.births[b as usize] > base).collect();
+            let is: BTreeSet<u64> = row.list.iter().copied().collect();
+            should == is && self.t[LENGTH + slot] as usize == is.len()
         })
     }
 
-    /// By rising birth, then line, then falling number of the owner.
-    fn key(&self, b: u64) -> (u64, u64, std::cmp::Reverse<u64>) {
-        let row = &self.blocks[b as usize];
-        let owner = &self.rows[&row.owner.unwrap()];
-        (row.birth, owner.line, std::cmp::Reverse(owner.number))
-    }
-
-    fn sequence_sound(&self) -> bool {
-        if !self.sequence.iter().all(|&b| b < self.g.blocks()) {
-            return false;
-        }
-        let mut listed = self.sequence.clone();
-        listed.sort();
-        let dead: Vec<u64> = (0..self.g.blocks()).filter(|&b| self.blocks[b as usize].owner.is_some()).collect();
-        listed == dead && self.sequence.windows(2).all(|w| self.key(w[0]) <= self.key(w[1]))
+    fn free_sound(&self) -> bool {
+        let held = self.held();
+        (0..64).all(|k| self.t[FREE + k] == free_word(&held, &self.g, k))
     }
 
     fn held(&self) -> BTreeSet<u64> {
-        (0..self.g.blocks()).filter(|&b| self.blocks[b as usize].birth > 0).collect()
+        (0..self.g.blocks()).filter(|&b| self.births[b as usize] > 0).collect()
     }
 
     fn sound(&self, six: &[u64; 6], log: &[u8]) -> bool {
@@ -228,8 +207,32 @@ impl Tables<'_> {
             && self.pages_sound()
             && self.births_sound()
             && self.deadlists_sound()
-            && self.sequence_sound()
+            && self.free_sound()
             && read_log(&self.g, &words_of(&log[..8 * self.t[9] as usize])) == Some(self.held())
+    }
+
+    /// The record that follows another in its line.
+    fn follower(&self, slot: usize) -> Option<usize> {
+        self.rows.iter().find(|(_, row)| row.before == Some(slot)).map(|(&s, _)| s)
+    }
+
+    /// A line: a first record and all that follow it. Two first records of one base are two lines.
+    fn line(&self, first: usize) -> Line {
+        let mut records = Vec::new();
+        let mut at = Some(first);
+        while let Some(s) = at {
+            records.push(self.rows[&s].number);
+            at = self.follower(s);
+        }
+        Line { base: self.number(self.rows[&first].base), records }
+    }
+
+    fn shards(&self, list: &[u64]) -> BTreeMap<u64, Vec<u64>> {
+        let mut shards: BTreeMap<u64, Vec<u64>> = BTreeMap::new();
+        for &b in list {
+            shards.entry(self.births[b as usize]).or_default().push(b);
+        }
+        shards
     }
 
     /// The store that sound tables stand for.
@@ -241,33 +244,37 @@ impl Tables<'_> {
         store.marks = (0..self.g.arenas as usize).map(|a| self.t[MARKS + a] as u64).collect();
         store.log = words_of(&log[..8 * self.t[9] as usize]);
         for b in self.held() {
-            store.births.insert(b, self.blocks[b as usize].birth);
+            store.births.insert(b, self.births[b as usize]);
         }
-        for row in self.rows.values() {
-            let record = Record { open: row.open, pages: row.pages.clone(), dead: BTreeMap::new() };
+        for (&slot, row) in &self.rows {
+            let record = Record { open: row.open, pages: row.pages.clone(), dead: self.shards(&row.list) };
             store.records.insert(row.number, record);
-        }
-        for &b in &self.sequence {
-            let row = &self.blocks[b as usize];
-            let owner = store.records.get_mut(&self.number(row.owner)).unwrap();
-            owner.dead.entry(row.birth).or_default().push(b);
-        }
-        let lines: BTreeSet<u64> = self.rows.values().map(|row| row.line).collect();
-        for line in lines {
-            let mut records: Vec<&Row> = self.rows.values().filter(|row| row.line == line).collect();
-            records.sort_by_key(|row| row.number);
-            let base = self.number(records[0].base);
-            store.lines.push(Line { base, records: records.iter().map(|row| row.number).collect() });
+            if row.before.is_none() {
+                store.lines.push(self.line(slot));
+            }
         }
         store
     }
+
+    fn slot(&self, r: u64) -> Option<usize> {
+        self.rows.iter().find(|(_, row)| row.number == r).map(|(&slot, _)| slot)
+    }
+
+    fn list(&self, r: u64) -> &[u64] {
+        self.slot(r).map_or(&[], |slot| &self.rows[&slot].list)
+    }
 }
 
-/// Two records have two numbers, and do not both follow one record or both begin one line.
+/// Two records have two numbers, and do not both follow one record.
 fn pair_sound(x: &Row, y: &Row) -> bool {
     let both_follow = x.before.is_some() && x.before == y.before;
-    let both_begin = x.before.is_none() && y.before.is_none() && x.line == y.line;
-    x.number != y.number && !both_follow && !both_begin
+    x.number != y.number && !both_follow
+}
+
+/// Bit i of word k is 1 exactly where block 32 k + i is free.
+fn free_word(held: &BTreeSet<u64>, g: &Geometry, k: usize) -> u32 {
+    let free = |b: u64| b < g.blocks() && !held.contains(&b);
+    (0..32).filter(|&i| free(32 * k as u64 + i)).map(|i| 1 << i).sum()
 }
 
 fn words_of(bytes: &[u8]) -> Vec<u64> {
@@ -324,6 +331,9 @@ fn made(g: &Geometry, six: &[u64; 6], memory: &mut Memory) {
     for i in 0..6 {
         memory.tables[i] = six[i] as u32;
     }
+    for k in 0..64 {
+        memory.tables[FREE + k] = free_word(&BTreeSet::new(), g, k);
+    }
 }
 
 /// The reply to a call on lent memory, which becomes what the call leaves.
@@ -339,49 +349,46 @@ fn call(six: &[u64; 6], memory: &mut Memory, lent: [usize; 3], c: Call) -> Reply
     }
     let mut store = tables.store(&before.log);
     let given = store.call(c)?;
-    let places = places_after(&tables, &store, c);
-    if let Call::Delete(r) = c {
-        hand_on(&tables, r, &mut memory.tables);
+    let places = places_after(&tables, &store);
+    lay_header(&store, memory);
+    lay_records(&store, &places, &mut memory.tables);
+    for n in store.numbers() {
+        lay_list(&g, places[&n], &list_after(&tables, &store, c, n), &mut memory.tables);
     }
-    lay(&store, &places, memory);
+    lay_blocks(&store, &mut memory.tables);
     Ok(given)
 }
 
-/// A deleted record hands its homes on to the record that follows it, also those of the blocks that are freed.
-fn hand_on(tables: &Tables, r: u64, t: &mut [u32]) {
-    let (&slot, row) = tables.rows.iter().find(|(_, row)| row.number == r).unwrap();
-    let Some((&follower, _)) = tables.rows.iter().find(|(_, x)| x.before == Some(slot)) else { return };
-    for &b in row.pages.iter().flatten() {
-        if tables.blocks[b as usize].home == slot {
-            t[block_at(&tables.g, b as usize) + 1] = follower as u32;
-        }
-    }
-}
-
-/// Where a record stands: its slot, and the number of the record that began its line.
-type Places = BTreeMap<u64, (usize, u64)>;
+/// The slot that a record stands in.
+type Places = BTreeMap<u64, usize>;
 
 /// A new record takes the first empty slot.
-fn places_after(tables: &Tables, store: &Store, c: Call) -> Places {
-    let mut places: Places = tables.rows.iter().map(|(&slot, row)| (row.number, (slot, row.line))).collect();
-    for n in store.numbers() {
-        if places.contains_key(&n) {
-            continue;
-        }
-        let slot = (0..).find(|s| !tables.rows.contains_key(s)).unwrap();
-        let line = if let Call::Seal(r) = c { places[&r].1 } else { n };
-        places.insert(n, (slot, line));
+fn places_after(tables: &Tables, store: &Store) -> Places {
+    let vacant = (0..).find(|s| !tables.rows.contains_key(s)).unwrap();
+    store.numbers().into_iter().map(|n| (n, tables.slot(n).unwrap_or(vacant))).collect()
+}
+
+/// A deadlist after a call: what was on it and still is, then what a deleted record's list brings, each in the order that it had, then a killed
+/// block.
+fn list_after(tables: &Tables, store: &Store, c: Call, n: u64) -> Vec<u64> {
+    let shards = &store.records[&n].dead;
+    let mut left: BTreeSet<u64> = shards.values().flatten().copied().collect();
+    let brought: &[u64] = if let Call::Delete(r) = c { tables.list(r) } else { &[] };
+    let mut list: Vec<u64> = tables.list(n).iter().chain(brought).copied().filter(|b| left.remove(b)).collect();
+    assert!(left.len() < 2, "a call kills one block at most");
+    list.extend(left);
+    for (birth, shard) in shards {
+        assert!(list.iter().filter(|b| store.births[b] == *birth).eq(shard), "a shard is what of the list has one birth");
     }
-    places.retain(|n, _| store.records.contains_key(n));
-    places
+    list
 }
 
 fn link_to(places: &Places, n: u64) -> u32 {
-    if n == 0 { 0 } else { places[&n].0 as u32 + 1 }
+    if n == 0 { 0 } else { places[&n] as u32 + 1 }
 }
 
-/// Lays a store out: everything that has a meaning is written, everything else stays.
-fn lay(store: &Store, places: &Places, memory: &mut Memory) {
+/// Here and below everything that has a meaning is written, everything else stays.
+fn lay_header(store: &Store, memory: &mut Memory) {
     let t = &mut memory.tables;
     t[6] = store.last as u32;
     t[7] = store.counter as u32;
@@ -390,8 +397,6 @@ fn lay(store: &Store, places: &Places, memory: &mut Memory) {
     for (a, &mark) in store.marks.iter().enumerate() {
         t[MARKS + a] = mark as u32;
     }
-    lay_records(store, places, t);
-    lay_blocks(store, places, t);
     for (i, w) in store.log.iter().enumerate() {
         memory.log[8 * i..8 * i + 8].copy_from_slice(&w.to_be_bytes());
     }
@@ -399,50 +404,40 @@ fn lay(store: &Store, places: &Places, memory: &mut Memory) {
 
 fn lay_records(store: &Store, places: &Places, t: &mut [u32]) {
     for slot in 0..store.g.records as usize {
-        if !places.values().any(|&(s, _)| s == slot) {
-            t[record_at(slot)] = 0;
+        if !places.values().any(|&s| s == slot) {
+            t[NUMBER + slot] = 0;
+            t[LENGTH + slot] = 0;
         }
     }
     for (&n, record) in &store.records {
-        let (slot, began) = places[&n];
+        let slot = places[&n];
         let line = &store.lines[store.line_of(n)];
         let at = line.records.iter().position(|&x| x == n).unwrap();
-        let row = &mut t[record_at(slot)..record_at(slot + 1)];
         // An open record's mark is any number above 0.
-        row[1] = if !record.open { 0 } else if row[0] as u64 == n && row[1] > 0 { row[1] } else { 1 };
-        row[0] = n as u32;
-        row[2] = if at == 0 { 0 } else { link_to(places, line.records[at - 1]) };
-        row[3] = link_to(places, line.base);
-        row[4] = began as u32;
+        let kept = t[NUMBER + slot] as u64 == n && t[OPEN + slot] > 0;
+        t[OPEN + slot] = if !record.open { 0 } else if kept { t[OPEN + slot] } else { 1 };
+        t[NUMBER + slot] = n as u32;
+        t[BEFORE + slot] = if at == 0 { 0 } else { link_to(places, line.records[at - 1]) };
+        t[BASE + slot] = link_to(places, line.base);
         for (page, b) in record.pages.iter().enumerate() {
-            row[PAGES + page] = b.map_or(0, |b| b as u32 + 1);
+            t[pages_at(slot) + page] = b.map_or(0, |b| b as u32 + 1);
         }
     }
 }
 
-fn lay_blocks(store: &Store, places: &Places, t: &mut [u32]) {
-    let mut dead = Vec::new();
-    for (&n, record) in &store.records {
-        for (&birth, shard) in &record.dead {
-            let key = (birth, places[&n].1, std::cmp::Reverse(n));
-            dead.extend(shard.iter().enumerate().map(|(i, &b)| (key, i, n, b)));
-        }
+fn lay_list(g: &Geometry, slot: usize, list: &[u64], t: &mut [u32]) {
+    t[LENGTH + slot] = list.len() as u32;
+    for (i, &b) in list.iter().enumerate() {
+        t[list_at(g, slot) + i] = b as u32;
     }
-    dead.sort();
-    t[10] = dead.len() as u32;
+}
+
+fn lay_blocks(store: &Store, t: &mut [u32]) {
+    let held = store.births.keys().copied().collect();
+    for k in 0..64 {
+        t[FREE + k] = free_word(&held, &store.g, k);
+    }
     for b in 0..store.g.blocks() {
-        let at = block_at(&store.g, b as usize);
-        let owner = dead.iter().find(|x| x.3 == b).map_or(0, |x| x.2);
-        t[at] = store.births.get(&b).map_or(0, |&n| n as u32);
-        t[at + 3] = link_to(places, owner);
-        // The smallest number that has the block is its oldest record.
-        let oldest = store.records.iter().find(|(_, record)| record.pages.contains(&Some(b)));
-        if let Some((n, record)) = oldest {
-            t[at + 1] = places[n].0 as u32;
-            t[at + 2] = record.pages.iter().position(|&x| x == Some(b)).unwrap() as u32;
-        }
-    }
-    for (i, x) in dead.iter().enumerate() {
-        t[block_at(&store.g, i) + 4] = x.3 as u32;
+        t[birth_at(&store.g, b as usize)] = store.births.get(&b).map_or(0, |&n| n as u32);
     }
 }

@@ -2,10 +2,12 @@
 //!   reference run                       replies to the script on standard input
 //!   reference script SEED               a script made from a seed
 //!   reference damaged                   the replies to calls on damaged memory, as this implementation predicts them
+//!   reference reached FROM TO           what the scripts of the seeds reach, and how often
 //!   reference compare RUNNER FROM TO    runs the scripts of the seeds through RUNNER and compares byte for byte
 mod damaged;
 mod generate;
 mod layout;
+mod reached;
 mod script;
 mod store;
 
@@ -29,8 +31,10 @@ fn compare(runner: &str, from: u64, to: u64) {
     for seed in from..to {
         let text = generate::script(seed);
         let expected = script::run(&text);
-        if runner_replies(runner, &text) != expected {
-            println!("seed {seed}: the replies differ");
+        let found = runner_replies(runner, &text);
+        if found != expected {
+            let at = found.split(|&b| b == b'\n').zip(expected.split(|&b| b == b'\n')).take_while(|(a, b)| a == b).count();
+            println!("seed {seed}: the replies differ, first to line {}", at + 1);
             exit(1);
         }
         lines += expected.iter().filter(|&&b| b == b'\n').count();
@@ -49,9 +53,10 @@ fn main() {
         }
         ["script", seed] => std::io::stdout().write_all(&generate::script(seed.parse().unwrap())).unwrap(),
         ["damaged"] => print!("{}", damaged::printed(&mut layout::Predicted)),
+        ["reached", from, to] => reached::print(from.parse().unwrap(), to.parse().unwrap()),
         ["compare", runner, from, to] => compare(runner, from.parse().unwrap(), to.parse().unwrap()),
         _ => {
-            eprintln!("usage: reference run | script SEED | damaged | compare RUNNER FROM TO");
+            eprintln!("usage: reference run | script SEED | damaged | reached FROM TO | compare RUNNER FROM TO");
             exit(2);
         }
     }

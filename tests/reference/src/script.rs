@@ -1,5 +1,5 @@
 //! Scripts: lines, calls, replies.
-use crate::store::{Call, Geometry, Store};
+use crate::store::{Call, Geometry, Reply, Store};
 
 enum Line {
     Store([u64; 6]),
@@ -43,14 +43,21 @@ fn parse(line: &[u8]) -> Option<Line> {
 
 /// The replies to a script.
 pub fn run(text: &[u8]) -> Vec<u8> {
+    let mut out = Vec::new();
+    each_reply(text, |_, _, reply| put(&mut out, reply));
+    out
+}
+
+/// Runs a script; `seen` gets the store behind each line, if there is one, the call and the reply.
+pub fn each_reply(text: &[u8], mut seen: impl FnMut(Option<&Store>, Option<Call>, &Reply)) {
     let text = &text[..text.len().min(65_536)];
     let mut store: Option<Store> = None;
-    let mut out = Vec::new();
     let mut lines: Vec<&[u8]> = text.split(|&b| b == b'\n').collect();
     if lines.last().is_some_and(|l| l.is_empty()) {
         lines.pop();
     }
     for line in lines {
+        let mut call = None;
         let reply = match parse(line) {
             None => Err(1),
             Some(Line::Store(n)) => match Geometry::new(n) {
@@ -60,18 +67,25 @@ pub fn run(text: &[u8]) -> Vec<u8> {
                     Ok(vec![])
                 }
             },
-            Some(Line::Call(c)) => store.as_mut().map_or(Err(4), |s| s.call(c)),
-        };
-        match reply {
-            Ok(numbers) => {
-                out.push(b'+');
-                for n in numbers {
-                    out.extend(format!(" {n}").bytes());
-                }
+            Some(Line::Call(c)) => {
+                call = Some(c);
+                store.as_mut().map_or(Err(4), |s| s.call(c))
             }
-            Err(n) => out.extend(format!("- {n}").bytes()),
-        }
-        out.push(b'\n');
+        };
+        seen(store.as_ref(), call, &reply);
     }
-    out
+}
+
+/// A reply as a line.
+fn put(out: &mut Vec<u8>, reply: &Reply) {
+    match reply {
+        Ok(numbers) => {
+            out.push(b'+');
+            for n in numbers {
+                out.extend(format!(" {n}").bytes());
+            }
+        }
+        Err(n) => out.extend(format!("- {n}").bytes()),
+    }
+    out.push(b'\n');
 }

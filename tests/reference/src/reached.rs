@@ -1,0 +1,95 @@
+//! What scripts made from seeds reach: how many of the scripts, and how many of their lines.
+use crate::store::{Call, Reply, Store};
+use crate::{generate, script};
+use std::collections::BTreeMap;
+
+/// How many bases lie below a record.
+fn depth(store: &Store, r: u64) -> usize {
+    let base = store.lines[store.line_of(r)].base;
+    if base == 0 { 0 } else { 1 + depth(store, base) }
+}
+
+fn dead(store: &Store, r: u64) -> usize {
+    store.records[&r].dead.values().map(|shard| shard.len()).sum()
+}
+
+type Reached = Vec<(bool, &'static str)>;
+
+fn refused(c: Call, number: u32) -> Reached {
+    vec![
+        (number == 14 && matches!(c, Call::Delete(_)), "D refused by 14"),
+        (number == 14 && matches!(c, Call::Write(..)), "W refused by 14"),
+        (number == 13, "W refused by 13"),
+        (number == 11, "refused by 11"),
+        (number == 10, "D refused by 10"),
+    ]
+}
+
+/// A W or an E in record r.
+fn written(store: &Store, r: u64) -> Reached {
+    let (n, held) = (store.g.blocks(), store.births.len() as u64);
+    vec![
+        (n >= 64 && 10 * held >= 9 * n, "W or E, 64 blocks or more, a tenth of them free at most"),
+        (dead(store, r) > 0, "W or E in a record with a deadlist"),
+        (dead(store, r) > 31, "W or E in a record with 32 dead blocks or more"),
+        (depth(store, r) > 2, "W or E in a fork of forks, 3 deep or more"),
+    ]
+}
+
+fn deleted(store: &Store, freed: usize, was_last: bool) -> Reached {
+    vec![
+        (!was_last, "D with a follower"),
+        (!was_last && freed > 1, "D with a follower that frees 2 or more"),
+        (!was_last && freed > 31, "D with a follower that frees 32 or more"),
+        (was_last && freed > 31, "D of a line's last that frees 32 or more"),
+        (store.g.pages > 63, "D at 64 pages or more"),
+        (store.records.len() > 31, "D with 32 records or more left"),
+    ]
+}
+
+fn sealed(store: &Store, r: u64) -> Reached {
+    let line = &store.lines[store.line_of(r)];
+    let rolled = line.base == 0 && line.records.len() > 5 && line.records[0] > 6;
+    vec![(rolled, "S in a line of 6 or more that lost its first"), (store.records.len() > 31, "S with 32 records or more")]
+}
+
+/// What a call, its reply and the store behind it are an instance of.
+fn instances(store: &Store, c: Call, reply: &Reply, was_last: bool) -> Reached {
+    let given = match reply {
+        Err(number) => return refused(c, *number),
+        Ok(given) => given,
+    };
+    let mut reached = match c {
+        Call::Write(r, ..) | Call::Erase(r, _) => written(store, r),
+        Call::Delete(_) => deleted(store, given.len(), was_last),
+        Call::Seal(r) => sealed(store, r),
+        _ => vec![],
+    };
+    let logs = matches!(c, Call::Write(..) | Call::Erase(..) | Call::Delete(_) | Call::Barrier);
+    reached.push((logs && store.g.words - (store.log.len() as u64) < 3, "log words left: under 3"));
+    reached
+}
+
+/// Prints, for the scripts of the seeds, how often each situation is reached.
+pub fn print(from: u64, to: u64) {
+    let mut counts: BTreeMap<&'static str, (u64, u64)> = BTreeMap::new();
+    for seed in from..to {
+        let mut here: BTreeMap<&'static str, u64> = BTreeMap::new();
+        let mut lasts: Vec<u64> = Vec::new();
+        script::each_reply(&generate::script(seed), |store, call, reply| {
+            let (Some(store), Some(c)) = (store, call) else { return };
+            let was_last = matches!(c, Call::Delete(r) if lasts.contains(&r));
+            for (_, name) in instances(store, c, reply, was_last).into_iter().filter(|x| x.0) {
+                *here.entry(name).or_default() += 1;
+            }
+            lasts = store.lines.iter().map(|line| line.records[line.records.len() - 1]).collect();
+        });
+        for (name, n) in here {
+            let count = counts.entry(name).or_default();
+            *count = (count.0 + 1, count.1 + n);
+        }
+    }
+    for (name, (scripts, lines)) in counts {
+        println!("{scripts:>7} scripts {lines:>9} lines: {name}");
+    }
+}
