@@ -1,7 +1,9 @@
-//! Links the proved library that `rt staticlib measure` wrote.
+//! Links each benchmark with the one proved library that it measures: `rt staticlib measure` and `rt staticlib sogvect` write them.
 fn main() {
     let here = std::env::var("CARGO_MANIFEST_DIR").expect("cargo names the package's folder");
-    println!("cargo:rustc-link-search=native={here}/../target/staticlib");
-    println!("cargo:rustc-link-lib=static=measure");
-    println!("cargo:rerun-if-changed={here}/../target/staticlib/libmeasure.a");
+    for (program, library) in [("scripts", "measure"), ("stranger", "sogvect")] {
+        let path = format!("{here}/../target/staticlib/lib{library}.a");
+        println!("cargo:rustc-link-arg-bin={program}={path}");
+        println!("cargo:rerun-if-changed={path}");
+    }
 }

@@ -1,6 +1,6 @@
 //! The growth of the calls as an SVG picture: a panel for each of pages, records and dead blocks.
 use crate::both::Times;
-use crate::growth::Point;
+use crate::growth::{Point, CALLS};
 use std::fmt::Write;
 
 const WIDTH: f64 = 400.0;
@@ -8,18 +8,8 @@ const HEIGHT: f64 = 260.0;
 const LEFT: f64 = 64.0;
 const TOP: f64 = 44.0;
 
-struct Curve {
-    name: &'static str,
-    colour: &'static str,
-    of: fn(&Point) -> Option<Times>,
-}
-
-const CURVES: [Curve; 4] = [
-    Curve { name: "W, the old block freed", colour: "#1f5fa8", of: |p| Some(p.write) },
-    Curve { name: "W, the old block listed as dead", colour: "#b3541e", of: |p| Some(p.listed) },
-    Curve { name: "S and D together", colour: "#2b7a3b", of: |p| Some(p.pair) },
-    Curve { name: "S alone", colour: "#7a3b8f", of: |p| p.seal },
-];
+/// The colour of each of the calls.
+const COLOURS: [&str; 4] = ["#1f5fa8", "#b3541e", "#2b7a3b", "#7a3b8f"];
 
 /// A step of 1, 2 or 5 times a power of ten, at most six of them up to the top.
 fn step(top: f64) -> f64 {
@@ -72,35 +62,33 @@ fn axes(svg: &mut String, scale: &Scale, label: &str, points: &[Point]) {
     text(svg, left - 40.0, TOP - 14.0, "start", "nanoseconds a call");
 }
 
-fn curve(svg: &mut String, scale: &Scale, points: &[Point], curve: &Curve, time: fn(Times) -> f64, dash: &str) {
+fn curve(svg: &mut String, scale: &Scale, points: &[Point], call: usize, time: fn(Times) -> f64, dash: &str) {
     let mut path = String::new();
     for p in points {
-        if let Some(t) = (curve.of)(p) {
-            write!(path, "{:.1},{:.1} ", scale.x(p.at as f64), scale.y(time(t))).unwrap();
-        }
+        write!(path, "{:.1},{:.1} ", scale.x(p.at as f64), scale.y(time(p.times[call]))).unwrap();
     }
-    writeln!(svg, "<polyline points=\"{path}\" fill=\"none\" stroke=\"{}\" stroke-width=\"2\"{dash}/>", curve.colour).unwrap();
+    writeln!(svg, "<polyline points=\"{path}\" fill=\"none\" stroke=\"{}\" stroke-width=\"2\"{dash}/>", COLOURS[call]).unwrap();
 }
 
 fn panel(svg: &mut String, left: f64, label: &str, points: &[Point]) {
-    let times = points.iter().flat_map(|p| CURVES.iter().filter_map(|c| (c.of)(p)));
-    let most = times.flat_map(|t| [t.proved, t.flat]).fold(1.0, f64::max);
+    let times = points.iter().flat_map(|p| p.times);
+    let most = times.flat_map(|t| [t.proved, t.unproved]).fold(1.0, f64::max);
     let top = step(most) * (most / step(most)).ceil();
     let last = points.iter().map(|p| p.at).max().unwrap_or(1) as f64;
     let scale = Scale { left, last, top };
     axes(svg, &scale, label, points);
-    for c in &CURVES {
-        curve(svg, &scale, points, c, |t| t.flat, " stroke-dasharray=\"5 4\"");
-        curve(svg, &scale, points, c, |t| t.proved, "");
+    for call in 0..CALLS.len() {
+        curve(svg, &scale, points, call, |t| t.unproved, " stroke-dasharray=\"5 4\"");
+        curve(svg, &scale, points, call, |t| t.proved, "");
     }
 }
 
 fn legend(svg: &mut String, y: f64) {
     let mut x = LEFT;
-    for c in &CURVES {
-        line(svg, [x, x + 26.0], [y; 2], &format!("stroke=\"{}\" stroke-width=\"3\"", c.colour));
-        text(svg, x + 32.0, y + 4.0, "start", c.name);
-        x += 60.0 + 7.0 * c.name.len() as f64;
+    for (name, colour) in CALLS.iter().zip(COLOURS) {
+        line(svg, [x, x + 26.0], [y; 2], &format!("stroke=\"{colour}\" stroke-width=\"3\""));
+        text(svg, x + 32.0, y + 4.0, "start", name);
+        x += 60.0 + 7.0 * name.len() as f64;
     }
     text(svg, LEFT, y + 26.0, "start", "Solid: the proved store, calls in a script. Dashed: the unproved one. Each panel has its own scale.");
 }

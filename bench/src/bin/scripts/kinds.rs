@@ -1,0 +1,217 @@
+//! Scripts of several kinds, each as near to 65,536 bytes as whole lines allow.
+use crate::composed::{Composed, LIMIT};
+use bench::generate::{call, geometry, record, script, Dice};
+use bench::store::Call;
+
+const PER_KIND: u64 = 6;
+
+pub struct Kind {
+    pub name: &'static str,
+    pub scripts: Vec<Vec<u8>>,
+}
+
+fn small(d: &mut Dice) -> [u64; 6] {
+    let (arenas, per) = (1 + d.below(4), 1 + d.below(12));
+    [arenas, per, 1 + d.below(6), 1 + d.below(12), 1 + d.below(5), 2 * arenas * per + 2 + d.below(60)]
+}
+
+fn largest(d: &mut Dice) -> [u64; 6] {
+    let (arenas, per) = if d.below(2) == 0 { (16, 128) } else { (2, 1024) };
+    [arenas, per, 256, 64, 1 + d.below(64), 8192]
+}
+
+fn any(d: &mut Dice) -> [u64; 6] {
+    if d.below(2) == 0 { largest(d) } else { geometry(d) }
+}
+
+/// A store of a shape, and calls until the script is full.
+fn composed(seed: u64, shape: fn(&mut Dice) -> [u64; 6], begin: fn(&mut Composed), go_on: fn(&mut Composed)) -> Vec<u8> {
+    let mut d = Dice::new(seed);
+    let six = shape(&mut d);
+    let mut c = Composed::new(d, six);
+    begin(&mut c);
+    while !c.full {
+        go_on(&mut c);
+    }
+    c.text()
+}
+
+fn nothing(_: &mut Composed) {}
+
+/// A call of the reference's generator; for some hundred calls it leans towards new records, then for as many towards deletes.
+fn random(c: &mut Composed) {
+    let grow = c.dice.below(2) == 0;
+    for _ in 0..1 + c.dice.below(400) {
+        let next = call(&mut c.dice, &c.six, &c.store, grow);
+        c.call(next);
+    }
+}
+
+fn deletes(c: &mut Composed) {
+    let next = match c.dice.below(10) {
+        0..=2 => Call::Delete(record(&mut c.dice, &c.store)),
+        3..=4 => Call::Seal(record(&mut c.dice, &c.store)),
+        _ => call(&mut c.dice, &c.six, &c.store, false),
+    };
+    c.call(next);
+}
+
+fn reads(c: &mut Composed) {
+    let next = match c.dice.below(10) {
+        0..=7 => Call::Read(record(&mut c.dice, &c.store), c.dice.below(c.six[2])),
+        _ => call(&mut c.dice, &c.six, &c.store, true),
+    };
+    c.call(next);
+}
+
+/// One record with all pages written.
+fn written(c: &mut Composed) {
+    c.call(Call::Begin);
+    let r = c.newest();
+    c.write_many(r, c.six[2]);
+}
+
+/// A line of eight records, each with its own block on every page: the newest is sealed and rewritten, the oldest goes.
+fn listed(c: &mut Composed) {
+    let all = c.store.numbers();
+    if all.len() == 8 {
+        c.room(1024);
+        c.call(Call::Delete(all[0]));
+    }
+    c.call(Call::Seal(c.newest()));
+    let r = c.newest();
+    c.write_many(r, c.six[2]);
+}
+
+/// A line of 32 records: a seal, a few writes, and the oldest goes.
+fn window(c: &mut Composed) {
+    c.room(1024);
+    c.call(Call::Seal(c.newest()));
+    for _ in 0..c.dice.below(8) {
+        c.write_any(c.newest());
+    }
+    let all = c.store.numbers();
+    if all.len() > 32 {
+        c.call(Call::Delete(all[0]));
+    }
+}
+
+/// 64 records in lines that fork: where the table is full one goes, else a seal or a fork; writes and reads between.
+fn forks(c: &mut Composed) {
+    c.room(1024);
+    let all = c.store.numbers();
+    match c.dice.below(3) {
+        _ if all.is_empty() => c.call(Call::Begin),
+        _ if all.len() == 64 => {
+            let r = all[c.dice.below(64) as usize];
+            c.call(Call::Delete(r));
+        }
+        0 => {
+            let r = c.any(true);
+            c.call(Call::Seal(r));
+        }
+        _ => {
+            let r = c.any(false);
+            c.call(Call::Fork(r));
+        }
+    }
+    for _ in 0..2 {
+        let r = c.any(true);
+        c.write_any(r);
+    }
+    let r = all.get(c.dice.below(64) as usize).copied().unwrap_or(1);
+    let page = c.dice.below(c.six[2]);
+    c.call(Call::Read(r, page));
+}
+
+fn written_and_sealed(c: &mut Composed) {
+    written(c);
+    c.call(Call::Seal(1));
+}
+
+/// Deletes where all of 256 pages are written: of a record in a line, and of a fork.
+fn wide_deletes(c: &mut Composed) {
+    c.room(1024);
+    let r = c.any(true);
+    let count = [1, 4, 32][c.dice.below(3) as usize];
+    if c.dice.below(2) == 0 {
+        c.call(Call::Seal(r));
+        let next = c.newest();
+        c.write_many(next, count);
+        c.call(Call::Delete(r));
+    } else {
+        c.call(Call::Fork(1));
+        let fork = c.newest();
+        c.write_many(fork, count);
+        c.call(Call::Delete(fork));
+    }
+}
+
+fn four_records(c: &mut Composed) {
+    for _ in 0..4 {
+        c.call(Call::Begin);
+    }
+}
+
+fn writes(c: &mut Composed) {
+    c.room(2);
+    let r = 1 + c.dice.below(4);
+    c.write_any(r);
+}
+
+/// Eight records with a block on every page, but for one to eight blocks that are free.
+fn nearly_all(c: &mut Composed) {
+    written(c);
+    while c.store.numbers().len() < 8 {
+        c.call(Call::Seal(c.newest()));
+        let few = if c.newest() == 8 { 1 + c.dice.below(8) } else { 0 };
+        c.write_many(c.newest(), 256 - few);
+    }
+}
+
+/// A write to one of the newest record's own pages, or one is emptied and written again.
+fn far(c: &mut Composed) {
+    c.room(4);
+    let (r, page) = (c.newest(), c.dice.below(256));
+    if c.store.free_blocks() > 1 && c.dice.below(4) == 0 {
+        c.call(Call::Erase(r, page));
+    }
+    c.write(r, page);
+}
+
+/// The generator's own scripts, one behind another, cut behind a whole line.
+fn joined(seed: u64) -> Vec<u8> {
+    let mut text: Vec<u8> = Vec::new();
+    let mut part = 1000 * seed;
+    while text.len() < LIMIT {
+        text.extend(script(part));
+        if text.last() != Some(&b'\n') {
+            text.push(b'\n');
+        }
+        part += 1;
+    }
+    text.truncate(LIMIT);
+    let end = text.iter().rposition(|&b| b == b'\n').expect("a line is short");
+    text.truncate(end + 1);
+    text
+}
+
+fn several(name: &'static str, make: impl Fn(u64) -> Vec<u8>) -> Kind {
+    Kind { name, scripts: (1..=PER_KIND).map(make).collect() }
+}
+
+pub fn kinds() -> Vec<Kind> {
+    vec![
+        several("mixed", joined),
+        several("small stores", |s| composed(s, small, nothing, random)),
+        several("largest stores", |s| composed(s, largest, nothing, random)),
+        several("many deletes", |s| composed(s, any, nothing, deletes)),
+        several("many reads", |s| composed(s, any, nothing, reads)),
+        several("writes only", |s| composed(s, largest, four_records, writes)),
+        several("listed writes, 1,792 blocks dead", |s| composed(s, largest, written, listed)),
+        several("window of 32 snapshots", |s| composed(s, largest, written, window)),
+        several("64 records with forks", |s| composed(s, largest, written_and_sealed, forks)),
+        several("deletes at 256 pages", |s| composed(s, largest, written_and_sealed, wide_deletes)),
+        several("nearly full stores", |s| composed(s, largest, nearly_all, far)),
+    ]
+}

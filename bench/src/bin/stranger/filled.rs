@@ -1,0 +1,99 @@
+//! Stores for a stranger's call, made by calls of the library. The unproved store does each call too, and the results are compared.
+use crate::library::Lent;
+use bench::generate::Dice;
+use bench::store::{Call, Geometry, Reply, Store};
+
+pub struct Filled {
+    pub lent: Lent,
+    pub store: Box<Store>,
+}
+
+impl Filled {
+    fn new(six: [u64; 6]) -> Filled {
+        let store = Box::new(Store::new(Geometry::new(six).expect("inside the limits")));
+        Filled { lent: Lent::new(six.map(|n| n as usize)), store }
+    }
+
+    fn call(&mut self, c: Call) {
+        let expected: Result<Vec<u32>, u32> = match self.store.call(c) {
+            Reply::Refused(k) => Err(k),
+            Reply::Nothing => Ok(vec![]),
+            Reply::One(n) => Ok(vec![n]),
+            Reply::Two(n, m) => Ok(vec![n, m]),
+            Reply::Many(count) => Ok(self.store.out[..count].to_vec()),
+        };
+        let given = self.lent.call(c).map(|count| self.lent.out[..count].to_vec());
+        assert!(given == expected, "the library answers {given:?}, the unproved store {expected:?}");
+    }
+
+    fn newest(&self) -> u64 {
+        self.store.last as u64
+    }
+
+    /// Blocks given to different pages of the newest record.
+    fn rewrite(&mut self, d: &mut Dice, count: u64) {
+        let (r, pages) = (self.newest(), self.store.g.pages as u64);
+        let first = d.below(pages);
+        for i in 0..count.min(pages) {
+            self.call(Call::Write(r, (first + 7 * i) % pages, d.below(3)));
+        }
+    }
+
+    /// A line of `len` records: each rewrites some pages, all but the last are sealed.
+    fn line(&mut self, d: &mut Dice, len: u64, rewritten: u64) {
+        for i in 1..=len {
+            self.rewrite(d, rewritten);
+            if i < len {
+                self.call(Call::Seal(self.newest()));
+            }
+        }
+    }
+
+    /// Empties and fills pages of the newest record until the log has no two words left.
+    fn churn(&mut self) {
+        let r = self.newest();
+        let mut page = 0;
+        while self.store.unused() >= 2 {
+            self.call(Call::Erase(r, page));
+            self.call(Call::Write(r, page, 0));
+            page = (page + 1) % self.store.g.pages as u64;
+        }
+        while self.store.unused() > 0 {
+            self.call(Call::Barrier);
+        }
+    }
+}
+
+/// Lines of at most eight records, the first with all pages, each other a fork of a record in the middle of an earlier one; then all pages of the
+/// newest record are written, as long as blocks are free. The log is full, or compressed.
+pub fn filled(six: [u64; 6], records: u64, rewritten: u64, long_log: bool) -> Filled {
+    let mut f = Filled::new(six);
+    let mut d = Dice::new(5);
+    f.call(Call::Begin);
+    f.rewrite(&mut d, 256);
+    let len = records.min(8);
+    f.line(&mut d, len, rewritten);
+    while f.newest() < records {
+        let base = f.newest() - len / 2 - 8 * d.below(1 + (f.newest() - 1) / 16);
+        f.call(Call::Fork(base));
+        f.line(&mut d, len, rewritten);
+    }
+    f.rewrite(&mut d, 256);
+    if long_log { f.churn() } else { f.call(Call::Compress) }
+    f
+}
+
+/// A store with nothing held whose log gives and frees runs of a whole arena, again and again: the most work that a log of its length can ask for.
+pub fn hostile(six: [u64; 6]) -> Filled {
+    let mut f = Filled::new(six);
+    while f.store.unused() > 0 {
+        f.call(Call::Barrier);
+    }
+    let run = six[1] << 14;
+    for (i, entry) in f.lent.log.chunks_exact_mut(16).enumerate() {
+        let code = 4 + i as u64 % 2;
+        entry[..8].copy_from_slice(&code.to_be_bytes());
+        entry[8..].copy_from_slice(&run.to_be_bytes());
+    }
+    f
+}

@@ -1,0 +1,87 @@
+//! The proved library as a stranger calls it (include/sogvect.h): every call checks all that is lent.
+use bench::store::Call;
+
+/// The numbers, the tables, the log, the result buffer, then the call's own.
+macro_rules! calls {
+    ($($name:ident($($n:ident),*);)*) => {
+        extern "C" {
+            $(fn $name(
+                arenas: usize, per: usize, pages: usize, records: usize, turn: usize, words: usize,
+                tables: *mut u32, tables_len: usize, log: *mut u8, log_len: usize, out: *mut u32, out_len: usize,
+                $($n: u32,)* count: *mut usize,
+            ) -> u32;)*
+        }
+    };
+}
+
+calls! {
+    sogvect_begin();
+    sogvect_write(n, page, kind);
+    sogvect_erase(n, page);
+    sogvect_seal(n);
+    sogvect_fork(n);
+    sogvect_delete(n);
+    sogvect_read(n, page);
+    sogvect_barrier();
+    sogvect_compress();
+    sogvect_free_list();
+}
+
+extern "C" {
+    fn sogvect_make(
+        arenas: usize, per: usize, pages: usize, records: usize, turn: usize, words: usize,
+        tables: *mut u32, tables_len: usize, log: *const u8, log_len: usize, out: *const u32, out_len: usize,
+    ) -> u32;
+}
+
+/// A store in memory of its own, of just the lengths that its numbers need.
+pub struct Lent {
+    pub six: [usize; 6],
+    pub tables: Vec<u32>,
+    pub log: Vec<u8>,
+    pub out: Vec<u32>,
+}
+
+impl Lent {
+    pub fn new(six: [usize; 6]) -> Lent {
+        let [arenas, per, _, records, _, words] = six;
+        let blocks = arenas * per;
+        let tables = vec![0; 2048 + 512 * records + blocks];
+        let mut lent = Lent { six, tables, log: vec![0; 8 * words], out: vec![0; 2 * blocks + 64] };
+        let [arenas, per, pages, records, turn, words] = six;
+        let (t, l, o) = (lent.tables.len(), lent.log.len(), lent.out.len());
+        // SAFETY: each pointer comes with the length of its vector, and no two overlap.
+        let refusal = unsafe {
+            sogvect_make(arenas, per, pages, records, turn, words, lent.tables.as_mut_ptr(), t, lent.log.as_ptr(), l, lent.out.as_ptr(), o)
+        };
+        assert_eq!(refusal, 0, "a store of {six:?} is made");
+        lent
+    }
+
+    /// One call: how many numbers stand in the result buffer, or the refusal.
+    pub fn call(&mut self, c: Call) -> Result<usize, u32> {
+        let [arenas, per, pages, records, turn, words] = self.six;
+        let (t, l, o) = (self.tables.len(), self.log.len(), self.out.len());
+        let (tables, log, out) = (self.tables.as_mut_ptr(), self.log.as_mut_ptr(), self.out.as_mut_ptr());
+        let mut count = 0;
+        macro_rules! call {
+            ($name:ident($($n:expr),*)) => {
+                // SAFETY: each pointer comes with the length of its vector, and no two overlap.
+                unsafe { $name(arenas, per, pages, records, turn, words, tables, t, log, l, out, o, $($n as u32,)* &mut count) }
+            };
+        }
+        let refusal = match c {
+            Call::Begin => call!(sogvect_begin()),
+            Call::Write(r, page, kind) => call!(sogvect_write(r, page, kind)),
+            Call::Erase(r, page) => call!(sogvect_erase(r, page)),
+            Call::Seal(r) => call!(sogvect_seal(r)),
+            Call::Fork(r) => call!(sogvect_fork(r)),
+            Call::Delete(r) => call!(sogvect_delete(r)),
+            Call::Read(r, page) => call!(sogvect_read(r, page)),
+            Call::Barrier => call!(sogvect_barrier()),
+            Call::Compress => call!(sogvect_compress()),
+            Call::FreeList => call!(sogvect_free_list()),
+        };
+        if refusal == 0 { Ok(count) } else { Err(refusal) }
+    }
+}

@@ -1,0 +1,62 @@
+//! The unproved store held to the implementation of `tests/reference`: replies and logs, call by call.
+#[allow(dead_code)]
+#[path = "../../tests/reference/src/generate.rs"]
+mod generate;
+#[allow(dead_code)]
+#[path = "../../tests/reference/src/store.rs"]
+mod store;
+
+use bench::store as fast;
+use generate::{call, geometry, Dice};
+use store::{Call, Geometry, Store};
+
+fn same(c: Call) -> fast::Call {
+    match c {
+        Call::Begin => fast::Call::Begin,
+        Call::Write(r, page, kind) => fast::Call::Write(r, page, kind),
+        Call::Erase(r, page) => fast::Call::Erase(r, page),
+        Call::Seal(r) => fast::Call::Seal(r),
+        Call::Fork(r) => fast::Call::Fork(r),
+        Call::Delete(r) => fast::Call::Delete(r),
+        Call::Read(r, page) => fast::Call::Read(r, page),
+        Call::Barrier => fast::Call::Barrier,
+        Call::Compress => fast::Call::Compress,
+        Call::FreeList => fast::Call::FreeList,
+    }
+}
+
+fn numbers(store: &fast::Store, reply: fast::Reply) -> Result<Vec<u64>, u32> {
+    let given = match reply {
+        fast::Reply::Refused(k) => return Err(k),
+        fast::Reply::Nothing => vec![],
+        fast::Reply::One(n) => vec![n],
+        fast::Reply::Two(n, m) => vec![n, m],
+        fast::Reply::Many(count) => store.out[..count].to_vec(),
+    };
+    Ok(given.iter().map(|&n| n as u64).collect())
+}
+
+fn agree(unproved: &mut fast::Store, seed: u64) {
+    let mut d = Dice::new(seed);
+    let six = geometry(&mut d);
+    let mut reference = Store::new(Geometry::new(six).expect("inside the limits"));
+    unproved.start(fast::Geometry::new(six).expect("inside the limits"));
+    let mut grow = true;
+    for _ in 0..600 {
+        grow ^= d.below(40) == 0;
+        let c = call(&mut d, &six, &reference, grow);
+        let reply = unproved.call(same(c));
+        assert_eq!(numbers(unproved, reply), reference.call(c), "seed {seed}: {c:?}");
+        let log: Vec<u8> = reference.log.iter().flat_map(|w| w.to_be_bytes()).collect();
+        assert!(unproved.log_bytes() == log, "seed {seed}: the log behind {c:?}");
+    }
+}
+
+#[test]
+fn replies_and_logs_agree() {
+    std::thread::Builder::new().stack_size(16 << 20).spawn(|| {
+        let six = fast::Geometry::new([1, 1, 1, 1, 1, 4]).expect("inside the limits");
+        let mut unproved = Box::new(fast::Store::new(six));
+        (1..=1000).for_each(|seed| agree(&mut unproved, seed));
+    }).expect("a thread starts").join().expect("no difference");
+}
