@@ -9,6 +9,7 @@ pub mod Named
 pub mod Bit
 pub mod Gap
 pub mod Jump
+pub mod Skips
 pub mod Firsts
 pub mod Runs
 pub mod Births

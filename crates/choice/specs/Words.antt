@@ -36,7 +36,7 @@ wordsAgree words p n zero = true
 wordsAgree words p n (suc k) = wordsAgree words p n k && eqb (getD words k 0) (wordOf p (32 * k) (min 32 (n - 32 * k)))
 
 -- what the search asks of its caller: ranges
-pub record Fine (words marks : List ℕ) (arenas per counter kind : ℕ) : Type 0 where
+pub record Searchable (words marks : List ℕ) (arenas per counter kind : ℕ) : Type 0 where
   pub arenas-least : 0 < arenas
   pub arenas-most : arenas ≤ 16
   pub per-least : 0 < per

@@ -1,9 +1,10 @@
 // The choice of a free block for a write, and what an accepted write moves: a mark and the arena counter.
 ghost use mathlib.Core.Path.{_≡_};
 ghost use Prim.Native.Nat.{ℕ, _+_, _-_, _*_, _/_, _%_, _^_, _<_, _≤_, min};
-ghost use mathlib.Core.Bool.{not};
+ghost use mathlib.Core.Bool.{true, not};
 ghost use lib.ListN.{length, getD};
-ghost use Rattle.choice.specs.Words.{freeIn, markIn, firstOf, bornFree, wordOf, wordsAgree, Fine};
+ghost use Rattle.choice.specs.Words.{freeIn, markIn, firstOf, bornFree, wordOf, wordsAgree, Searchable};
+ghost use Rattle.choice.specs.First.{Full};
 ghost use Rattle.choice.specs.Search.{chosen};
 ghost use Rattle.choice.specs.Turn.{next, turned};
 
@@ -45,6 +46,34 @@ fn rest_of(word: u32, b: usize) -> u32
     word >> ((b & 31) as u32)
 }
 
+// Whether four words from `at` on are all `skip`.
+fn are_four(words: &[u32], at: usize, skip: u32) -> bool
+    requires { ⌜ at + 4 ≤ length (now words) ⌝ }
+    ensures { λ r. ⌜ (r ≡ true → (y : ℕ) → y < 4 → getD (now (words .entry)) (at + y) 0 ≡ skip) ⌝ }
+{
+    (words[at] == skip)
+        & (words[at + 1] == skip)
+        & (words[at + 2] == skip)
+        & (words[at + 3] == skip)
+}
+
+// A word up to which all words from k on are `skip`, and no word behind end: four at a time.
+fn pass_fours(words: &[u32], k: usize, end: usize, skip: u32) -> usize
+    requires { ⌜ (k ≤ end) × (end ≤ length (now words)) ⌝ }
+    ensures range { λ r. ⌜ (k ≤ r) × (r ≤ end) ⌝ }
+    ensures passed { λ r. ⌜ ((i : ℕ) → k ≤ i → i < r → getD (now (words .entry)) i 0 ≡ skip) ⌝ }
+{
+    let mut at = k;
+    while at + 4 <= end {
+        if are_four(words, at, skip) {
+            at += 4;
+        } else {
+            return at;
+        }
+    }
+    at
+}
+
 // The first word from k on and below end that is not `skip`; end where there is none.
 fn next_word(words: &[u32], k: usize, end: usize, skip: u32) -> usize
     requires { ⌜ (k ≤ end) × (end ≤ length (now words)) ⌝ }
@@ -52,7 +81,7 @@ fn next_word(words: &[u32], k: usize, end: usize, skip: u32) -> usize
     ensures passed { λ r. ⌜ ((i : ℕ) → k ≤ i → i < r → getD (now (words .entry)) i 0 ≡ skip) ⌝ }
     ensures other { λ r. ⌜ (r < end → getD (now (words .entry)) r 0 ≡ skip → ⊥) ⌝ }
 {
-    let mut at = k;
+    let mut at = pass_fours(words, k, end, skip);
     while at < end {
         if words[at] != skip {
             return at;
@@ -104,9 +133,26 @@ pub fn first_kept(words: &[u32], lo: usize, hi: usize) -> usize
     least(32 * k + (u32::trailing_zeros(!words[k]) as usize), hi)
 }
 
+// The last arena behind `arena` up to which no arena has a free block; `arena` itself, where the next one has one or there is none.
+fn last_full(words: &[u32], arenas: usize, per: usize, arena: usize) -> usize
+    requires { ⌜ (arena < arenas) × (arenas ≤ 16) × (0 < per) × (per ≤ 1024) × (arenas * per ≤ 32 * length (now words)) ⌝ }
+    ensures range { λ r. ⌜ (arena ≤ r) × (r < arenas) ⌝ }
+    ensures full { λ r. ⌜ ((a : ℕ) → arena < a → a ≤ r → Full (freeIn (now (words .entry))) per a) ⌝ }
+{
+    let mut last = arena;
+    let mut end = arena * per + per;
+    let free = first_given(words, end, arenas * per);
+    while end + per <= free {
+        last += 1;
+        end += per;
+    }
+    last
+}
+
 // The first free block: from the arena of the counter and the kind on, round; in each arena from its mark on, round.
-// `words` are the free words of the tables, a bit a block; `marks` are the arenas' marks. An arena with no free block is
-// passed over at once. Each turn of the inner loop goes to the first free block before the end of the arena, or round.
+// `words` are the free words of the tables, a bit a block; `marks` are the arenas' marks. Each turn of the inner loop goes to
+// the first free block before the end of the arena, or round. Where an arena has none, those behind it that have none are
+// passed over at once.
 pub fn choose(
     words: &[u32],
     marks: &[u32],
@@ -115,7 +161,7 @@ pub fn choose(
     counter: usize,
     kind: usize,
 ) -> Found
-    requires { ⌜ Fine (now words) (now marks) arenas per counter kind ⌝ }
+    requires { ⌜ Searchable (now words) (now marks) arenas per counter kind ⌝ }
     ensures { λ r. ⌜ r ≡ chosen (freeIn (now (words .entry))) (markIn (now (marks .entry))) arenas per (counter + kind) ⌝ }
 {
     let mut arena = (counter + kind) % arenas;
@@ -125,22 +171,21 @@ pub fn choose(
             break 'search Found::Nothing;
         }
         let start = arena * per;
-        if first_given(words, start, start + per) < start + per {
-            let mut at = marks[arena] as usize;
-            let mut seen: usize = 0;
-            while seen < per {
-                let most = least(per - at, per - seen);
-                let block = start + at;
-                let free = first_given(words, block, block + most);
-                if free < block + most {
-                    break 'search Found::At(arena, at + (free - block));
-                }
-                at = next_of(per, at + most - 1);
-                seen += most;
+        let mut at = marks[arena] as usize;
+        let mut seen: usize = 0;
+        while seen < per {
+            let most = least(per - at, per - seen);
+            let block = start + at;
+            let free = first_given(words, block, block + most);
+            if free < block + most {
+                break 'search Found::At(arena, at + (free - block));
             }
+            at = next_of(per, at + most - 1);
+            seen += most;
         }
-        arena = next_of(arenas, arena);
-        tried += 1;
+        let last = last_full(words, arenas, per, arena);
+        tried += last - arena + 1;
+        arena = next_of(arenas, last);
     };
     found
 }

@@ -18,8 +18,11 @@ abbrev μ-loop : tie.MeasureT-loop
 one-more : (f : ℕ → ℕ) (k n : ℕ) {x : ℕ} → ((i : ℕ) → k ≤ i → i < n → f i ≡ x) → f n ≡ x → (i : ℕ) → k ≤ i → i < n + 1 → f i ≡ x
 one-more f k n h e i l u = cases (same? i n) (λ g. rw g e) (λ g. h i l (omega arith))
 
+pass-fours-requires : tie.Need-pass-fours-requires Inv-loop μ-loop
+pass-fours-requires c κs = search needs
+
 loop-holds : tie.Need-loop-holds Inv-loop μ-loop
-loop-holds c = (omega arith, omega arith, λ i l u. absurd (omega arith))
+loop-holds c = (c .pass-fours .ensures .0 .0, c .pass-fours .ensures .0 .1, c .pass-fours .ensures .1)
 
 mul-if1 : tie.Need-mul-if1 Inv-loop μ-loop
 mul-if1 c = omega arith
@@ -39,10 +42,10 @@ loop-less c = omega arith
 loop-again : tie.Need-loop-again Inv-loop μ-loop
 loop-again c =
     let d = c .before .before .before in
-    (omega arith, omega arith, one-more (λ i. getD (d .before .args .words .now) i 0) _ (d .loop .at) (d .loop .inv .2) (c .if1 .left))
+    (omega arith, omega arith, one-more (λ i. getD (d .before .before .before .args .words .now) i 0) _ (d .loop .at) (d .loop .inv .2) (c .if1 .left))
 
 returns-2 : tie.Need-returns-2 Inv-loop μ-loop
 returns-2 c = search needs
 
 pub next-word-spec : {M : Type 1} → statement M
-next-word-spec = tie.close (tie.spec Inv-loop μ-loop loop-holds mul-if1 shared-slice-read-if1 returns add-at loop-less loop-again returns-2)
+next-word-spec = tie.close (tie.spec Inv-loop μ-loop pass-fours-requires loop-holds mul-if1 shared-slice-read-if1 returns add-at loop-less loop-again returns-2)
