@@ -1,3 +1,3 @@
--- Answers and refusals, as document 01 counts them.
+-- Answers and refusals, as the rules count them (7.1).
 pub mod Reply
 pub mod Refusal

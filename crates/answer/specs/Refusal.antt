@@ -1,4 +1,4 @@
--- "Smallest first; each is given when it is true of the call and no earlier one is, and only then."
+-- "Smallest first; each is given when it is true of the call and no earlier one is, and only then." (7.1)
 use mathlib.Core.Path.{_≡_}
 use mathlib.Core.Bool.{Bool, true, false, cond}
 use mathlib.Core.Logic.{_⊎_}
@@ -16,7 +16,7 @@ abbrev pub decide : List Condition → List ℕ → Reply
 decide [] given = accepted given
 decide (c ∷ cs) given = cond (c .1) (refused (c .0)) (decide cs given)
 
--- what a call leaves in a piece of lent memory: "nothing lent is altered" by a refusal
+-- what a call leaves in a piece of lent memory: "nothing lent is altered" (7.1) by a refusal
 abbrev pub leaves : {A : Type 0} → Reply → A → A → A
 leaves (accepted given) old new = new
 leaves (refused n) old new = old
@@ -26,7 +26,7 @@ abbrev pub Holds : ℕ → List Condition → Type 0
 Holds n [] = ⊥
 Holds n (c ∷ cs) = ((c .0 ≡ n) × (c .1 ≡ true)) ⊎ Holds n cs
 
--- the refusals in the order in which they are looked at: "smallest first", and each that a later request adds where that request puts it
+-- the refusals in the order in which they are looked at: "smallest first" (7.1), and each that a later request adds where that request puts it
 abbrev pub inOrder : List ℕ
 inOrder = 1 ∷ 2 ∷ 3 ∷ 4 ∷ 5 ∷ 6 ∷ 15 ∷ 16 ∷ 19 ∷ 21 ∷ 23 ∷ 7 ∷ 8 ∷ 9 ∷ 17 ∷ 22 ∷ 10 ∷ 18 ∷ 20 ∷ 11 ∷ 12 ∷ 13 ∷ 14 ∷ []
 

@@ -1,5 +1,5 @@
--- A reply, in document 01's own terms: "+ and the result's numbers, or - and the refusal".
--- "For any answer that is an enum, a definition gives this paper's number and values for each case."
+-- A reply, in the rules' own terms: "+ and the result's numbers, or - and the refusal" (10.6).
+-- "For any answer that is an enum, a definition gives the number and the values for each case." (DECISIONS 3)
 use mathlib.Core.List.{List}
 use Prim.Native.Nat.{ℕ}
 use lib.ListN.{take}

@@ -1,4 +1,4 @@
--- Of the proved table of document 01: "log words 9 for N = 4 (2) and 10 (accepted)".
+-- Of the listing (section 11 of the rules): "log words 9 for N = 4 (2) and 10 (accepted)" (2.1).
 use mathlib.Core.Path.{_≡_, refl}
 use mathlib.Core.List.{[]}
 use Rattle.answer.specs.Reply.{accepted, refused}

@@ -1,5 +1,5 @@
 -- "A store is made from six decimal numbers: arenas 1 to 16; blocks per arena 1 to 1,024, in all N = product, at most 2,048; pages 1 to 256;
--- records in the store at one time 1 to 64; turn 1 to 4,096; log words from 2 × N + 2 to 8,192."
+-- records in the store at one time 1 to 64; turn 1 to 4,096; log words from 2 × N + 2 to 8,192." (2.1)
 use Prim.Native.Nat.{ℕ, _+_, _*_, _≤_}
 use mathlib.Core.Bool.{Bool, cond, _&&_}
 use lib.Dec.{leb}

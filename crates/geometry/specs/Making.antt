@@ -12,6 +12,6 @@ unfoldable pub replyOf : Making → Reply
 replyOf (Made g) = accepted []
 replyOf (Refused n) = refused n
 
--- "2: a geometry outside its limits."
+-- "2: a geometry outside its limits." (7.1)
 unfoldable pub making : ℕ → ℕ → ℕ → ℕ → ℕ → ℕ → Reply
 making arenas per pages records turn words = decide ((2, not (fits (geometryOf arenas per pages records turn words))) ∷ []) []
