@@ -19,7 +19,7 @@ use Rattle.model.specs.Effects.{leave, joined, unlinked, unlink}
 use Rattle.model.specs.Layout.{prevCell, lengthCell, listCell, birthCell, viewOf, stateOf, stored}
 use Rattle.model.proofs.TabFacts.{seek-found, put-same, put-other}
 use Rattle.model.proofs.ListFacts.{of-keep}
-use Rattle.model.proofs.Sorting.{sortedOnto}
+use Rattle.model.specs.Sorted.{sortedOnto}
 use Rattle.model.proofs.CheckFacts.{list-short}
 use Rattle.model.proofs.DoneSound.{done-sound, and-l, and-r}
 use Rattle.model.proofs.Shape.{Shaped}

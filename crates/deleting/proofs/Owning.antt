@@ -1,13 +1,11 @@
 -- The blocks of a record that its pred has not on the same page, page by page.
 use mathlib.Core.Path.{_≡_, refl, sym, ap, ap₂, _∙_}
-use mathlib.Core.Bool.{Bool, true, _&&_}
 use mathlib.Core.List.{List, [], _∷_, _++_, append-nil}
 use Prim.Native.Nat.{ℕ, zero, suc, _+_, _-_, _*_, _≤_, _<_}
 use native.Mathlib.Omega.{arith}
-use lib.Dec.{eqb}
 use lib.ListN.{length, getD, set, length-append}
 use lib.Seq.{sets}
-use borrow.Author.Tests.{eqb-true, eq-eqb, ne-eqb}
+use borrow.Author.Tests.{eq-eqb, ne-eqb}
 use Rattle.answer.proofs.Cases.{cases, same?, lt?}
 use Rattle.geometry.specs.declared.Geometry.{Geometry}
 use Rattle.model.specs.Table.{via, firstLink}
@@ -18,7 +16,6 @@ use Rattle.model.specs.Effects.{pruned}
 use Rattle.model.specs.Layout.{prevCell, baseCell, pageCell, viewOf}
 use Rattle.model.proofs.ListFacts.{rows-split, rows-snoc}
 use Rattle.model.proofs.CheckFacts.{pruned-own}
-use Rattle.model.proofs.DoneSound.{and-l, and-r}
 use Rattle.tables.specs.Ready.{Ready}
 use Rattle.tables.proofs.Fields
 use Rattle.tables.proofs.Ranges
@@ -45,82 +42,37 @@ module _ {g : Geometry} {t : List ℕ} (R : Ready g t) (s : ℕ) (hs : s < g .re
 
 -- ── places from x up to y that agree ──
 
-module _ (f h : ℕ → ℕ) where
-  pub agree-none : (x : ℕ) → (z : ℕ) → x ≤ z → z < x → f z ≡ h z
+-- m places more, from y on
+module _ (t : List ℕ) (a b : ℕ) where
+  pub agree-none : (x : ℕ) → (z : ℕ) → x ≤ z → z < x → getD t (a + z) 0 ≡ getD t (b + z) 0
   agree-none x z l k = absurd (let e : ⊥ = omega arith in e)
 
-  pub agree-more : {x y : ℕ} → ((z : ℕ) → x ≤ z → z < y → f z ≡ h z) → f y ≡ h y → (z : ℕ) → x ≤ z → z < y + 1 → f z ≡ h z
-  agree-more {x} {y} a e z l k = cases (same? z y) (λ d. rw d e) (λ d. a z l (omega arith))
-
-  -- they agree at y, and from there up to w
-  pub agree-on : {x y w : ℕ} → ((z : ℕ) → x ≤ z → z < y → f z ≡ h z) → f y ≡ h y → ((z : ℕ) → y + 1 ≤ z → z < w → f z ≡ h z) →
-      (z : ℕ) → x ≤ z → z < w → f z ≡ h z
-  agree-on {x} {y} {w} a e m z l k = cases (lt? z (y + 1)) (λ d. agree-more a e z l d) (λ d. m z d k)
-
--- eight tests, all true
-module _ (e₀ e₁ e₂ e₃ e₄ e₅ e₆ e₇ : Bool) where
-  abbrev a₁ : Bool
-  a₁ = e₀ && e₁
-
-  abbrev a₂ : Bool
-  a₂ = a₁ && e₂
-
-  abbrev a₃ : Bool
-  a₃ = a₂ && e₃
-
-  abbrev a₄ : Bool
-  a₄ = a₃ && e₄
-
-  abbrev a₅ : Bool
-  a₅ = a₄ && e₅
-
-  abbrev a₆ : Bool
-  a₆ = a₅ && e₆
-
-  each : ((((((((e₀ && e₁) && e₂) && e₃) && e₄) && e₅) && e₆) && e₇) ≡ true) →
-      (e₀ ≡ true) × (e₁ ≡ true) × (e₂ ≡ true) × (e₃ ≡ true) × (e₄ ≡ true) × (e₅ ≡ true) × (e₆ ≡ true) × (e₇ ≡ true)
-  each q₇ =
-      let q₆ : a₆ ≡ true = and-l a₆ e₇ q₇ in
-      let q₅ : a₅ ≡ true = and-l a₅ e₆ q₆ in
-      let q₄ : a₄ ≡ true = and-l a₄ e₅ q₅ in
-      let q₃ : a₃ ≡ true = and-l a₃ e₄ q₄ in
-      let q₂ : a₂ ≡ true = and-l a₂ e₃ q₃ in
-      let q₁ : a₁ ≡ true = and-l a₁ e₂ q₂ in
-      (and-l e₀ e₁ q₁, and-r e₀ e₁ q₁, and-r a₁ e₂ q₂, and-r a₂ e₃ q₃, and-r a₃ e₄ q₄, and-r a₄ e₅ q₅, and-r a₅ e₆ q₆, and-r a₆ e₇ q₇)
-
--- eight numbers from a and from b on
-module _ (t : List ℕ) (a b : ℕ) where
-  abbrev like : ℕ → ℕ → Bool
-  like i j = eqb (getD t i 0) (getD t j 0)
-
-  is : (y i j : ℕ) → a + y ≡ i → b + y ≡ j → like i j ≡ true → getD t (a + y) 0 ≡ getD t (b + y) 0
-  is y i j e d q = ap (λ k. getD t k 0) e ∙ eqb-true (getD t i 0) (getD t j 0) q ∙ sym (ap (λ k. getD t k 0) d)
-
-  pub eight :
-      ((((((((eqb (getD t a 0) (getD t b 0) && eqb (getD t (a + 1) 0) (getD t (b + 1) 0)) && eqb (getD t (a + 2) 0) (getD t (b + 2) 0)) &&
-      eqb (getD t (a + 3) 0) (getD t (b + 3) 0)) && eqb (getD t (a + 4) 0) (getD t (b + 4) 0)) && eqb (getD t (a + 5) 0) (getD t (b + 5) 0)) &&
-      eqb (getD t (a + 6) 0) (getD t (b + 6) 0)) && eqb (getD t (a + 7) 0) (getD t (b + 7) 0)) ≡ true) →
-      (y : ℕ) → y < 8 → getD t (a + y) 0 ≡ getD t (b + y) 0
-  eight q y h =
-      let w = each (like a b) (like (a + 1) (b + 1)) (like (a + 2) (b + 2)) (like (a + 3) (b + 3)) (like (a + 4) (b + 4)) (like (a + 5) (b + 5)) (like (a + 6) (b + 6)) (like (a + 7) (b + 7)) q in
-      cases (lt? y 1) (λ l. is y a b (omega arith) (omega arith) (w .0)) (λ l₁.
-      cases (lt? y 2) (λ l. is y (a + 1) (b + 1) (omega arith) (omega arith) (w .1)) (λ l₂.
-      cases (lt? y 3) (λ l. is y (a + 2) (b + 2) (omega arith) (omega arith) (w .2)) (λ l₃.
-      cases (lt? y 4) (λ l. is y (a + 3) (b + 3) (omega arith) (omega arith) (w .3)) (λ l₄.
-      cases (lt? y 5) (λ l. is y (a + 4) (b + 4) (omega arith) (omega arith) (w .4)) (λ l₅.
-      cases (lt? y 6) (λ l. is y (a + 5) (b + 5) (omega arith) (omega arith) (w .5)) (λ l₆.
-      cases (lt? y 7) (λ l. is y (a + 6) (b + 6) (omega arith) (omega arith) (w .6))
-      (λ l₇. is y (a + 7) (b + 7) (omega arith) (omega arith) (w .7))))))))
-
-  -- eight places more
-  pub agree-eight : {x y : ℕ} → ((z : ℕ) → x ≤ z → z < y → getD t (a + z) 0 ≡ getD t (b + z) 0) →
-      ((k : ℕ) → k < 8 → getD t (a + y + k) 0 ≡ getD t (b + y + k) 0) → (z : ℕ) → x ≤ z → z < y + 8 → getD t (a + z) 0 ≡ getD t (b + z) 0
-  agree-eight {x} {y} m e z l k =
+  pub agree-more : {x y : ℕ} (m : ℕ) → ((z : ℕ) → x ≤ z → z < y → getD t (a + z) 0 ≡ getD t (b + z) 0) →
+      ((k : ℕ) → k < m → getD t (a + y + k) 0 ≡ getD t (b + y + k) 0) → (z : ℕ) → x ≤ z → z < y + m → getD t (a + z) 0 ≡ getD t (b + z) 0
+  agree-more {x} {y} m f e z l k =
       cases (lt? z y)
-      (λ d. m z l d)
+      (λ d. f z l d)
       (λ d.
       ap (λ i. getD t i 0) (let w : a + z ≡ a + y + (z - y) = omega arith in w) ∙ e (z - y) (omega arith) ∙
       ap (λ i. getD t i 0) (let w : b + y + (z - y) ≡ b + z = omega arith in w))
+
+  pub differ-at : (y k : ℕ) → (getD t (a + y + k) 0 ≡ getD t (b + y + k) 0 → ⊥) → getD t (a + (y + k)) 0 ≡ getD t (b + (y + k)) 0 → ⊥
+  differ-at y k n e =
+      n (ap (λ i. getD t i 0) (let w : a + y + k ≡ a + (y + k) = omega arith in w) ∙ e ∙ ap (λ i. getD t i 0) (let w : b + (y + k) ≡ b + y + k = omega arith in w))
+
+-- ── places from x up to y that are 0 ──
+
+module _ (t : List ℕ) (a : ℕ) where
+  pub empty-none : (x : ℕ) → (z : ℕ) → x ≤ z → z < x → getD t (a + z) 0 ≡ 0
+  empty-none x z l k = absurd (let e : ⊥ = omega arith in e)
+
+  pub empty-more : {x y : ℕ} (m : ℕ) → ((z : ℕ) → x ≤ z → z < y → getD t (a + z) 0 ≡ 0) → ((k : ℕ) → k < m → getD t (a + y + k) 0 ≡ 0) →
+      (z : ℕ) → x ≤ z → z < y + m → getD t (a + z) 0 ≡ 0
+  empty-more {x} {y} m f e z l k =
+      cases (lt? z y) (λ d. f z l d) (λ d. ap (λ i. getD t i 0) (let w : a + z ≡ a + y + (z - y) = omega arith in w) ∙ e (z - y) (omega arith))
+
+  pub full-at : (y k : ℕ) → (getD t (a + y + k) 0 ≡ 0 → ⊥) → getD t (a + (y + k)) 0 ≡ 0 → ⊥
+  full-at y k n e = n (ap (λ i. getD t i 0) (let w : a + y + k ≡ a + (y + k) = omega arith in w) ∙ e)
 
 -- rows of tables as pages of records: the record of slot s, and the one behind a link
 module _ (g : Geometry) (t : List ℕ) (s : ℕ) (hs : s < g .records) where

@@ -17,7 +17,8 @@ use Rattle.model.specs.View.{View, predNum}
 use Rattle.model.specs.Effects.{unlinked}
 use Rattle.model.specs.Layout.{lengthCell, listCell, birthCell, viewOf}
 use Rattle.model.proofs.ListFacts.{keep-yes, keep-no, keep-append}
-use Rattle.model.proofs.Sorting.{sortedOnto, unlinked-sorted}
+use Rattle.model.specs.Sorted.{sortedOnto}
+use Rattle.model.proofs.Sorting.{unlinked-sorted}
 use Rattle.tables.specs.Ready.{Ready}
 use Rattle.tables.proofs.Fields
 use Rattle.tables.proofs.Ranges

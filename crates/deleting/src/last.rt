@@ -1,7 +1,6 @@
 // The deletion of a record that nothing follows. A block on its pages was born above its pred exactly where the pred has not the same block on
 // the same page: rows are compared, and no birth is read.
 ghost use mathlib.Core.Path.{_≡_};
-ghost use mathlib.Core.Bool.{true};
 ghost use Prim.Native.Nat.{ℕ, _+_, _<_, _≤_};
 ghost use lib.ListN.{length, getD};
 ghost use lib.Seq.{sets};
@@ -14,6 +13,8 @@ use tables::cells::BASE;
 use tables::cells::PAGES;
 use tables::cells::PREV;
 use tables::cells::ROW;
+use tables::differ::differ_word;
+use tables::differ::filled_word;
 use tables::find::wide;
 
 // The pred of the record in slot s.
@@ -29,70 +30,49 @@ fn pred_link(t: &[u32], g: Geometry, s: usize) -> usize
     prev
 }
 
-// Whether the eight numbers from a and those from b are the same.
-fn same_eight(t: &[u32], a: usize, b: usize) -> bool
-    requires { ⌜ (a + 8 ≤ length (now t)) × (b + 8 ≤ length (now t)) ⌝ }
-    ensures { λ r. ⌜ (r ≡ true → (y : ℕ) → y < 8 → getD (now (t .entry)) (a + y) 0 ≡ getD (now (t .entry)) (b + y) 0) ⌝ }
-{
-    (t[a] == t[b])
-        & (t[a + 1] == t[b + 1])
-        & (t[a + 2] == t[b + 2])
-        & (t[a + 3] == t[b + 3])
-        & (t[a + 4] == t[b + 4])
-        & (t[a + 5] == t[b + 5])
-        & (t[a + 6] == t[b + 6])
-        & (t[a + 7] == t[b + 7])
-}
-
-// A place up to which the n numbers from a and those from b are the same from x on: the last one by steps of eight.
-fn agree_far(t: &[u32], a: usize, b: usize, x: usize, n: usize) -> usize
-    requires { ⌜ (a + n ≤ length (now t)) × (b + n ≤ length (now t)) × (x ≤ n) ⌝ }
-    ensures range { λ r. ⌜ (x ≤ r) × (r ≤ n) ⌝ }
-    ensures agree { λ r. ⌜ ((y : ℕ) → x ≤ y → y < r → getD (now (t .entry)) (a + y) 0 ≡ getD (now (t .entry)) (b + y) 0) ⌝ }
-{
-    let mut y = x;
-    while y + 8 <= n {
-        if same_eight(t, a + y, b + y) {
-            y += 8;
-        } else {
-            return y;
-        }
-    }
-    y
-}
-
-// The first place from x on where they differ, or n.
+// The first place from x on where the n numbers from a and those from b differ, or n. It looks at 32 places at once; what stands behind the n
+// numbers does not matter.
 fn agree_to(t: &[u32], a: usize, b: usize, x: usize, n: usize) -> usize
-    requires { ⌜ (a + n ≤ length (now t)) × (b + n ≤ length (now t)) × (x ≤ n) ⌝ }
+    requires { ⌜ (a + n + 32 ≤ length (now t)) × (b + n + 32 ≤ length (now t)) × (x ≤ n) × (n ≤ 256) ⌝ }
     ensures range { λ r. ⌜ (x ≤ r) × (r ≤ n) ⌝ }
     ensures agree { λ r. ⌜ ((y : ℕ) → x ≤ y → y < r → getD (now (t .entry)) (a + y) 0 ≡ getD (now (t .entry)) (b + y) 0) ⌝ }
     ensures differ { λ r. ⌜ (r < n → getD (now (t .entry)) (a + r) 0 ≡ getD (now (t .entry)) (b + r) 0 → ⊥) ⌝ }
 {
     let mut y = x;
     while y < n {
-        if t[a + y] != t[b + y] {
-            return y;
+        let word = differ_word(t, a + y, b + y);
+        if word != 0 {
+            let z = y + (u32::trailing_zeros(word) as usize);
+            if z < n {
+                return z;
+            }
+            return n;
         }
-        y = agree_far(t, a, b, y + 1, n);
+        y += 32;
     }
-    y
+    n
 }
 
 // The first place from x on where the n numbers from a are not 0, or n.
 fn empty_to(t: &[u32], a: usize, x: usize, n: usize) -> usize
-    requires { ⌜ (a + n ≤ length (now t)) × (x ≤ n) ⌝ }
+    requires { ⌜ (a + n + 32 ≤ length (now t)) × (x ≤ n) × (n ≤ 256) ⌝ }
     ensures range { λ r. ⌜ (x ≤ r) × (r ≤ n) ⌝ }
     ensures empty { λ r. ⌜ ((y : ℕ) → x ≤ y → y < r → getD (now (t .entry)) (a + y) 0 ≡ 0) ⌝ }
     ensures full { λ r. ⌜ (r < n → getD (now (t .entry)) (a + r) 0 ≡ 0 → ⊥) ⌝ }
 {
     let mut y = x;
     while y < n {
-        if t[a + y] != 0 {
-            return y;
+        let word = filled_word(t, a + y);
+        if word != 0 {
+            let z = y + (u32::trailing_zeros(word) as usize);
+            if z < n {
+                return z;
+            }
+            return n;
         }
-        y += 1;
+        y += 32;
     }
-    y
+    n
 }
 
 // The first page from x on that differs from the same page of the record behind a link, or the page count.

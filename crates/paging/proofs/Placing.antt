@@ -30,11 +30,11 @@ use Rattle.tables.proofs.Reading.{reads-counter, reads-writes}
 use Rattle.tables.proofs.Matches.{place-is}
 use Rattle.paging.specs.Target.{Target}
 use Rattle.paging.specs.Kill.{emptied}
-use Rattle.paging.specs.Place.{Kept, Spot, placed, filled}
+use Rattle.paging.specs.Place.{Storable, Spot, placed, filled}
 use Rattle.paging.proofs.Killing
 
 -- tables that hold a state can be stored into
-kept : (g : Geometry) (t : List ℕ) (T : State) (u : List ℕ) → Roomy g t → Holds g t T u → Kept g u
+kept : (g : Geometry) (t : List ℕ) (T : State) (u : List ℕ) → Roomy g t → Holds g t T u → Storable g u
 unfolding stateOf
 kept g t T u roomy H = record {
   roomy = holds-roomy g t roomy H;
@@ -43,12 +43,12 @@ kept g t T u roomy H = record {
   short = λ s. omega (arith, H .shaped .view .short s, H .shaped .pages, ap (λ U. length (U .view .list s)) (holds-says g t roomy H));
 }
 
-kept-holds : {g : Geometry} {t : List ℕ} → Kept g t → Holds g t (stateOf g t) t
+kept-holds : {g : Geometry} {t : List ℕ} → Storable g t → Holds g t (stateOf g t) t
 kept-holds {g} {t} k = holds-from g t (k .roomy) (k .made) (k .free) (k .short)
 
 -- ── the block's page and birth ──
 
-module _ {g : Geometry} {t : List ℕ} (k : Kept g t) (s x b : ℕ) (hs : s < g .records) (live : 0 < viewOf g t .num s) (hx : x < g .pages) (hb : b < blocks g) where
+module _ {g : Geometry} {t : List ℕ} (k : Storable g t) (s x b : ℕ) (hs : s < g .records) (live : 0 < viewOf g t .num s) (hx : x < g .pages) (hb : b < blocks g) where
   abbrev T : State
   T = stateOf g t
 
@@ -87,7 +87,7 @@ module _ (g : Geometry) (U : State) (a o : ℕ) where
       shaped-writes g _ (shaped-counter g _ (shaped-mark g U S a (next (g .per) o) h) (f .counter)) (f .writes)
 
 -- r is the turn that follows, m the mark
-pub turn-put : {g : Geometry} {t : List ℕ} (k : Kept g t) (a o : ℕ) → a < g .arenas → (r w : Turn) (m : ℕ) → w .counter ≡ getD t 7 0 → w .writes ≡ getD t 8 0 →
+pub turn-put : {g : Geometry} {t : List ℕ} (k : Storable g t) (a o : ℕ) → a < g .arenas → (r w : Turn) (m : ℕ) → w .counter ≡ getD t 7 0 → w .writes ≡ getD t 8 0 →
     r ≡ turned (g .arenas) (g .turn) w → m ≡ next (g .per) o →
     set (set (set t (16 + a) m) 7 (r .counter)) 8 (r .writes) ≡ stored g (given g (stateOf g t) (At a o)) t
 unfolding stateOf
@@ -128,7 +128,7 @@ module _ {g : Geometry} {t : List ℕ} {s x a o : ℕ} (A : Target g t s x) (P :
 
   -- u: the page is empty
   module _ (u : List ℕ) (eu : u ≡ stored g (emptied g t s x) t) where
-    pub emptied-kept : Kept g u
+    pub emptied-kept : Storable g u
     emptied-kept = kept g t (emptied g t s x) u (A .ready .roomy) (Killing.emptied-holds A u eu)
 
     pub emptied-live : 0 < viewOf g u .num s
@@ -150,7 +150,7 @@ module _ {g : Geometry} {t : List ℕ} {s x a o : ℕ} (A : Target g t s x) (P :
           step-to g t (A .ready .roomy) (Killing.emptied-holds A u eu) (λ U. placed U s x b) v ev written-shaped
           (λ r h. tail-longer g t (emptied g t s x) W r (omega arith))
 
-      pub block-kept : Kept g v
+      pub block-kept : Storable g v
       block-kept = kept g t W v (A .ready .roomy) block-holds
 
       pub block-counter : getD v 7 0 < g .arenas

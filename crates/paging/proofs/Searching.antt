@@ -12,7 +12,7 @@ use Rattle.geometry.specs.Limits.{blocks}
 use Rattle.choice.specs.declared.Found.{Found}
 use Rattle.choice.specs.declared.Found.the-variants.{At}
 use Rattle.choice.specs.Search.{orElse, firstFree, inArena, inArenas, chosen}
-use Rattle.choice.specs.Words.{freeIn, markIn, wordOf, Fine}
+use Rattle.choice.specs.Words.{freeIn, markIn, wordOf, Searchable}
 use Rattle.choice.proofs.Ranges.{block-inside}
 use Rattle.choice.proofs.Births.{says}
 use Rattle.model.specs.Held.{available}
@@ -75,7 +75,7 @@ module _ {g : Geometry} {t : List ℕ} (R : Ready g t) where
       says (available (stateOf g t .view)) words (min 32 (blocks g - 32 * (b / 32))) b
       (word-at (b / 32) (omega (arith, R .roomy .inside .blocks-most))) (omega arith)
 
-  pub search-fine : (c k : ℕ) → c ≡ getD t 7 0 → k ≤ 2 → Fine (take 64 (drop 64 t)) (take 16 (drop 16 t)) (g .arenas) (g .per) c k
+  pub search-fine : (c k : ℕ) → c ≡ getD t 7 0 → k ≤ 2 → Searchable (take 64 (drop 64 t)) (take 16 (drop 16 t)) (g .arenas) (g .per) c k
   unfolding stateOf
   search-fine c k e h = record {
     arenas-least = R .roomy .inside .arenas-least;

@@ -14,7 +14,7 @@ use Rattle.model.specs.Layout.{viewOf, stateOf}
 use Rattle.tables.specs.Ready.{Roomy, FreeWords}
 
 -- tables with room, made for g, that say which blocks are free and no deadlist longer than there are pages: what single stores ask
-pub record Kept (g : Geometry) (t : List ℕ) : Type 0 where
+pub record Storable (g : Geometry) (t : List ℕ) : Type 0 where
   pub roomy : Roomy g t
   pub made : MadeFor g t
   pub free : FreeWords g t

@@ -8,7 +8,7 @@ ghost use Rattle.model.specs.Calls.{found, given};
 ghost use Rattle.model.specs.Layout.{viewOf, stateOf, stored};
 ghost use Rattle.tables.specs.Ready.{Ready};
 ghost use Rattle.paging.specs.Target.{Target, freesOf};
-ghost use Rattle.paging.specs.Place.{Kept, Spot, placed, filled};
+ghost use Rattle.paging.specs.Place.{Storable, Spot, placed, filled};
 use crate::kill::kill_on;
 use choice::Found;
 use choice::Turn;
@@ -43,7 +43,7 @@ pub fn search(t: &[u32], g: Geometry, kind: u32) -> Found
 
 // Block b, born in the record in slot s, goes on its empty page x.
 fn put_block(t: &mut [u32], g: Geometry, s: usize, x: usize, b: usize)
-    requires { ⌜ Kept g (now t) × (s < g .records) × (0 < viewOf g (now t) .num s) × (x < g .pages) × (b < blocks g) ⌝ }
+    requires { ⌜ Storable g (now t) × (s < g .records) × (0 < viewOf g (now t) .num s) × (x < g .pages) × (b < blocks g) ⌝ }
     ensures { λ _. ⌜ now (t .exit) ≡ stored g (placed (stateOf g (now (t .entry))) s x b) (now (t .entry)) ⌝ }
 {
     let number = t[NUMBER + s];
@@ -53,7 +53,7 @@ fn put_block(t: &mut [u32], g: Geometry, s: usize, x: usize, b: usize)
 
 // The mark of arena a moves behind offset o, and a turn may end.
 fn turn_on(t: &mut [u32], g: Geometry, a: usize, o: usize)
-    requires { ⌜ Kept g (now t) × (a < g .arenas) × (o < g .per) × (getD (now t) 7 0 < g .arenas) × (getD (now t) 8 0 < g .turn) ⌝ }
+    requires { ⌜ Storable g (now t) × (a < g .arenas) × (o < g .per) × (getD (now t) 7 0 < g .arenas) × (getD (now t) 8 0 < g .turn) ⌝ }
     ensures { λ _. ⌜ now (t .exit) ≡ stored g (given g (stateOf g (now (t .entry))) (At a o)) (now (t .entry)) ⌝ }
 {
     let turned = turned_by(

@@ -13,7 +13,8 @@ use Rattle.geometry.specs.declared.Geometry.{Geometry}
 use Rattle.model.specs.Table.{put}
 use Rattle.model.specs.Check.{takes?}
 use Rattle.model.specs.Layout.{lengthCell, listCell, numbers, viewOf}
-use Rattle.model.proofs.Marking.{stamps, takes-alike, stamps-off}
+use Rattle.model.specs.Stamps.{stamps}
+use Rattle.model.proofs.Marking.{takes-alike, stamps-off}
 use Rattle.tables.proofs.Fields.{list-is, list-length}
 use Rattle.soundness.specs.Pages.{seen}
 use Rattle.soundness.proofs.PagesMarks.{seen-set, and-no}

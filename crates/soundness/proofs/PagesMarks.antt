@@ -16,7 +16,7 @@ use Rattle.model.specs.Lists.{onPage}
 use Rattle.model.specs.View.{View, predNum, baseNum}
 use Rattle.model.specs.Check.{marksOf, once?, fits?}
 use Rattle.model.specs.Layout.{birthCell, viewOf}
-use Rattle.model.proofs.Marking.{stamped}
+use Rattle.model.specs.Stamps.{stamped}
 use Rattle.tables.proofs.Fields.{birth-is, birth-out}
 use Rattle.soundness.specs.Pages.{seen, younger}
 

@@ -16,7 +16,8 @@ use Rattle.model.specs.View.{View}
 use Rattle.model.specs.Check.{marksOf, once?, takes?, page?, ownAt, owns, allOwn, gone, list?, empty?}
 use Rattle.model.specs.Layout.{numCell, lengthCell, viewOf}
 use Rattle.model.proofs.TabFacts.{put-at, put-other}
-use Rattle.model.proofs.Marking.{stamped, stamps, takes-alike, stamps-fresh, marks-rows}
+use Rattle.model.specs.Stamps.{stamped, stamps}
+use Rattle.model.proofs.Marking.{takes-alike, stamps-fresh, marks-rows}
 use Rattle.tables.proofs.Fields.{num-is, list-length}
 use Rattle.soundness.specs.declared.pages.Walk.{Walk}
 use Rattle.soundness.specs.declared.pages.Walk.the-variants.{Fits, Fails}

@@ -16,7 +16,7 @@ use Rattle.model.specs.Lists.{onPage}
 use Rattle.model.specs.View.{View, parent, pageOf}
 use Rattle.model.specs.Check.{marksOf, once?, like?, fits?}
 use Rattle.model.specs.Layout.{pageCell, viewOf}
-use Rattle.model.proofs.Marking.{stamped}
+use Rattle.model.specs.Stamps.{stamped}
 use Rattle.tables.proofs.Fields.{page-is}
 use Rattle.soundness.specs.declared.pages.Kin.{Kin}
 use Rattle.soundness.specs.declared.pages.Walk.{Walk}

@@ -11,7 +11,8 @@ use Rattle.model.specs.Table.{all, via, firstLink, put}
 use Rattle.model.specs.Lists.{rows, onPage}
 use Rattle.model.specs.View.{View, parent, pageOf}
 use Rattle.model.specs.Check.{marksOf, once?, like?, fits?, page?, ownAt, goneAt}
-use Rattle.model.proofs.Marking.{stamped, marks-append, once-snoc, gone-like}
+use Rattle.model.specs.Stamps.{stamped}
+use Rattle.model.proofs.Marking.{marks-append, once-snoc, gone-like}
 use Rattle.soundness.specs.Pages.{seen, younger, leftAt, walk, Rest, restFrom, restOf}
 
 -- a test that fails early fails

@@ -9,19 +9,12 @@ use Rattle.model.specs.Table.{all}
 use Rattle.model.specs.Lists.{rows}
 use Rattle.model.specs.View.{View, parent, predNum, baseNum, pageOf}
 use Rattle.model.specs.Check.{marksOf, once?, page?, ownAt, goneAt, list?, empty?}
-use Rattle.model.proofs.Marking.{stamped}
+use Rattle.model.specs.Stamps.{stamped}
 use Rattle.soundness.specs.declared.pages.Kin.{Kin}
 use Rattle.soundness.specs.declared.pages.Walk.{Walk}
 use Rattle.soundness.specs.declared.pages.Walk.the-variants.{Fits, Fails}
 
 -- ── what differs ──
-
--- place k of the rows from a and from b on differs; place k of the row from a on is not 0
-unfoldable pub apart : List ℕ → ℕ → ℕ → ℕ → Bool
-apart t a b k = not (eqb (getD t (a + k) 0) (getD t (b + k) 0))
-
-unfoldable pub filled : List ℕ → ℕ → ℕ → Bool
-filled t a k = not (eqb (getD t (a + k) 0) 0)
 
 -- page x of s is not as that of the record behind a link
 unfoldable pub differs : View → ℕ → ℕ → ℕ → Bool

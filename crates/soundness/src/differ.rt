@@ -6,26 +6,12 @@ ghost use lib.ListN.{length};
 ghost use Rattle.choice.specs.Words.{wordOf};
 ghost use Rattle.model.specs.Layout.{viewOf};
 ghost use Rattle.tables.specs.Ready.{Roomy};
-ghost use Rattle.soundness.specs.Pages.{apart, filled, differs};
+ghost use Rattle.tables.specs.Rows.{apart, filled};
+ghost use Rattle.soundness.specs.Pages.{differs};
 use geometry::Geometry;
 use tables::cells::PAGES;
 use tables::cells::ROW;
-
-// 32 places, from a and from b on. The bound is a constant: the loop is compiled to wide steps.
-fn differ_word(t: &[u32], a: usize, b: usize) -> u32
-    requires { ⌜ (a + 32 ≤ length (now t)) × (b + 32 ≤ length (now t)) ⌝ }
-    ensures { λ r. ⌜ r ≡ wordOf (apart (now (t .entry)) a b) 0 32 ⌝ }
-{
-    let mut word: u32 = 0;
-    let mut k: usize = 0;
-    while k < 32 {
-        if t[a + k] != t[b + k] {
-            word = word | (1u32 << (k as u32));
-        }
-        k += 1;
-    }
-    word
-}
+use tables::differ::differ_word;
 
 // n places: for the last pages of a row.
 fn differ_few(t: &[u32], a: usize, b: usize, n: usize) -> u32

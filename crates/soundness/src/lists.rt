@@ -6,7 +6,7 @@ ghost use lib.Dec.{eqb};
 ghost use lib.ListN.{length};
 ghost use Rattle.model.specs.Check.{takes?};
 ghost use Rattle.model.specs.Layout.{viewOf};
-ghost use Rattle.model.proofs.Marking.{stamps};
+ghost use Rattle.model.specs.Stamps.{stamps};
 ghost use Rattle.tables.specs.Ready.{Roomy};
 ghost use Rattle.soundness.specs.Pages.{seen};
 use geometry::Geometry;

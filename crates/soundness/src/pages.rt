@@ -9,7 +9,7 @@ ghost use Rattle.model.specs.Lists.{onPage};
 ghost use Rattle.model.specs.View.{baseNum, pageOf};
 ghost use Rattle.model.specs.Check.{marksOf, once?, page?, like?, fits?, list?, empty?, allOwn, owns};
 ghost use Rattle.model.specs.Layout.{viewOf};
-ghost use Rattle.model.proofs.Marking.{stamped};
+ghost use Rattle.model.specs.Stamps.{stamped};
 ghost use Rattle.tables.specs.Ready.{Roomy};
 ghost use Rattle.soundness.specs.Pages.{reached, kinOf, younger, seen, Walked, slotFits};
 use crate::differ::differing;

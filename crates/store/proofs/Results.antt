@@ -1,124 +1,18 @@
--- How many numbers an accepted call gives: at most two for each block, so a result buffer that is long enough tells their number.
-use mathlib.Core.Path.{_≡_, refl, sym, ap, _∙_, subst}
-use mathlib.Core.Bool.{Bool, true, false, cond}
-use mathlib.Core.List.{List, [], _∷_, _++_}
-use Prim.Native.Nat.{ℕ, zero, suc, _+_, _*_, _%_, _≤_, _<_}
+-- The number that an answer names, where the result buffer is long enough.
+use mathlib.Core.Path.{_≡_, refl, sym, ap, _∙_}
+use mathlib.Core.List.{List}
+use Prim.Native.Nat.{ℕ, _≤_, _<_}
 use native.Mathlib.Omega.{arith}
-use lib.Dec.{eqb, ltb}
-use lib.ListN.{length, take, length-take}
+use lib.ListN.{length, take}
 use lib.Seq.{take-all, length-take-le}
 use Rattle.answer.specs.declared.Answer.the-variants.{Done}
-use Rattle.answer.specs.Reply.{accepted, replyOf}
-use Rattle.answer.specs.Refusal.{NoneHolds}
+use Rattle.answer.specs.Reply.{replyOf}
 use Rattle.answer.proofs.Cases.{cases, lt?}
-use Rattle.answer.proofs.Decided.{accepted-same}
 use Rattle.geometry.specs.declared.Geometry.{Geometry}
-use Rattle.geometry.specs.Limits.{Inside, blocks}
-use Rattle.log.specs.Runs.{Run, ending, runsFrom, runs}
-use Rattle.model.specs.Lists.{onPage}
-use Rattle.model.specs.View.{View, predNum, baseNum}
-use Rattle.model.specs.Effects.{Fate, freed, marked, kept, fate}
-use Rattle.model.specs.Held.{heldCount, available, freedOne, erased, frees}
-use Rattle.model.specs.State.{State}
-use Rattle.model.specs.Calls.{slot, pairs, freeList, writing, erasing, deleting, conditions, result}
-use Rattle.model.specs.Layout.{stateOf}
 use Rattle.model.specs.Memory.{Memory, reply}
 use Rattle.model.specs.declared.Call.{Call}
-use Rattle.model.specs.declared.Call.the-variants.{Begin, Write, Erase, Seal, Fork, Delete, Read, Barrier, Compress, FreeList}
-use Rattle.model.proofs.Tally.{tally-le}
-use Rattle.model.proofs.HeldFacts.{held-done}
-use Rattle.model.proofs.Fine.{Fine, asks-D}
-use Rattle.model.proofs.Keeps.{accepted-is, sound-fine}
-
--- ── at most one ──
-
-freed-one : (b : ℕ) (f : Fate) → length (freedOne b f) ≤ 1
-unfolding freedOne
-freed-one b freed = omega arith
-freed-one b marked = omega arith
-freed-one b kept = omega arith
-
-erased-one : (K : View) (r l : ℕ) → length (erased K r l) ≤ 1
-unfolding erased
-erased-one K r zero = omega arith
-erased-one K r (suc b) = freed-one b (fate (K .birth b) (predNum K r) (baseNum K r))
-
-page-one : (l : ℕ) → length (onPage l) ≤ 1
-unfolding onPage
-page-one zero = omega arith
-page-one (suc b) = omega arith
-
--- ── at most as many as there are blocks ──
-
-held-le : (K : View) → heldCount K ≤ K .blocks
-unfolding heldCount
-held-le K = tally-le (λ b. ltb 0 (K .birth b)) (K .blocks)
-
--- ── two for each run ──
-
-pairs-append : (l m : List Run) → length (pairs (l ++ m)) ≡ length (pairs l) + length (pairs m)
-unfolding pairs
-pairs-append [] m = omega arith
-pairs-append (r ∷ l) m = omega (arith, pairs-append l m)
-
-ending-le : (b r : ℕ) → length (pairs (ending b r)) ≤ 2 * r
-unfolding ending pairs
-ending-le b zero = omega arith
-ending-le b (suc r) = omega arith
-
-runs-le : (per : ℕ) (t : ℕ → Bool) (b r n : ℕ) → length (pairs (runsFrom per t b r n)) ≤ 2 * (r + n)
-unfolding runsFrom
-runs-le per t b r zero = omega (arith, ending-le b r)
-runs-le per t b r (suc n) = go (t b) (eqb (b % per) 0) (runs-le per t (suc b) 0 n) (runs-le per t (suc b) 1 n) (runs-le per t (suc b) (suc r) n)
-  where
-    next : ℕ → List Run
-    next k = runsFrom per t (suc b) k n
-
-    go : (p q : Bool) → length (pairs (next 0)) ≤ 2 * (0 + n) → length (pairs (next 1)) ≤ 2 * (1 + n) → length (pairs (next (suc r))) ≤ 2 * (suc r + n) →
-        length (pairs (cond p (cond q (ending b r ++ next 1) (next (suc r))) (ending b r ++ next 0))) ≤ 2 * (r + suc n)
-    go true true h k m = omega (arith, pairs-append (ending b r) (next 1), ending-le b r)
-    go true false h k m = omega arith
-    go false q h k m = omega (arith, pairs-append (ending b r) (next 0), ending-le b r)
-
--- ── every call ──
-
--- there is a block
-one-block : (a p : ℕ) → 1 ≤ a → 1 ≤ p → 1 ≤ a * p
-one-block zero p h k = omega arith
-one-block (suc a) p h k = omega arith
-
-module _ (g : Geometry) (inside : Inside g) (T : State) (R : Fine g T) where
-  deleted-le : (r : ℕ) → NoneHolds (conditions g T (Delete r)) → length (frees (T .view) (deleting T r)) ≤ blocks g
-  deleted-le r n =
-      omega (arith, held-done (T .view) (deleting T r) (R .sound) (asks-D g inside T R r (n .0) (n .1 .0)), held-le (T .view), R .blocks)
-
-  listed-le : length (freeList g T) ≤ 2 * blocks g
-  unfolding freeList runs
-  listed-le = omega (arith, runs-le (g .per) (available (T .view)) 0 0 (blocks g))
-
-  some : 1 ≤ blocks g
-  some = one-block (g .arenas) (g .per) (inside .arenas-least) (inside .per-least)
-
-  pub result-le : (c : Call) → NoneHolds (conditions g T c) → length (result g T c) ≤ 2 * blocks g
-  result-le Begin n = omega (arith, some)
-  result-le (Write r x k) n = omega (arith, erased-one (T .view) (slot T r) (T .view .page (slot T r) x), some)
-  result-le (Erase r x) n = omega (arith, erased-one (T .view) (slot T r) (T .view .page (slot T r) x), some)
-  result-le (Seal r) n = omega (arith, some)
-  result-le (Fork r) n = omega (arith, some)
-  result-le (Delete r) n = omega (arith, deleted-le r n)
-  result-le (Read r x) n = omega (arith, page-one (T .view .page (slot T r) x), some)
-  result-le Barrier n = omega arith
-  result-le Compress n = omega (arith, some)
-  result-le FreeList n = omega (arith, listed-le)
-
-pub accepted-le : (g : Geometry) (M : Memory) (c : Call) (l : List ℕ) → reply g M c ≡ accepted l → length l ≤ 2 * blocks g
-accepted-le g M c l e =
-    let (A, r) = accepted-is g M c l e in
-    omega (arith, ap length r, result-le g (A .inside) (stateOf g (M .tables)) (sound-fine g (M .tables) (M .log) (A .sound)) c (A .none))
-
--- the result buffer of an accepted call is longer than the result
-pub accepted-short : (g : Geometry) (M : Memory) (c : Call) (l : List ℕ) → reply g M c ≡ accepted l → length l < length (M .out)
-accepted-short g M c l e = omega (arith, accepted-le g M c l e, accepted-is g M c l e .0 .long .out)
+use Rattle.model.proofs.Keeps.{accepted-is}
+use Rattle.model.proofs.ResultSize.{accepted-le}
 
 -- the number of a result that is shorter than the buffer
 pub number-of : (n : ℕ) (out l : List ℕ) → take n out ≡ l → length l < length out → n ≡ length l

@@ -2,57 +2,80 @@
 use native.Mathlib.Omega.{arith}
 use mathlib.Core.Path.{_≡_}
 use Prim.Native.Nat.{ℕ, _+_, _-_, _≤_, _<_}
+use lib.Count.{trailingZeros}
 use lib.ListN.{getD}
+use Rattle.tables.proofs.Rows
 use Rattle.deleting.proofs.Owning
 use Rattle.deleting.proofs.last.agree_to.Statement.{statement}
 use Rattle.deleting.proofs.last.agree_to.Tie as tie
 
 abbrev Inv-loop : tie.InvT-loop
-Inv-loop t a b x n y₀ y = (x ≤ y) × (y ≤ n) × ((z : ℕ) → x ≤ z → z < y → getD t (a + z) 0 ≡ getD t (b + z) 0)
+Inv-loop t a b x n y₀ y = (x ≤ y) × (y < n + 32) × ((z : ℕ) → x ≤ z → z < y → getD t (a + z) 0 ≡ getD t (b + z) 0)
 
 abbrev μ-loop : tie.MeasureT-loop
 μ-loop t a b x n y₀ y = n - y
 
 loop-holds : tie.Need-loop-holds Inv-loop μ-loop
-loop-holds c = (omega arith, omega arith, Owning.agree-none _ _ _)
+loop-holds c = let s = c .before .args in (omega arith, omega arith, Owning.agree-none (s .t .now) (s .a) (s .b) _)
 
-add-if1 : tie.Need-add-if1 Inv-loop μ-loop
-add-if1 c = omega arith
+add-differ-word : tie.Need-add-differ-word Inv-loop μ-loop
+add-differ-word c = omega arith
 
-mul-if1 : tie.Need-mul-if1 Inv-loop μ-loop
-mul-if1 c = omega arith
+add-differ-word-2 : tie.Need-add-differ-word-2 Inv-loop μ-loop
+add-differ-word-2 c = omega arith
 
-shared-slice-read-if1 : tie.Need-shared-slice-read-if1 Inv-loop μ-loop
-shared-slice-read-if1 c = omega arith
+differ-word-requires : tie.Need-differ-word-requires Inv-loop μ-loop
+differ-word-requires c κs = (omega arith, omega arith)
 
-add-if1-2 : tie.Need-add-if1-2 Inv-loop μ-loop
-add-if1-2 c = omega arith
+cast-z : tie.Need-cast-z Inv-loop μ-loop
+cast-z c =
+    let w = c .before in
+    let d = w .before .before in
+    let s = d .before .before .args in
+    omega (arith, Rows.alike-first (s .t .now) (s .a + d .loop .y) (s .b + d .loop .y) _ (w .differ-word .ensures) (c .if1 .taken) .0)
 
-mul-if1-2 : tie.Need-mul-if1-2 Inv-loop μ-loop
-mul-if1-2 c = omega arith
-
-shared-slice-read-if1-2 : tie.Need-shared-slice-read-if1-2 Inv-loop μ-loop
-shared-slice-read-if1-2 c = omega arith
+add-z : tie.Need-add-z Inv-loop μ-loop
+add-z c =
+    let w = c .before in
+    let d = w .before .before in
+    let s = d .before .before .args in
+    omega (arith, Rows.alike-first (s .t .now) (s .a + d .loop .y) (s .b + d .loop .y) _ (w .differ-word .ensures) (c .if1 .taken) .0)
 
 returns : tie.Need-returns Inv-loop μ-loop
-returns c = let i = c .before .before .before .before .loop .inv in ((i .0, i .1), (i .2, λ h e. c .if1 .taken e))
+returns c =
+    let w = c .before .before in
+    let d = w .before .before in
+    let s = d .before .before .args in
+    let f = Rows.alike-first (s .t .now) (s .a + d .loop .y) (s .b + d .loop .y) _ (w .differ-word .ensures) (c .before .if1 .taken) in
+    let m = Owning.agree-more (s .t .now) (s .a) (s .b) _ (d .loop .inv .2) (f .2) in
+    ((omega arith, omega arith), (m, λ h e. Owning.differ-at (s .t .now) (s .a) (s .b) (d .loop .y) _ (f .1) e))
 
-add-agree-far : tie.Need-add-agree-far Inv-loop μ-loop
-add-agree-far c = omega arith
+returns-2 : tie.Need-returns-2 Inv-loop μ-loop
+returns-2 c =
+    let w = c .before .before in
+    let d = w .before .before in
+    let s = d .before .before .args in
+    let f = Rows.alike-first (s .t .now) (s .a + d .loop .y) (s .b + d .loop .y) _ (w .differ-word .ensures) (c .before .if1 .taken) in
+    let m = Owning.agree-more (s .t .now) (s .a) (s .b) _ (d .loop .inv .2) (f .2) in
+    ((omega arith, omega arith), (λ z l u. m z l (omega arith), λ h e. let q : ⊥ = omega arith in q))
 
-agree-far-requires : tie.Need-agree-far-requires Inv-loop μ-loop
-agree-far-requires c κs = (omega arith, omega arith, omega arith)
+add-y : tie.Need-add-y Inv-loop μ-loop
+add-y c = omega arith
 
 loop-less : tie.Need-loop-less Inv-loop μ-loop
-loop-less c = omega (arith, c .agree-far .ensures .0)
+loop-less c = omega arith
 
 loop-again : tie.Need-loop-again Inv-loop μ-loop
 loop-again c =
-    let far = c .agree-far .ensures in
-    (omega (arith, far .0), far .0 .1, Owning.agree-on _ _ (c .before .before .before .before .before .loop .inv .2) (c .before .if1 .left) (far .1))
+    let w = c .before in
+    let d = w .before .before in
+    let s = d .before .before .args in
+    (omega arith, omega arith, Owning.agree-more (s .t .now) (s .a) (s .b) 32 (d .loop .inv .2) (Rows.alike-all (s .t .now) (s .a + d .loop .y) (s .b + d .loop .y) _ (w .differ-word .ensures) (c .if1 .left)))
 
-returns-2 : tie.Need-returns-2 Inv-loop μ-loop
-returns-2 c = let i = c .before .loop .inv in ((i .0, i .1), (i .2, λ h e. let z : ⊥ = omega arith in z))
+returns-3 : tie.Need-returns-3 Inv-loop μ-loop
+returns-3 c =
+    let i = c .before .loop .inv in
+    ((omega arith, omega arith), (λ z l u. i .2 z l (omega arith), λ h e. let q : ⊥ = omega arith in q))
 
 pub agree-to-spec : {M : Type 1} → statement M
 agree-to-spec =
@@ -61,15 +84,14 @@ agree-to-spec =
     Inv-loop
     μ-loop
     loop-holds
-    add-if1
-    mul-if1
-    shared-slice-read-if1
-    add-if1-2
-    mul-if1-2
-    shared-slice-read-if1-2
+    add-differ-word
+    add-differ-word-2
+    differ-word-requires
+    cast-z
+    add-z
     returns
-    add-agree-far
-    agree-far-requires
+    returns-2
+    add-y
     loop-less
     loop-again
-    returns-2)
+    returns-3)

@@ -11,7 +11,7 @@ add-empty-to : tie.Need-add-empty-to
 add-empty-to c = omega arith
 
 empty-to-requires : tie.Need-empty-to-requires
-empty-to-requires c κs = (omega arith, omega arith)
+empty-to-requires c κs = (omega arith, omega arith, omega arith)
 
 returns : tie.Need-returns
 returns c =
@@ -41,7 +41,7 @@ add-agree-to-2 : tie.Need-add-agree-to-2
 add-agree-to-2 c = omega arith
 
 agree-to-requires : tie.Need-agree-to-requires
-agree-to-requires c κs = (omega arith, omega arith, omega arith)
+agree-to-requires c κs = (omega arith, omega arith, omega arith, omega arith)
 
 returns-2 : tie.Need-returns-2
 returns-2 c =

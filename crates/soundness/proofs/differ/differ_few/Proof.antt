@@ -4,8 +4,8 @@ use Prim.Native.Nat.{_-_, _≤_}
 use native.Mathlib.Omega.{arith}
 use Rattle.answer.proofs.Cases.{cases}
 use Rattle.choice.specs.Words.{wordOf}
-use Rattle.soundness.specs.Pages.{apart}
-use Rattle.soundness.proofs.PagesWord.{apart-yes, apart-no}
+use Rattle.tables.specs.Rows.{apart}
+use Rattle.tables.proofs.Rows.{apart-yes, apart-no}
 use Rattle.soundness.proofs.differ.differ_few.Statement.{statement}
 use Rattle.soundness.proofs.differ.differ_few.Tie as tie
 

@@ -5,7 +5,7 @@ use mathlib.Core.Path.{sym, ap, _∙_}
 use Prim.Native.Nat.{_-_}
 use Rattle.choice.specs.Words.{wordOf}
 use Rattle.model.specs.Layout.{pageCell}
-use Rattle.soundness.specs.Pages.{apart}
+use Rattle.tables.specs.Rows.{apart}
 use Rattle.soundness.proofs.PagesWord.{word-apart, word-filled}
 use Rattle.soundness.proofs.differ.differing.Statement.{statement}
 use Rattle.soundness.proofs.differ.differing.Tie as tie

@@ -4,8 +4,8 @@ use Prim.Native.Nat.{_-_, _≤_}
 use native.Mathlib.Omega.{arith}
 use Rattle.answer.proofs.Cases.{cases}
 use Rattle.choice.specs.Words.{wordOf}
-use Rattle.soundness.specs.Pages.{filled}
-use Rattle.soundness.proofs.PagesWord.{filled-yes, filled-no}
+use Rattle.tables.specs.Rows.{filled}
+use Rattle.tables.proofs.Rows.{filled-yes, filled-no}
 use Rattle.soundness.proofs.differ.filled_few.Statement.{statement}
 use Rattle.soundness.proofs.differ.filled_few.Tie as tie
 

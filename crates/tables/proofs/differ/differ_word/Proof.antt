@@ -4,10 +4,10 @@ use Prim.Native.Nat.{_-_, _≤_}
 use native.Mathlib.Omega.{arith}
 use Rattle.answer.proofs.Cases.{cases}
 use Rattle.choice.specs.Words.{wordOf}
-use Rattle.soundness.specs.Pages.{apart}
-use Rattle.soundness.proofs.PagesWord.{apart-yes, apart-no}
-use Rattle.soundness.proofs.differ.differ_word.Statement.{statement}
-use Rattle.soundness.proofs.differ.differ_word.Tie as tie
+use Rattle.tables.specs.Rows.{apart}
+use Rattle.tables.proofs.Rows.{apart-yes, apart-no}
+use Rattle.tables.proofs.differ.differ_word.Statement.{statement}
+use Rattle.tables.proofs.differ.differ_word.Tie as tie
 
 abbrev Inv-loop : tie.InvT-loop
 Inv-loop t a b word₀ k₀ word k = (k ≤ 32) × (word ≡ wordOf (apart t a b) 0 k)
