@@ -1,6 +1,7 @@
--- Document 01's lines and replies, as bytes; and lines that are no call.
+-- Lines and replies of the listing (section 11 of the rules), as bytes; and lines that are no call.
 use mathlib.Core.Path.{_≡_, refl}
 use mathlib.Core.List.{[], _∷_}
+use mathlib.Core.Option.{none, some}
 use Rattle.answer.specs.Reply.{accepted, refused}
 use Rattle.model.specs.declared.Call.the-variants.{Write, Delete, FreeList}
 use Rattle.script.specs.declared.parse.Parsed.{Parsed}
@@ -9,7 +10,7 @@ use Rattle.script.specs.Decimal.{digits, decimal, spaced}
 use Rattle.script.specs.Parse.{parsed, opens, callLine, numbersFrom, numberFrom, firstDigit, digitsFrom, countOf, callOf}
 use Rattle.script.specs.Lines.{run, linesOf}
 use Rattle.script.specs.Said.{saidAt}
-use Rattle.script.specs.ReplyText.{replyText}
+use Rattle.script.specs.ReplyText.{replyText, replyRead, numbersRead, insideRead}
 
 -- `store 1 4 2 4 8 10`
 store-line : parsed (115 ∷ 116 ∷ 111 ∷ 114 ∷ 101 ∷ 32 ∷ 49 ∷ 32 ∷ 52 ∷ 32 ∷ 50 ∷ 32 ∷ 52 ∷ 32 ∷ 56 ∷ 32 ∷ 49 ∷ 48 ∷ [])
@@ -62,6 +63,23 @@ two-given = refl
 ten-refused : replyText (refused 10) ≡ 45 ∷ 32 ∷ 49 ∷ 48 ∷ 10 ∷ []
 unfolding replyText spaced decimal digits
 ten-refused = refl
+
+-- `+ 2 1` reads back; two spaces, a leading zero or no line feed are no reply
+two-read : replyRead (43 ∷ 32 ∷ 50 ∷ 32 ∷ 49 ∷ 10 ∷ []) ≡ some (accepted (2 ∷ 1 ∷ []))
+unfolding replyRead numbersRead insideRead
+two-read = refl
+
+two-spaces : replyRead (43 ∷ 32 ∷ 32 ∷ 49 ∷ 10 ∷ []) ≡ none
+unfolding replyRead numbersRead insideRead
+two-spaces = refl
+
+zero-first : replyRead (43 ∷ 32 ∷ 48 ∷ 49 ∷ 10 ∷ []) ≡ none
+unfolding replyRead numbersRead insideRead
+zero-first = refl
+
+no-feed : replyRead (43 ∷ 32 ∷ 49 ∷ []) ≡ none
+unfolding replyRead numbersRead insideRead
+no-feed = refl
 
 -- `B`, an empty line, `L` with no line feed behind it; and nothing behind the last line feed
 three-lines : linesOf (66 ∷ 10 ∷ 10 ∷ 76 ∷ []) ≡ (66 ∷ []) ∷ [] ∷ (76 ∷ []) ∷ []

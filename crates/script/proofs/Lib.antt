@@ -9,4 +9,5 @@ pub mod Spelling
 pub mod Saying
 pub mod LinesFacts
 pub mod OnePass
+pub mod Replies
 pub mod Examples

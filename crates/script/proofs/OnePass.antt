@@ -1,28 +1,27 @@
 -- A line that is read in one pass: a letter and small numbers up to a line feed or the text's end are the whole line, and say their call.
 use Prim.Native.Nat.{ℕ, suc, _+_, _-_, _*_, _<_, _≤_}
 use mathlib.Core.Path.{_≡_, refl, sym, ap, ap₂, _∙_}
-use mathlib.Core.Bool.{Bool, true}
 use mathlib.Core.List.{List, [], _∷_, _++_, append-assoc}
 use native.Mathlib.Nat.{add-zero}
 use native.Mathlib.Numerals.{add-one}
 use native.Mathlib.Omega.{arith}
-use borrow.Author.Tests.{ne-eqb, eqb-true, eqb-false, lt-ltb, le-ltb}
+use borrow.Author.Tests.{ne-eqb, lt-ltb, le-ltb}
 use lib.ListN.{length, getD, take, drop, length-append, length-drop}
 use lib.Seq.{slice, drop-cons, take-at, slice-empty}
-use lib.Dec.{eqb}
-use Rattle.answer.proofs.Cases.{cases, either, lt?}
+use Rattle.answer.proofs.Cases.{cases, lt?}
 use Rattle.model.specs.declared.Call.{Call}
 use Rattle.script.specs.declared.number.Number.{Number}
 use Rattle.script.specs.declared.parse.Parsed.{Parsed}
 use Rattle.script.specs.declared.parse.Parsed.the-variants.{Asks}
 use Rattle.script.specs.declared.reader.Line.the-variants.{Part, Done}
 use Rattle.script.specs.declared.said.Said.{Said}
+use Rattle.script.specs.declared.said.Near.{Near}
 use Rattle.script.specs.Decimal.{decimal, spaced}
 use Rattle.script.specs.Lines.{run, lineAt, NoFeed}
 use Rattle.script.specs.Parse.{numberFrom, opens, countOf, callOf, callLine, parsed}
 use Rattle.script.specs.Grammar.{numbers, spelled, AllSmall}
-use Rattle.script.specs.Said.{saidAt}
-use Rattle.script.proofs.Runs.{run-here, run-more, run-end}
+use Rattle.script.specs.Said.{saidAt, Agrees, Tells}
+use Rattle.script.proofs.Runs.{run-here, run-end}
 use Rattle.script.proofs.Decimals.{length-decimal}
 use Rattle.script.proofs.Spelling.{AllDigits, digit-range, decimal-means, number-spelt}
 use Rattle.script.proofs.Saying.{rest-is, said, made-of}
@@ -44,7 +43,7 @@ no-feed-digits : (l : List ℕ) → AllDigits l → NoFeed l
 no-feed-digits [] h = tt
 no-feed-digits (b ∷ l) h = let g = digit-range b (h .0) in (omega (arith, g .0), no-feed-digits l (h .1))
 
-no-feed-spaced : (ns : List ℕ) → NoFeed (spaced ns)
+pub no-feed-spaced : (ns : List ℕ) → NoFeed (spaced ns)
 unfolding spaced
 no-feed-spaced [] = tt
 no-feed-spaced (n ∷ ns) = (omega arith, no-feed-append (decimal n) (spaced ns) (no-feed-digits (decimal n) (decimal-means n .0)) (no-feed-spaced ns))
@@ -115,23 +114,25 @@ module _ (text : List ℕ) (at b : ℕ) (ms : List ℕ) (end : ℕ) (h : at < le
         let p : end ≡ at + run (drop at text) = omega (arith, line-run, s .ends) in
         ap₂ (λ (x : Parsed) (y : ℕ). record { says = x; end = y }) (sym (ap parsed line-slice ∙ line-says n)) p
 
-  -- a letter and as many numbers as it takes, up to the line's end, say their call
-  pub call-found : (c : Call) (r : Bool) → length ms ≡ countOf b → countOf b ≤ 3 → c ≡ callOf b (getD ms 0 0) (getD ms 1 0) (getD ms 2 0)
-      → r ≡ eqb (run (drop end text)) 0 → r ≡ true → _≡_ {A = Said} (record { says = Asks c; end = end }) (saidAt text at)
-  call-found c r n k q z t =
-      ap (λ (x : Call). record { says = Asks x; end = end }) q ∙ call-said k (eqb-true (run (drop end text)) 0 (sym z ∙ t)) n
+  -- a letter and as many numbers as it takes, up to a line feed, say their call
+  pub call-found : (c : Call) → length ms ≡ countOf b → countOf b ≤ 3 → c ≡ callOf b (getD ms 0 0) (getD ms 1 0) (getD ms 2 0)
+      → end < length text → getD text end 0 ≡ 10 → _≡_ {A = Said} (record { says = Asks c; end = end }) (saidAt text at)
+  call-found c n k q i f = ap (λ (x : Call). record { says = Asks x; end = end }) q ∙ call-said k (run-here text end i f) n
+
+-- ── what is found in one pass ──
+
+-- what was read in a short way, taken apart
+pub agrees-read : (r n : Number) (v e most : ℕ) → r ≡ Number.Read v e → Agrees r n most → (Number.Read v e ≡ n) × (e ≤ most)
+agrees-read r n v e most p a = rw p at a
+
+pub agrees-move : (r n m : Number) (k most : ℕ) → n ≡ m → k ≤ most → Agrees r n k → Agrees r m most
+agrees-move (Number.Read v e) n m k most p h a = (a .0 ∙ p, omega (arith, a .1))
+agrees-move Number.No n m k most p h a = tt
+
+pub tells-is : (n : Near) (said : Said) (c : Call) (e : ℕ) → n ≡ Near.Asks c e → Tells n said → _≡_ {A = Said} (record { says = Asks c; end = e }) said
+tells-is n said c e p t = rw p at t
 
 -- ── by the line's end ──
-
--- whether a line ends at a position
-pub ends-inside : (text : List ℕ) (at : ℕ) → at < length text → eqb (getD text at 0) 10 ≡ eqb (run (drop at text)) 0
-ends-inside text at h =
-    cases (either (eqb (getD text at 0) 10))
-    (λ t. rw (t, run-here text at h (eqb-true (getD text at 0) 10 t)))
-    (λ f. let n : ℕ = run (drop (at + 1) text) in rw (f, run-more text at h (eqb-false (getD text at 0) 10 f)) (sym (ne-eqb (suc n) 0 (λ z. omega arith))))
-
-pub ends-behind : (text : List ℕ) (at : ℕ) → length text ≤ at → true ≡ eqb (run (drop at text)) 0
-ends-behind text at h = rw (run-end text at h)
 
 -- no byte is left: there is no line
 pub said-none : (text : List ℕ) (at : ℕ) → Done ≡ lineAt text at → _≡_ {A = Said} (record { says = Parsed.No; end = at }) (saidAt text at)

@@ -1,18 +1,19 @@
 -- Laws of printing: a byte, a digit more, a number and a whole reply behind what was written before.
-use Prim.Native.Nat.{ℕ, _+_, _*_, _/_, _%_, _^_, _<_, _≤_}
+use Prim.Native.Nat.{ℕ, _+_, _-_, _*_, _/_, _%_, _^_, _<_, _≤_}
 use mathlib.Core.Path.{_≡_, sym, ap, _∙_}
 use mathlib.Core.List.{List, [], _∷_, _++_}
 use native.Mathlib.Numerals.{add-one}
 use native.Mathlib.Omega.{arith}
 use lib.ListN.{length, take, drop, set, getD, length-append}
-use lib.Seq.{set-split, take-suc}
+use lib.Seq.{set-set, set-split, take-suc}
 use Rattle.log.specs.Word.{writeAt}
 use Rattle.log.proofs.Writing.{length-write, write-write}
+use Rattle.answer.proofs.Cases.{cases, lt?}
 use Rattle.answer.specs.declared.Answer.{Answer}
 use Rattle.answer.specs.declared.Answer.the-variants.{Done}
 use Rattle.script.specs.Decimal.{decimal, spaced}
 use Rattle.script.specs.ReplyText.{Room}
-use Rattle.script.proofs.Decimals.{decimal-one, decimal-more, length-one, length-more, length-decimal, spaced-one, spaced-append}
+use Rattle.script.proofs.Decimals.{decimal-one, decimal-more, decimal-two, decimal-three, decimal-four, length-one, length-more, length-two, length-three, length-four, length-decimal, spaced-one, spaced-append}
 
 -- a byte is a write of one
 pub set-write : (d : List ℕ) (at v : ℕ) → at < length d → set d at v ≡ writeAt d at (v ∷ [])
@@ -51,6 +52,63 @@ pub put-spaced : (d d′ : List ℕ) (at n r : ℕ) → at + 11 ≤ length d →
 put-spaced d d′ at n r h k e w =
     let l = length-decimal 9 n k in
     rw (spaced-one n) (omega arith, omega arith, w ∙ set-ahead d at 32 (decimal n) (omega arith))
+
+-- a space and one digit
+pub put-digit : (d : List ℕ) (at n : ℕ) → n < 10 → at + 11 ≤ length d
+    → (at + 2 ≡ at + length (spaced (n ∷ []))) × (at + 2 ≤ at + 11) × (set (set d at 32) (at + 1) (48 + n) ≡ writeAt d at (spaced (n ∷ [])))
+put-digit d at n h k =
+    let l = length-one n h in
+    rw (spaced-one n) (omega arith, omega arith, rw (decimal-one n h) (set-behind d _ at (at + 1) (48 + n) (32 ∷ []) (set-write d at 32 (omega arith)) (omega arith) (omega arith)))
+
+-- a space and two, three or four digits, behind what stood at the first one's place before
+module _ (d : List ℕ) (at : ℕ) (room : at + 11 ≤ length d) where
+  two-behind : (a b : ℕ) → set (set (set d at 32) (at + 1) a) (at + 2) b ≡ writeAt d at (32 ∷ a ∷ b ∷ [])
+  two-behind a b =
+      let first = set-write d at 32 (omega arith) in
+      let second = set-behind d (set d at 32) at (at + 1) a (32 ∷ []) first (omega arith) (omega arith) in
+      set-behind d (set (set d at 32) (at + 1) a) at (at + 2) b (32 ∷ a ∷ []) second (omega arith) (omega arith)
+
+  three-behind : (a b c : ℕ) → set (set (set (set d at 32) (at + 1) a) (at + 2) b) (at + 3) c ≡ writeAt d at (32 ∷ a ∷ b ∷ c ∷ [])
+  three-behind a b c = set-behind d (set (set (set d at 32) (at + 1) a) (at + 2) b) at (at + 3) c (32 ∷ a ∷ b ∷ []) (two-behind a b) (omega arith) (omega arith)
+
+  four-behind : (a b c e : ℕ) → set (set (set (set (set d at 32) (at + 1) a) (at + 2) b) (at + 3) c) (at + 4) e ≡ writeAt d at (32 ∷ a ∷ b ∷ c ∷ e ∷ [])
+  four-behind a b c e =
+      set-behind d (set (set (set (set d at 32) (at + 1) a) (at + 2) b) (at + 3) c) at (at + 4) e (32 ∷ a ∷ b ∷ c ∷ []) (three-behind a b c) (omega arith) (omega arith)
+
+  module _ (n p q r : ℕ) where
+    few-two : 10 ≤ n → n < 100 → p ≡ at + 1 → q ≡ at + 1 → r ≡ at + 2
+        → set (set (set (set (set d at 32) (at + 1) (48 + n / 10 / 10 / 10)) p (48 + n / 10 / 10 % 10)) q (48 + n / 10 % 10)) r (48 + n % 10) ≡ writeAt d at (32 ∷ decimal n)
+    few-two h k ep eq er =
+        let t : n / 10 % 10 ≡ n / 10 = omega arith in
+        rw (ep, eq, er, t, decimal-two n h k)
+        (ap (λ (x : List ℕ). set (set x (at + 1) (48 + n / 10)) (at + 2) (48 + n % 10)) (set-set (set d at 32) (at + 1) (48 + n / 10 / 10 / 10) (48 + n / 10 / 10 % 10))
+        ∙ ap (λ (x : List ℕ). set x (at + 2) (48 + n % 10)) (set-set (set d at 32) (at + 1) (48 + n / 10 / 10 % 10) (48 + n / 10))
+        ∙ two-behind (48 + n / 10) (48 + n % 10))
+
+    few-three : 100 ≤ n → n < 1000 → p ≡ at + 1 → q ≡ at + 2 → r ≡ at + 3
+        → set (set (set (set (set d at 32) (at + 1) (48 + n / 10 / 10 / 10)) p (48 + n / 10 / 10 % 10)) q (48 + n / 10 % 10)) r (48 + n % 10) ≡ writeAt d at (32 ∷ decimal n)
+    few-three h k ep eq er =
+        let t : n / 10 / 10 % 10 ≡ n / 10 / 10 = omega arith in
+        rw (ep, eq, er, t, decimal-three n h k)
+        (ap (λ (x : List ℕ). set (set x (at + 2) (48 + n / 10 % 10)) (at + 3) (48 + n % 10)) (set-set (set d at 32) (at + 1) (48 + n / 10 / 10 / 10) (48 + n / 10 / 10))
+        ∙ three-behind (48 + n / 10 / 10) (48 + n / 10 % 10) (48 + n % 10))
+
+    few-four : 1000 ≤ n → n < 10000 → p ≡ at + 2 → q ≡ at + 3 → r ≡ at + 4
+        → set (set (set (set (set d at 32) (at + 1) (48 + n / 10 / 10 / 10)) p (48 + n / 10 / 10 % 10)) q (48 + n / 10 % 10)) r (48 + n % 10) ≡ writeAt d at (32 ∷ decimal n)
+    few-four h k ep eq er = rw (ep, eq, er, decimal-four n h k) (four-behind (48 + n / 10 / 10 / 10) (48 + n / 10 / 10 % 10) (48 + n / 10 % 10) (48 + n % 10))
+
+  pub put-few : (n w : ℕ) → 10 ≤ n → n < 10000 → w ≡ length (decimal n)
+      → (at + w + 1 ≡ at + length (spaced (n ∷ []))) × (at + w + 1 ≤ at + 11)
+      × (set (set (set (set (set d at 32) (at + 1) (48 + n / 10 / 10 / 10)) (at + 1 + w / 4) (48 + n / 10 / 10 % 10)) (at + w - 1) (48 + n / 10 % 10)) (at + w) (48 + n % 10)
+      ≡ writeAt d at (spaced (n ∷ [])))
+  put-few n w h k e =
+      rw (spaced-one n)
+      (cases (lt? n 100)
+      (λ f. let l = length-two n h f in (omega arith, omega arith, few-two n _ _ _ h f (omega arith) (omega arith) (omega arith)))
+      (λ f.
+      cases (lt? n 1000)
+      (λ g. let l = length-three n f g in (omega arith, omega arith, few-three n _ _ _ f g (omega arith) (omega arith) (omega arith)))
+      (λ g. let l = length-four n g k in (omega arith, omega arith, few-four n _ _ _ g k (omega arith) (omega arith) (omega arith)))))
 
 -- one number more, behind those before it
 pub put-next : (d t t′ : List ℕ) (from end r i : ℕ) (out : List ℕ) → i < length out → end ≤ length d

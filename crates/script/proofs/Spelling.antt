@@ -10,9 +10,9 @@ use lib.ListN.{length, length-append}
 use lib.Dec.{eqb, leb}
 use Rattle.answer.proofs.Cases.{cases, either, lt?, same?}
 use Rattle.script.specs.declared.number.Number.{Number}
-use Rattle.script.specs.Decimal.{decimal, spaced}
+use Rattle.script.specs.Decimal.{decimal}
 use Rattle.script.specs.Parse.{isDigit, digitsFrom, firstDigit, numberFrom}
-use Rattle.script.proofs.Decimals.{decimal-one, decimal-more, length-decimal, spaced-one}
+use Rattle.script.proofs.Decimals.{decimal-one, decimal-more, length-decimal}
 use Rattle.script.proofs.Reading.{digits-over, digit-yes}
 
 pub read-same : {v w a e : ℕ} → Number.Read v a ≡ Number.Read w e → (v ≡ w) × (a ≡ e)
@@ -120,10 +120,10 @@ digits-behind [] b h k = (k, tt)
 digits-behind (a ∷ l) b h k = (h .0, digits-behind l b (h .1) k)
 
 -- the digits of a number but 0: the first is not 0, and together they make the number
-Makes : ℕ → Type 0
+unfoldable pub Makes : ℕ → Type 0
 Makes n = (d : ℕ) × (l : List ℕ) × (decimal n ≡ d ∷ l) × (49 ≤ d) × (d ≤ 57) × AllDigits l × (valueOf (d - 48) l ≡ n)
 
-makes : (k n : ℕ) → n ≤ k → 0 < n → Makes n
+pub makes : (k n : ℕ) → n ≤ k → 0 < n → Makes n
 unfolding Makes
 makes zero n h g = absurd (let z : ⊥ = omega arith in z)
 makes (suc k) n h g =
@@ -192,8 +192,3 @@ pub decimal-only : (d : ℕ) (l : List ℕ) → 49 ≤ d → d ≤ 57 → AllDig
 decimal-only d l h k a =
     let e : 48 + (d - 48) ≡ d = omega arith in
     decimal-behind l (d - 48) (omega arith) a ∙ ap (λ (x : List ℕ). x ++ l) (decimal-one (d - 48) (omega arith) ∙ ap (λ (x : ℕ). x ∷ []) e)
-
--- a printed number reads back
-pub printed-read : (n at : ℕ) → n < 10_000_000 → numberFrom (spaced (n ∷ [])) at ≡ Number.Read n (at + length (spaced (n ∷ [])))
-printed-read n at h =
-    rw (spaced-one n) (ap (λ (l : List ℕ). numberFrom (32 ∷ l) at) (sym (append-nil (decimal n))) ∙ number-read n [] at h tt)

@@ -1,4 +1,4 @@
--- "Single spaces separate; numbers are decimal, 1 to 7 digits, no leading zero but 0 itself."
+-- "Single spaces separate; numbers are decimal, 1 to 7 digits, no leading zero but 0 itself." (10.4)
 use Prim.Native.Nat.{ℕ, zero, suc, _+_, _/_, _%_}
 use mathlib.Core.Bool.{cond}
 use mathlib.Core.List.{List, [], _∷_, _++_}

@@ -1,5 +1,5 @@
 -- How a line is spelled: "The first line opens with the five letters `store`, then the six numbers .. Other calls are the letter and its
--- numbers. Single spaces separate; numbers are decimal, 1 to 7 digits, no leading zero but 0 itself."
+-- numbers. Single spaces separate; numbers are decimal, 1 to 7 digits, no leading zero but 0 itself." (10.3)
 use Prim.Native.Nat.{ℕ, _<_}
 use mathlib.Core.List.{List, [], _∷_, _++_}
 use Rattle.model.specs.declared.Call.{Call}

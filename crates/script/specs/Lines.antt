@@ -1,4 +1,4 @@
--- "one a line .. ended by a line feed or the end of input; nothing behind the last line feed is no line."
+-- "one a line .. ended by a line feed or the end of input; nothing behind the last line feed is no line." (10.1)
 use Prim.Native.Nat.{ℕ, zero, suc, _+_}
 use mathlib.Core.Bool.{Bool, true, false, cond}
 use mathlib.Core.List.{List, [], _∷_, _++_}

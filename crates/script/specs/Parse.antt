@@ -1,4 +1,4 @@
--- What a line says, by reading it from its start: "An empty or longer line is no call"; the five letters `store` and six numbers,
+-- What a line says, by reading it from its start: "An empty or longer line is no call" (10.2); the five letters `store` and six numbers,
 -- or a call's letter and its numbers, to the line's end.
 use Prim.Native.Nat.{ℕ, zero, suc, _+_, _-_, _*_}
 use mathlib.Core.Bool.{Bool, true, false, cond, _&&_}
@@ -22,7 +22,7 @@ digitsFrom [] value room at = Number.Read value at
 digitsFrom (b ∷ l) value zero at = Number.Read value at
 digitsFrom (b ∷ l) value (suc room) at = cond (isDigit b) (digitsFrom l (value * 10 + (b - 48)) room (at + 1)) (Number.Read value at)
 
--- "1 to 7 digits, no leading zero but 0 itself"
+-- "1 to 7 digits, no leading zero but 0 itself" (10.4)
 unfoldable pub firstDigit : List ℕ → ℕ → Number
 firstDigit [] at = Number.No
 firstDigit (b ∷ l) at = cond (eqb b 48) (Number.Read 0 (at + 1)) (cond (isDigit b) (digitsFrom l (b - 48) 6 (at + 1)) Number.No)

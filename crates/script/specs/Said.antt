@@ -1,12 +1,26 @@
 -- What the line at a position of a text says, and where it ends.
-use Prim.Native.Nat.{ℕ, _+_}
+use Prim.Native.Nat.{ℕ, _+_, _≤_}
 use mathlib.Core.List.{List}
+use mathlib.Core.Path.{_≡_}
 use lib.ListN.{drop}
 use lib.Seq.{slice}
+use Rattle.script.specs.declared.number.Number.{Number}
+use Rattle.script.specs.declared.parse.Parsed.the-variants.{Asks}
 use Rattle.script.specs.declared.said.Said.{Said}
+use Rattle.script.specs.declared.said.Near.{Near}
 use Rattle.script.specs.Lines.{run}
 use Rattle.script.specs.Parse.{parsed}
 
 -- the line from a position to the first line feed, or the end: what it says, and the position behind it
 unfoldable pub saidAt : List ℕ → ℕ → Said
 saidAt text at = record { says = parsed (slice at (at + run (drop at text)) text); end = at + run (drop at text) }
+
+-- what was read in a short way is what is to be read, and ends by a position. That nothing was read so says nothing
+abbrev pub Agrees : Number → Number → ℕ → Type 0
+Agrees (Number.Read value end) n most = (Number.Read value end ≡ n) × (end ≤ most)
+Agrees Number.No n most = Unit {0}
+
+-- a call that was found in one pass is what the line says. That none was found says nothing
+abbrev pub Tells : Near → Said → Type 0
+Tells (Near.Asks c e) said = record { says = Asks c; end = e } ≡ said
+Tells Near.No said = Unit {0}

@@ -23,64 +23,53 @@ fn put_digits(text: &mut [u8], at: usize, n: u32) -> usize
     end + 1
 }
 
-// Writes a number of one digit at a position; returns the position behind it.
-fn put_one(text: &mut [u8], at: usize, n: u32) -> usize
-    requires { ⌜ (n < 10) × (at + length (decimal n) ≤ length (now text)) ⌝ }
-    ensures { λ r. ⌜ (r ≡ at + length (decimal n)) × (now (text .exit) ≡ writeAt (now (text .entry)) at (decimal n)) ⌝ }
+// How many digits a number of two to four digits has.
+fn width_of(n: u32) -> usize
+    requires { ⌜ (10 ≤ n) × (n < 10000) ⌝ }
+    ensures is { λ r. ⌜ r ≡ length (decimal n) ⌝ }
+    ensures range { λ r. ⌜ (2 ≤ r) × (r ≤ 4) ⌝ }
 {
-    text[at] = 48 + n as u8;
-    at + 1
+    if n < 100 {
+        return 2;
+    }
+    if n < 1000 {
+        return 3;
+    }
+    4
 }
 
-// Writes a number of two digits at a position; returns the position behind it.
-fn put_two(text: &mut [u8], at: usize, n: u32) -> usize
-    requires { ⌜ (10 ≤ n) × (n < 100) × (at + length (decimal n) ≤ length (now text)) ⌝ }
-    ensures { λ r. ⌜ (r ≡ at + length (decimal n)) × (now (text .exit) ≡ writeAt (now (text .entry)) at (decimal n)) ⌝ }
+// Writes a space and a number of two to four digits with no branch: a thousand or a hundred that is not there is written over by the digit behind it.
+fn put_few(text: &mut [u8], at: usize, n: u32) -> usize
+    requires { ⌜ (10 ≤ n) × (n < 10000) × (at + 11 ≤ length (now text)) ⌝ }
+    ensures { λ r. ⌜ (r ≡ at + length (spaced (n ∷ []))) × (r ≤ at + 11) × (now (text .exit) ≡ writeAt (now (text .entry)) at (spaced (n ∷ []))) ⌝ }
 {
-    let end = put_one(text, at, n / 10);
-    text[end] = 48 + (n % 10) as u8;
-    end + 1
+    let width = width_of(n);
+    let last = at + width;
+    let tens = n / 10;
+    let hundreds = tens / 10;
+    text[at] = 32;
+    text[at + 1] = 48 + (hundreds / 10) as u8;
+    text[at + 1 + width / 4] = 48 + (hundreds % 10) as u8;
+    text[last - 1] = 48 + (tens % 10) as u8;
+    text[last] = 48 + (n % 10) as u8;
+    last + 1
 }
 
-// Writes a number of three digits at a position; returns the position behind it.
-fn put_three(text: &mut [u8], at: usize, n: u32) -> usize
-    requires { ⌜ (100 ≤ n) × (n < 1000) × (at + length (decimal n) ≤ length (now text)) ⌝ }
-    ensures { λ r. ⌜ (r ≡ at + length (decimal n)) × (now (text .exit) ≡ writeAt (now (text .entry)) at (decimal n)) ⌝ }
-{
-    let end = put_two(text, at, n / 10);
-    text[end] = 48 + (n % 10) as u8;
-    end + 1
-}
-
-// Writes a number of four digits at a position; returns the position behind it.
-fn put_four(text: &mut [u8], at: usize, n: u32) -> usize
-    requires { ⌜ (1000 ≤ n) × (n < 10000) × (at + length (decimal n) ≤ length (now text)) ⌝ }
-    ensures { λ r. ⌜ (r ≡ at + length (decimal n)) × (now (text .exit) ≡ writeAt (now (text .entry)) at (decimal n)) ⌝ }
-{
-    let end = put_three(text, at, n / 10);
-    text[end] = 48 + (n % 10) as u8;
-    end + 1
-}
-
-// Writes a space and a number at a position; returns the position behind them. Block numbers have at most four digits: those need no loop.
+// Writes a space and a number at a position; returns the position behind them. Block numbers have at most four digits.
 fn put_number(text: &mut [u8], at: usize, n: u32) -> usize
     requires { ⌜ at + 11 ≤ length (now text) ⌝ }
     ensures { λ r. ⌜ (r ≡ at + length (spaced (n ∷ []))) × (r ≤ at + 11) × (now (text .exit) ≡ writeAt (now (text .entry)) at (spaced (n ∷ []))) ⌝ }
 {
+    if 10000 <= n {
+        text[at] = 32;
+        return put_digits(text, at + 1, n);
+    }
+    if 10 <= n {
+        return put_few(text, at, n);
+    }
     text[at] = 32;
-    if n < 10 {
-        return put_one(text, at + 1, n);
-    }
-    if n < 100 {
-        return put_two(text, at + 1, n);
-    }
-    if n < 1000 {
-        return put_three(text, at + 1, n);
-    }
-    if n < 10000 {
-        return put_four(text, at + 1, n);
-    }
-    put_digits(text, at + 1, n)
+    text[at + 1] = 48 + n as u8;
+    at + 2
 }
 
 // Writes the reply to a call and a line feed behind the first `at` bytes; returns how many bytes there are then.
