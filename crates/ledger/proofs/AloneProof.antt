@@ -1,0 +1,166 @@
+-- Demand 3 and the two facts, of the ledger alone: its answers and histories are those of the model, whose proofs they carry over.
+use mathlib.Core.Path.{_≡_, refl, sym, ap, ap₂, _∙_, subst}
+use mathlib.Core.Logic.{_↔_}
+use mathlib.Core.Bool.{false, not}
+use mathlib.Core.List.{List, [], _∷_, _++_, map}
+use Prim.Native.Nat.{ℕ, _+_}
+use native.Mathlib.Omega.{arith}
+use lib.Dec.{eqb}
+use lib.ListN.{getD}
+use Rattle.answer.specs.Reply.{Reply, accepted, refused}
+use Rattle.answer.specs.Refusal.{leaves, NoneBefore}
+use Rattle.answer.proofs.Decided.{decide-accepted}
+use Rattle.geometry.specs.declared.Geometry.{Geometry}
+use Rattle.geometry.specs.Limits.{Inside, blocks}
+use Rattle.model.specs.Actions.{slotOf}
+use Rattle.model.specs.Calls.{slot}
+use Rattle.model.specs.Book.{Book, OnPage, accept, enter}
+use Rattle.model.specs.State.{State, fresh}
+use Rattle.model.specs.History.{Entry, eventsOf, events, firstGiven, entryOf, told, bookFrom, book, stateFrom, historyFrom}
+use Rattle.model.specs.HistoryFacts.{HistoryFacts, givenIn, freedIn, different, Sealed}
+use Rattle.model.specs.Model.{Screened, screenedConditions, answer, modelAfter, model}
+use Rattle.model.specs.declared.Call.{Call}
+use Rattle.model.specs.declared.Call.the-variants.{Begin, Write, Erase, Seal, Fork, Delete, Read, Barrier, Compress, FreeList}
+use Rattle.model.proofs.Fine.{Fine}
+use Rattle.model.proofs.StepFacts.{fresh-fine}
+use Rattle.model.proofs.WholeList.{WholeList, each-list}
+use Rattle.model.proofs.WholeListProof.{whole-list}
+use Rattle.model.proofs.HistoryFactsProof.{history-facts}
+use Rattle.ledger.specs.BookReading.{isThere, mayBeWritten}
+use Rattle.ledger.specs.Ledger.{Ledger, account, refusalsOf, says, keeps, step}
+use Rattle.ledger.specs.Alone.{clerk, LedgerDemand, LedgerBook}
+use Rattle.ledger.proofs.Tells.{Tells, fresh-tells}
+use Rattle.ledger.proofs.CallsTold.{there-told}
+use Rattle.ledger.proofs.KillTold.{sealed-told}
+use Rattle.ledger.proofs.ToldProof.{plain, plain-told, noted-step, after-told}
+
+-- ── the book inside the ledger is the book ──
+
+-- the book is told the block that a W gave, and reads it for no other call
+told-block : (g : Geometry) (L : Ledger) (B : Book) (c : Call) →
+    accept (g .pages) B c (getD (account g L c .result) 0 0) ≡ accept (g .pages) B c (firstGiven (eventsOf c (accepted (account g L c .result))))
+unfolding account
+told-block g L B Begin = refl
+told-block g L B (Write r x k) = refl
+told-block g L B (Erase r x) = refl
+told-block g L B (Seal r) = refl
+told-block g L B (Fork r) = refl
+told-block g L B (Delete r) = refl
+told-block g L B (Read r x) = refl
+told-block g L B Barrier = refl
+told-block g L B Compress = refl
+told-block g L B FreeList = refl
+
+book-step : (g : Geometry) (L : Ledger) (c : Call) → step g L c .book ≡ enter (g .pages) (L .book) (told (entryOf (clerk g) L c))
+unfolding step enter keeps says
+book-step g L c = go (says g L c) refl
+  where
+    go : (r : Reply) → says g L c ≡ r → leaves r L (keeps g L c) .book ≡ enter (g .pages) (L .book) (told (record { call = c; answer = r }))
+    go (refused n) e = refl
+    go (accepted l) e =
+        told-block g L (L .book) c ∙
+        ap (λ (m : List ℕ). accept (g .pages) (L .book) c (firstGiven (eventsOf c (accepted m)))) (decide-accepted (refusalsOf g L c) (account g L c .result) l e .1)
+
+book-from : (g : Geometry) (l : List Call) (L : Ledger) → stateFrom (clerk g) L l .book ≡ bookFrom (g .pages) (L .book) (historyFrom (clerk g) L l)
+book-from g [] L = refl
+book-from g (c ∷ l) L =
+    book-from g l (step g L c) ∙ ap (λ (B : Book). bookFrom (g .pages) B (historyFrom (clerk g) (step g L c) l)) (book-step g L c)
+
+-- THE BOOK INSIDE THE LEDGER IS THE BOOK
+pub ledger-book : LedgerBook
+unfolding Rattle.ledger.specs.Ledger.fresh
+ledger-book g l = book-from g l Rattle.ledger.specs.Ledger.fresh
+
+-- ── beside the model: the calls are those that meet none of 2, 3 and 4 ──
+
+abbrev plains : List Call → List Screened
+plains l = map plain l
+
+plains-append : (l m : List Call) → plains (l ++ m) ≡ plains l ++ plains m
+plains-append [] m = refl
+plains-append (c ∷ l) m = ap {B = List Screened} (λ k. plain c ∷ k) (plains-append l m)
+
+module _ (g : Geometry) (inside : Inside g) where
+  -- the two machines side by side
+  pub beside : (l : List Call) (L : Ledger) (T : State) → Fine g T → Tells g L T →
+      Fine g (stateFrom (model g) T (plains l)) × Tells g (stateFrom (clerk g) L l) (stateFrom (model g) T (plains l)) ×
+      (historyFrom (model g) T (plains l) ≡ historyFrom (clerk g) L l)
+  beside [] L T fine t = (fine, t, refl)
+  beside (c ∷ l) L T fine t =
+      let e : answer g T (plain c) ≡ says g L c = plain-told g inside c L T fine t in
+      let w = after-told g inside L T fine t (plain c) in
+      let u = subst (λ (K : Ledger). Tells g K (modelAfter g T (plain c))) (noted-step g L c (answer g T (plain c)) e) (w .1) in
+      let r = beside l (step g L c) (modelAfter g T (plain c)) (w .0) u in
+      let d : entryOf (model g) T (plain c) ≡ entryOf (clerk g) L c = λ i. record { call = c; answer = e i } in
+      (r .0, r .1, ap₂ {C = List Entry} (λ x m. x ∷ m) d (r .2))
+
+  -- what W meets before 13, by the ledger and by the model
+  none-told : (L : Ledger) (T : State) → Fine g T → Tells g L T → (r x k : ℕ) →
+      NoneBefore 13 (screenedConditions g T (plain (Write r x k))) ↔ NoneBefore 13 (refusalsOf g L (Write r x k))
+  unfolding account
+  none-told L T fine t r x k =
+      let there : not (isThere (L .book) r) ≡ eqb (slotOf (T .view) r) 0 = there-told (T .view) (L .book) r (fine .sound) (t .book) in (
+        λ h.
+            let m = h .1 .1 .1 in
+            let n : eqb (slotOf (T .view) r) 0 ≡ false = m .1 .1 .0 (omega arith) in
+            let nine : not (mayBeWritten (L .book) r) ≡ false = sealed-told g L T inside fine t r n ∙ m .1 .1 .1 .0 (omega arith) in
+            (m .0, (m .1 .0, (λ h. there ∙ n, (λ h. nine, (λ h. absurd (omega arith), (λ h. absurd (omega arith), tt)))))),
+        λ m.
+            let n : eqb (slotOf (T .view) r) 0 ≡ false = sym there ∙ m .1 .1 .0 (omega arith) in
+            let nine : eqb (T .view .isOpen (slot T r)) 0 ≡ false = sym (sealed-told g L T inside fine t r n) ∙ m .1 .1 .1 .0 (omega arith) in
+            (λ h. refl, (λ h. refl, (λ h. refl, (m .0, (m .1 .0, (λ h. n, (λ h. nine, (λ h. absurd (omega arith), (λ h. absurd (omega arith), tt))))))))),
+      )
+
+  -- what the calls ahead of one lead to
+  module _ (before : List Call) where
+    abbrev L : Ledger
+    L = stateFrom (clerk g) Rattle.ledger.specs.Ledger.fresh before
+
+    abbrev T : State
+    T = stateFrom (model g) (fresh g) (plains before)
+
+    side : Fine g T × Tells g L T × (historyFrom (model g) (fresh g) (plains before) ≡ historyFrom (clerk g) Rattle.ledger.specs.Ledger.fresh before)
+    side = beside before Rattle.ledger.specs.Ledger.fresh (fresh g) (fresh-fine g inside) (fresh-tells g inside)
+
+    same-answer : (c : Call) → answer g T (plain c) ≡ says g L c
+    same-answer c = plain-told g inside c L T (side .0) (side .1)
+
+    same-none : (c : Call) (r x k : ℕ) → c ≡ Write r x k → NoneBefore 13 (screenedConditions g T (plain c)) ↔ NoneBefore 13 (refusalsOf g L c)
+    same-none c r x k e =
+        subst (λ (d : Call). NoneBefore 13 (screenedConditions g T (plain d)) ↔ NoneBefore 13 (refusalsOf g L d)) (sym e) (none-told L T (side .0) (side .1) r x k)
+
+    whole : WholeList (clerk g) (g .pages) (blocks g) Rattle.ledger.specs.Ledger.fresh before
+    whole =
+        let W = whole-list g inside (plains before) in
+        let H = side .2 in
+        record {
+          full = λ w r x k e.
+              let i = W .full (plain w) r x k e in
+              let n = same-none w r x k e in (
+                λ a. let q = i .0 (same-answer w ∙ a) in (n .0 (q .0), λ b l. subst (λ h. OnPage (book (g .pages) h) b) H (q .1 b l)),
+                λ q. sym (same-answer w) ∙ i .1 (n .1 (q .0), λ b l. subst (λ h. OnPage (book (g .pages) h) b) (sym H) (q .1 b l)),
+              );
+          gives = λ w r x k l e a.
+              let q = W .gives (plain w) r x k l e (same-answer w ∙ a) in
+              (q .0, q .1, q .2, q .3, λ p. q .4 (subst (λ h. OnPage (book (g .pages) h) (q .0)) (sym H) p));
+          frees = λ xs ys b e. W .frees xs ys b (ap events H ∙ e);
+        }
+
+  facts : (before : List Call) → HistoryFacts (clerk g) (g .pages) (blocks g) Rattle.ledger.specs.Ledger.fresh before
+  facts before =
+      let W = history-facts g inside (plains before) in
+      let H = side before .2 in
+      record {
+        held = subst (λ h. givenIn (events h) ≡ freedIn (events h) + different (g .pages) (blocks g) (book (g .pages) h)) H (W .held);
+        sealed = λ more v w r x l m ev ew s av aw.
+            W .sealed (plains more) (plain v) (plain w) r x l m ev ew (subst (λ h. Sealed (book (g .pages) h) r) (sym H) s) (same-answer before v ∙ av)
+            (subst (λ k. answer g (stateFrom (model g) (fresh g) k) (plain w) ≡ accepted m) (plains-append before more) (same-answer (before ++ more) w ∙ aw));
+        room = λ c i l ec ac e.
+            W .room (plain c) (plain i) l ec (same-answer before c ∙ ac)
+            (subst (λ k. answer g (stateFrom (model g) (fresh g) k) (plain i) ≡ refused 14) (plains-append before (c ∷ [])) (same-answer (before ++ (c ∷ [])) i ∙ e));
+      }
+
+-- DEMAND 3 AND THE TWO FACTS, OF THE LEDGER ALONE
+pub ledger-demand : LedgerDemand
+ledger-demand g inside l =
+    (each-list (clerk g) (g .pages) (blocks g) Rattle.ledger.specs.Ledger.fresh (whole g inside) l, facts g inside l)

@@ -1,0 +1,43 @@
+-- WHAT HOLDS OF ANY TRANSCRIPT: one reply a line, in order; 1, 2 and 4 exactly where the rules have them (7.1, 10.5), 3 never; an accepted store line starts afresh.
+use mathlib.Core.Path.{_≡_}
+use mathlib.Core.Logic.{_⊎_, _↔_}
+use mathlib.Core.List.{List, [], _∷_, _++_}
+use Prim.Native.Nat.{ℕ, _<_}
+use lib.ListN.{length}
+use Rattle.answer.specs.Reply.{refused}
+use Rattle.geometry.specs.Limits.{Inside}
+use Rattle.model.specs.declared.Call.{Call}
+use Rattle.script.specs.declared.parse.Six.{Six}
+use Rattle.script.specs.declared.parse.Parsed.{Parsed}
+use Rattle.script.specs.declared.parse.Parsed.the-variants.{Store, Asks, No}
+use Rattle.script.specs.Parse.{parsed}
+use Rattle.script.specs.ReplyText.{replyText}
+use Rattle.ledger.specs.Transcript.{Runner, without-store, asked, lineSays, printed, left}
+
+-- how a line may be refused, whatever stands before it (5 to 14: `says`)
+pub record LineRefused (R : Runner) (p : Parsed) : Type 0 where
+  -- "1: a script line that is no call." (7.1)
+  pub one : (lineSays R p ≡ refused 1) ↔ (p ≡ No)
+  -- "2: a geometry outside its limits." (7.1)
+  pub two : (lineSays R p ≡ refused 2) ↔ ((x : Six) × ((p ≡ Store x) × (Inside (asked x) → ⊥)))
+  -- "so it never prints 3" (10.5)
+  pub three : lineSays R p ≡ refused 3 → ⊥
+  -- "Before a store exists every other call gives 4." (10.5)
+  pub four : (lineSays R p ≡ refused 4) ↔ ((R ≡ without-store) × ((c : Call) × (p ≡ Asks c)))
+
+pub record TranscriptMeans : Type 0 where
+  -- "Output per line" (10.6): the replies stand in the lines' order, each as the lines before it say
+  pub each : (R : Runner) (before : List (List ℕ)) (l : List ℕ) (behind : List (List ℕ)) →
+      printed R (before ++ (l ∷ behind)) ≡
+      printed R before ++ (replyText (lineSays (left R before) (parsed l)) ++ printed (left R (before ++ (l ∷ []))) behind)
+  pub refusals : (R : Runner) (p : Parsed) → LineRefused R p
+  -- "An empty or longer line is no call" (10.2)
+  pub no-call : (R : Runner) (l : List ℕ) → (l ≡ []) ⊎ (80 < length l) → lineSays R (parsed l) ≡ refused 1
+  -- no 4 once a store was made
+  pub made : (R : Runner) (before : List (List ℕ)) (l : List ℕ) (between : List (List ℕ)) (x : Six) → parsed l ≡ Store x → Inside (asked x) → (p : Parsed) →
+      lineSays (left R (before ++ (l ∷ between))) p ≡ refused 4 → ⊥
+  -- "a later such line, if accepted, starts afresh" (10.3)
+  pub afresh : (R : Runner) (l : List ℕ) (behind : List (List ℕ)) (x : Six) → parsed l ≡ Store x → Inside (asked x) →
+      printed R (l ∷ behind) ≡ printed without-store (l ∷ behind)
+  -- and refused, it leaves the store that there was
+  pub leaves : (R : Runner) (l : List ℕ) (x : Six) → parsed l ≡ Store x → (Inside (asked x) → ⊥) → left R (l ∷ []) ≡ R
