@@ -1,2 +1,9 @@
--- Laws of the loop over a script's lines.
+-- Laws of a part of a script, then that the parts of a script are its transcript.
 pub mod Serving
+pub mod Onward
+pub mod Hosting
+pub mod TranscriptLine
+pub mod TranscriptLines
+pub mod TranscriptParts
+pub mod TranscriptProof
+pub mod TranscriptHost

@@ -1,43 +1,69 @@
-// A script served: a reply on standard output for each line of a text.
-ghost use Prim.Native.Nat.{_≤_};
+// A script served in parts: replies to whole lines of a text, into a lent buffer.
+pub mod host;
+
 ghost use lib.ListN.{length};
-use libc::STDOUT_FILENO;
+ghost use Rattle.model.specs.Memory.{lent};
+ghost use Rattle.session.specs.Step.{Kept};
+ghost use Rattle.serving.specs.Part.{begun, served, Serves};
 use script::reply::put_reply;
 use script::said::said_at;
-use session::start;
+use session::Session;
 use session::step;
 
-// Writes what stands in the buffer once less than a longest reply is free; returns how many bytes stand there then.
-fn flushed(replies: &[u8], used: usize) -> usize
-    requires { ⌜ used ≤ length (now replies) ⌝ }
-    ensures { λ r. ⌜ r ≤ 16000 ⌝ }
-{
-    if used <= 16000 {
-        return used;
-    }
-    io::write_all(STDOUT_FILENO, &replies[..used]);
-    0
+// How far the text was read, how many bytes of replies stand in the buffer, and what the run has between two lines.
+pub struct Served {
+    pub session: Session,
+    pub at: usize,
+    pub used: usize,
 }
 
-// The lines of a text, each with its reply.
-pub fn serve(text: &[u8]) {
-    let mut t = [0u32; 36864];
-    let mut log = [0u8; 65536];
-    let mut out = [0u32; 4160];
-    let mut replies = [0u8; 65536];
-    let mut session = start();
+// The bytes that a longest reply takes.
+pub const LONGEST: usize = 49168;
+
+// Serves whole lines of a text from a position on, while a longest reply fits in the buffer; the replies stand at its start, one behind another.
+pub fn serve_part(
+    text: &[u8],
+    at: usize,
+    session: Session,
+    t: &mut [u32],
+    log: &mut [u8],
+    out: &mut [u32],
+    replies: &mut [u8],
+) -> Served
+    requires { ⌜ Kept session (now t) (now log) (now out) ⌝ }
+    ensures { λ r. ⌜ Serves (served (now (text .entry)) (length (now (replies .entry))) (begun at session (lent (now (t .entry)) (now (log .entry)) (now (out .entry))))) (now (replies .entry)) r (lent (now (t .exit)) (now (log .exit)) (now (out .exit))) (now (replies .exit)) ⌝ }
+{
+    let mut s = session;
     let mut used: usize = 0;
-    let mut at: usize = 0;
-    while at < text.len() {
-        let said = said_at(text, at);
+    let mut i = at;
+    if replies.len() < LONGEST {
+        return Served {
+            session: s,
+            at: i,
+            used,
+        };
+    }
+    let most = replies.len() - LONGEST;
+    while i < text.len() {
+        if most < used {
+            return Served {
+                session: s,
+                at: i,
+                used,
+            };
+        }
+        let said = said_at(text, i);
         let says = said.says;
         let end = said.end;
-        let stepped = step(session, says, &mut t, &mut log, &mut out);
-        session = stepped.session;
+        let stepped = step(s, says, t, log, out);
+        s = stepped.session;
         let answer = stepped.answer;
-        used = put_reply(&mut replies, used, answer, &out);
-        used = flushed(&replies, used);
-        at = end + 1;
+        used = put_reply(replies, used, answer, out);
+        i = end + 1;
     }
-    io::write_all(STDOUT_FILENO, &replies[..used]);
+    Served {
+        session: s,
+        at: i,
+        used,
+    }
 }

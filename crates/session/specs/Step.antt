@@ -1,5 +1,5 @@
--- THE RUNNER, line by line. "Each parsed line is taken apart as a call, or the runner prints 1. Before a store exists every other call gives 4."
--- "a later such line, if accepted, starts afresh."
+-- THE RUNNER, line by line. "Each parsed line is taken apart as a call, or the runner prints 1. Before a store exists every other call gives 4." (10.5)
+-- "a later such line, if accepted, starts afresh." (10.3)
 use mathlib.Core.Path.{_≡_}
 use mathlib.Core.Bool.{cond}
 use mathlib.Core.List.{List}

@@ -1,6 +1,24 @@
 // Runs each script that its arguments name: the name on a line, then the script's replies.
 use libc::STDOUT_FILENO;
-use serving::serve;
+use serving::serve_part;
+use session::start;
+
+// A reply for each line of a text.
+fn serve(text: &[u8]) {
+    let mut t = [0u32; 36864];
+    let mut log = [0u8; 65536];
+    let mut out = [0u32; 4160];
+    let mut replies = [0u8; 65536];
+    let mut session = start();
+    let mut at: usize = 0;
+    while at < text.len() {
+        let served = serve_part(text, at, session, &mut t, &mut log, &mut out, &mut replies);
+        let used = served.used;
+        io::write_all(STDOUT_FILENO, &replies[..used]);
+        session = served.session;
+        at = served.at;
+    }
+}
 
 fn run_script(i: usize) {
     let mut path = io::buffer();

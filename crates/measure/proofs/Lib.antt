@@ -1,2 +1,0 @@
--- Laws of the loop over a script's lines.
-pub mod Measuring

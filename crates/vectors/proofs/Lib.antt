@@ -1,0 +1,2 @@
+-- What the loop over parts keeps.
+pub mod Running
