@@ -1,9 +1,111 @@
-// Runs a script: reads at most 65,536 bytes of it from standard input, writes a reply for each line.
+// Runs a script: reads at most 65,536 bytes of it from standard input, writes a reply for each line as the lines come.
+mod input;
+mod output;
+mod sentence;
+
+ghost use Prim.Native.Nat.{_+_, _≤_};
+ghost use lib.ListN.{length};
+ghost use Rattle.session.specs.Step.{Kept};
+use input::lines_end;
+use input::read_more;
 use libc::STDIN_FILENO;
-use serving::serve;
+use libc::STDOUT_FILENO;
+use output::write_replies;
+use serving::serve_part;
+use session::Session;
+use session::start;
+
+// How far a text is answered, and where replies go on; below 0 the last could not be written.
+struct Answered {
+    session: Session,
+    at: usize,
+    fd: i32,
+}
+
+// Answers the lines of a text from `at` on.
+fn answer(
+    fd: i32,
+    text: &[u8],
+    at: usize,
+    session: Session,
+    t: &mut [u32],
+    log: &mut [u8],
+    out: &mut [u32],
+    replies: &mut [u8],
+) -> Answered
+    requires { ⌜ Kept session (now t) (now log) (now out) ⌝ }
+    requires { ⌜ 65536 ≤ length (now replies) ⌝ }
+    ensures { λ r. ⌜ Kept (r .session) (now (t .exit)) (now (log .exit)) (now (out .exit)) ⌝ }
+{
+    let mut kept = session;
+    let mut output = fd;
+    let mut done = at;
+    while done < text.len() {
+        let served = serve_part(text, done, kept, t, log, out, replies);
+        let used = served.used;
+        output = write_replies(output, &replies[..used]);
+        kept = served.session;
+        if output < 0 {
+            break;
+        }
+        done = served.at;
+    }
+    Answered {
+        session: kept,
+        at: done,
+        fd: output,
+    }
+}
 
 fn main() {
-    let mut text = io::large_buffer();
-    let n = io::read_full(STDIN_FILENO, &mut text);
-    serve(&text[..n]);
+    let mut t = [0u32; 36864];
+    let mut log = [0u8; 65536];
+    let mut out = [0u32; 4160];
+    let mut replies = [0u8; 65536];
+    let mut text = [0u8; 65536];
+    let mut session = start();
+    let mut from = STDIN_FILENO;
+    let mut to = STDOUT_FILENO;
+    let mut n: usize = 0;
+    let mut at: usize = 0;
+    while n < 65536 {
+        let input = read_more(from, &mut text, n);
+        from = input.fd;
+        if from < 0 {
+            return;
+        }
+        let more = input.more;
+        if more == 0 {
+            break;
+        }
+        let all = n + more;
+        let end = lines_end(&text[..all], n);
+        n = all;
+        let answered = answer(
+            to,
+            &text[..end],
+            at,
+            session,
+            &mut t,
+            &mut log,
+            &mut out,
+            &mut replies,
+        );
+        session = answered.session;
+        at = answered.at;
+        to = answered.fd;
+        if to < 0 {
+            return;
+        }
+    }
+    answer(
+        to,
+        &text[..n],
+        at,
+        session,
+        &mut t,
+        &mut log,
+        &mut out,
+        &mut replies,
+    );
 }

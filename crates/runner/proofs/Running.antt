@@ -1,0 +1,45 @@
+-- What the loop over reads keeps: the lengths of the runner's arrays, how much was read, and what a session keeps.
+use mathlib.Core.Path.{_≡_}
+use mathlib.Core.List.{List}
+use Prim.Native.Nat.{ℕ, _≤_}
+use native.Mathlib.Omega.{arith}
+use lib.ListN.{length, take, replicate, length-replicate}
+use lib.Seq.{length-take-le}
+use Rattle.session.specs.declared.Session.{Session}
+use Rattle.session.specs.Step.{Kept}
+
+pub record Running (s : Session) (t log out replies text : List ℕ) (n : ℕ) : Type 0 where
+  pub tables : length t ≡ 36864
+  pub words : length log ≡ 65536
+  pub numbers : length out ≡ 4160
+  pub buffer : length replies ≡ 65536
+  pub script : length text ≡ 65536
+  pub read : n ≤ 65536
+  pub kept : Kept s t log out
+
+-- a part of a part is inside the whole
+pub within : (k n : ℕ) (l : List ℕ) → k ≤ length (take n l) → n ≤ length l → k ≤ length l
+within k n l h i = omega (arith, length-take-le n l i)
+
+-- before the first read
+pub running : (s : Session) → s .made ≡ 0 →
+    Running s (replicate 36864 0) (replicate 65536 0) (replicate 4160 0) (replicate 65536 0) (replicate 65536 0) 0
+running s e =
+    let t = length-replicate {A = ℕ} 36864 0 in
+    let l = length-replicate {A = ℕ} 65536 0 in
+    let o = length-replicate {A = ℕ} 4160 0 in
+    record {
+      tables = t;
+      words = l;
+      numbers = o;
+      buffer = l;
+      script = l;
+      read = omega arith;
+      kept = record {
+        tables = omega arith;
+        log = omega arith;
+        out = omega arith;
+        inside = λ m. absurd (let z : ⊥ = omega arith in z);
+        sound = λ m. absurd (let z : ⊥ = omega arith in z);
+      };
+    }
