@@ -12,6 +12,7 @@
  *   out      32-bit numbers, the result buffer
  * Tables and log come back to every call as the last call left them. docs/LAYOUT.md describes both. Pointers are aligned for their type and not NULL,
  * even where a length is 0. The pieces, and `count`, do not overlap. Longer memory is taken, and what lies beyond the needed length is never changed.
+ * During a call nobody else changes what is lent: no other thread or process, and no signal handler. A call needs less than 16 KiB of stack.
  * Apart from that nothing is trusted: any numbers, any content. Every call first checks all tables and the log.
  *
  * Every function returns SOGVECT_DONE (0), or the number of the reason why it refused the call. Where several reasons are true it is the smallest.
@@ -60,6 +61,10 @@ extern "C" {
 #define SOGVECT_LOG_BYTES_MOST 65536
 #define SOGVECT_OUT_NUMBERS_MOST 4160
 
+/* Lengths for a script: the numbers of its run, and the least bytes of its reply buffer, which hold a longest reply. */
+#define SOGVECT_SCRIPT_RUN 7
+#define SOGVECT_SCRIPT_REPLIES_LEAST 49168
+
 /* Bytes of a block: a log names a block by its number times this. */
 #define SOGVECT_BLOCK_BYTES 16384
 
@@ -77,7 +82,7 @@ extern "C" {
 #define SOGVECT_NO_KIND 6        /* the kind is above 2 */
 #define SOGVECT_NO_LOG 7         /* the bytes are no log of a store of these six numbers */
 #define SOGVECT_NO_RECORD 8      /* the record is not in the store */
-#define SOGVECT_NOT_OPEN 9       /* write, erase or seal of a sealed record; fork of an open one */
+#define SOGVECT_WRONG_STATE 9    /* write, erase or seal of a sealed record; fork of an open one */
 #define SOGVECT_FORKED 10        /* delete of a record with a fork on it */
 #define SOGVECT_TABLE_FULL 11    /* as many records as there can be at one time */
 #define SOGVECT_NO_NUMBER 12     /* the last record number has been given */
@@ -165,6 +170,32 @@ uint32_t sogvect_log_compare(size_t arenas, size_t per, size_t pages, size_t rec
  * Refusals: 2, 3 (out too short), 7. */
 uint32_t sogvect_log_compact(size_t arenas, size_t per, size_t pages, size_t records, size_t turn, size_t words,
                              const uint8_t *log, size_t log_len, uint8_t *out, size_t out_len, size_t *count);
+
+/* Serves a script part by part, for a host that receives scripts from strangers. A script is a text of calls, one a line; the reply to each line is a line:
+ * `+` and the result's numbers, or `-` and the refusal (docs/RULES.md, section 10). A store line makes the store; run, tables, log and out hold it.
+ *
+ *   run       SOGVECT_SCRIPT_RUN numbers: what the script has between two parts. All 0 before the first part; what tables and log hold then is of no matter
+ *   tables, log, out   at least the lengths that are enough for every geometry
+ *   replies   at least SOGVECT_SCRIPT_REPLIES_LEAST bytes, with which each part is one line; 65,536 or more serve many lines a part
+ *
+ * It serves whole lines of text from *at on, while a longest reply fits in replies. The replies stand at the start of replies; *count becomes their
+ * bytes, *at the position of the next part. Each part serves at least one line. The script is served once *at is not below text_len:
+ *
+ *   static uint8_t replies[65536];
+ *   uint32_t run[SOGVECT_SCRIPT_RUN] = {0};
+ *   size_t at = 0, count;
+ *   while (at < text_len) {
+ *       if (sogvect_script(text, text_len, &at, run, SOGVECT_SCRIPT_RUN, tables, SOGVECT_TABLES_NUMBERS_MOST, log, SOGVECT_LOG_BYTES_MOST,
+ *                          out, SOGVECT_OUT_NUMBERS_MOST, replies, sizeof replies, &count) != SOGVECT_DONE)
+ *           break;
+ *       fwrite(replies, 1, count, stdout);
+ *   }
+ *
+ * A text that grows may be served as far as it is there, where it ends behind a line feed or is whole; a later text goes on with the same store.
+ * A part checks once what it is lent. A refused part changes nothing, *at and *count too. text overlaps nothing of the rest.
+ * Refusals: 2 (the run's numbers are outside the limits), 3 (run, tables, log, out or replies is shorter than said above), 4. */
+uint32_t sogvect_script(const uint8_t *text, size_t text_len, size_t *at, uint32_t *run, size_t run_len, uint32_t *tables, size_t tables_len,
+                        uint8_t *log, size_t log_len, uint32_t *out, size_t out_len, uint8_t *replies, size_t replies_len, size_t *count);
 
 #ifdef __cplusplus
 }

@@ -1,4 +1,4 @@
-/* Makes a store through include/sogvect.h, makes every call, checks the answers and prints `ok`. */
+/* Makes a store through include/sogvect.h, makes every call, serves a script, checks the answers and prints `ok`. */
 #include <stdio.h>
 #include <stdlib.h>
 #include <string.h>
@@ -82,7 +82,7 @@ static void refusals(void) {
     REFUSES(sogvect_write(STORE, 2, 5, 0, &count), SOGVECT_NO_PAGE);
     REFUSES(sogvect_write(STORE, 2, 4, 3, &count), SOGVECT_NO_KIND);
     REFUSES(sogvect_delete(STORE, 9, &count), SOGVECT_NO_RECORD);
-    REFUSES(sogvect_fork(STORE, 2, &count), SOGVECT_NOT_OPEN);
+    REFUSES(sogvect_fork(STORE, 2, &count), SOGVECT_WRONG_STATE);
     EXPECT(memcmp(kept, tables, sizeof tables) == 0);
 }
 
@@ -102,6 +102,28 @@ static void logs(void) {
     EXPECT(memcmp(anew, none, sizeof none) == 0);
 }
 
+static void script(void) {
+    static uint32_t its_tables[SOGVECT_TABLES_NUMBERS_MOST], its_out[SOGVECT_OUT_NUMBERS_MOST];
+    static uint8_t its_log[SOGVECT_LOG_BYTES_MOST], replies[65536];
+    const char *text = "store 2 3 5 4 7 20\nB\nW 1 4 0\nno call\nL";
+    const char *said = "+\n+ 1\n+ 0\n- 1\n+ 1 2 3 3\n";
+    uint32_t run[SOGVECT_SCRIPT_RUN] = {0};
+    size_t at = 0, bytes = 0;
+#define PART(tables_len) \
+    sogvect_script((const uint8_t *)text, strlen(text), &at, run, SOGVECT_SCRIPT_RUN, its_tables, tables_len, its_log, sizeof its_log, its_out, \
+                   SOGVECT_OUT_NUMBERS_MOST, replies, sizeof replies, &bytes)
+#define PART_REFUSES(tables_len, number) EXPECT(PART(tables_len) == (number) && at == 41 && bytes == strlen(said))
+    EXPECT(PART(SOGVECT_TABLES_NUMBERS_MOST) == SOGVECT_DONE);
+    EXPECT(at >= strlen(text) && bytes == strlen(said) && memcmp(replies, said, bytes) == 0);
+    EXPECT(run[0] == 1 && run[1] == 2 && run[6] == 20);
+    at = 41;
+    PART_REFUSES(SOGVECT_TABLES_NUMBERS_MOST - 1, SOGVECT_TOO_SHORT);
+    its_tables[9] = 9;
+    PART_REFUSES(SOGVECT_TABLES_NUMBERS_MOST, SOGVECT_NOT_SOUND);
+    run[1] = 17;
+    PART_REFUSES(SOGVECT_TABLES_NUMBERS_MOST, SOGVECT_OUTSIDE_LIMITS);
+}
+
 int main(void) {
     EXPECT(SOGVECT_TABLES_NUMBERS(SOGVECT_RECORDS_MOST, SOGVECT_BLOCKS_MOST) == SOGVECT_TABLES_NUMBERS_MOST);
     EXPECT(SOGVECT_LOG_BYTES(SOGVECT_WORDS_MOST) == SOGVECT_LOG_BYTES_MOST);
@@ -109,6 +131,7 @@ int main(void) {
     every_call();
     refusals();
     logs();
+    script();
     puts("ok");
     return 0;
 }

@@ -23,12 +23,16 @@
 //! assert_eq!(store.free_list(g)?, [(2, 2)]);
 //! # Ok::<(), sogvect::Refusal>(())
 //! ```
+//!
+//! A whole script of calls as text, replies as text, is served by [`Script`].
 #![warn(missing_docs)]
 
 pub mod raw;
 mod refusal;
+mod script;
 
 pub use refusal::Refusal;
+pub use script::{script_part, Part, Script, SCRIPT_LOG, SCRIPT_OUT, SCRIPT_REPLIES, SCRIPT_RUN, SCRIPT_TABLES};
 
 /// The kind of a write to data.
 pub const DATA: u32 = 0;

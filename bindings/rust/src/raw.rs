@@ -110,4 +110,22 @@ extern "C" {
         out_len: usize,
         count: *mut usize,
     ) -> u32;
+
+    /// A part of a script served.
+    pub fn sogvect_script(
+        text: *const u8,
+        text_len: usize,
+        at: *mut usize,
+        run: *mut u32,
+        run_len: usize,
+        tables: *mut u32,
+        tables_len: usize,
+        log: *mut u8,
+        log_len: usize,
+        out: *mut u32,
+        out_len: usize,
+        replies: *mut u8,
+        replies_len: usize,
+        count: *mut usize,
+    ) -> u32;
 }

@@ -23,7 +23,7 @@ impl Refusal {
     /// 8: a record that is not in the store.
     pub const NO_RECORD: Refusal = Refusal(8);
     /// 9: a write, an erase or a seal of a sealed record, or a fork of an open one.
-    pub const NOT_OPEN: Refusal = Refusal(9);
+    pub const WRONG_STATE: Refusal = Refusal(9);
     /// 10: a delete of a record with a fork on it.
     pub const FORKED: Refusal = Refusal(10);
     /// 11: a full record table.

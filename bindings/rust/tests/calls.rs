@@ -1,9 +1,9 @@
-//! Every call on valid memory: the listing of the scope document, longer scripts, and arguments that would show a wrong declaration.
+//! Every call on valid memory: the listing (section 11 of the rules), longer scripts, and arguments that would show a wrong declaration.
 mod common;
 use common::{bare, every_call, numbers, refused, small, Call, Owned, MARK, MARKS, SMALL};
 use sogvect::{Geometry, Memory, Refusal, Written, DATA};
 
-/// The listing of the scope document, with typed results.
+/// The listing (section 11 of the rules), with typed results.
 #[test]
 fn listing() {
     let g = Geometry { arenas: 1, per: 4, pages: 2, records: 4, turn: 8, words: 10 };
@@ -250,7 +250,7 @@ fn sentences() {
         Refusal::NO_KIND,
         Refusal::NO_LOG,
         Refusal::NO_RECORD,
-        Refusal::NOT_OPEN,
+        Refusal::WRONG_STATE,
         Refusal::FORKED,
         Refusal::TABLE_FULL,
         Refusal::NO_NUMBER,

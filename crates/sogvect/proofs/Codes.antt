@@ -17,6 +17,7 @@ use Rattle.model.specs.Calls.{result}
 use Rattle.model.specs.Layout.{stateOf}
 use Rattle.model.specs.Memory.{Memory, short?, allConditions, reply, makeReply}
 use Rattle.model.proofs.Demands.{all-ordered}
+use Rattle.serving.specs.Host.{Lent, hostConditions, hostPart, hostReply}
 use Rattle.sogvect.specs.Coded.{codeOf, verdictCode}
 
 module _ (cs : List Condition) (l : List ℕ) (ordered : Ordered 1 cs) where
@@ -41,6 +42,13 @@ done-iff g M c = code-0-iff (allConditions g M c) (result g (stateOf g (M .table
 pub make-iff : (g : Geometry) (M : Memory) → (codeOf (makeReply g M) ≡ 0) ↔ (makeReply g M ≡ accepted [])
 unfolding makeReply
 make-iff g M = code-0-iff ((2, not (fits g)) ∷ (3, short? g M) ∷ []) [] (omega arith, (omega arith, tt))
+
+-- a part of a script
+pub script-iff : (text : List ℕ) (at : ℕ) (H : Lent) → (codeOf (hostReply text at H) ≡ 0) ↔ (hostReply text at H ≡ accepted (hostPart text at H .at ∷
+    length (hostPart text at H .replies) ∷ []))
+unfolding hostReply hostConditions
+script-iff text at H =
+    code-0-iff (hostConditions H) (hostPart text at H .at ∷ length (hostPart text at H .replies) ∷ []) (omega arith, (omega arith, (omega arith, tt)))
 
 -- the log tools
 module _ (g : Geometry) (log : List ℕ) where

@@ -14,7 +14,7 @@ use Rattle.answer.proofs.Decided.{decide-accepted}
 use Rattle.geometry.specs.declared.Geometry.{Geometry}
 use Rattle.geometry.specs.Limits.{blocks}
 use Rattle.log.specs.Marks.{heldIn, heldBlocks}
-use Rattle.log.specs.Tool.{marksOf, heldAtEnd, readConditions, readReply, readOut, Verdict, verdictOf, compactReplyOf}
+use Rattle.log.specs.Tool.{marksOf, heldAtEnd, readConditions, readReply, readOut, Compared, verdictOf, compactReplyOf}
 use Rattle.log.specs.declared.tool.Compaction.{Compaction}
 use Rattle.log.specs.declared.tool.Compaction.the-variants as compaction
 use Rattle.log.specs.declared.tool.Comparison.{Comparison}
@@ -22,9 +22,13 @@ use Rattle.log.specs.declared.tool.Comparison.the-variants as comparison
 use Rattle.log.proofs.Tools.{pass-length}
 use Rattle.model.specs.Memory.{Memory, reply, after}
 use Rattle.model.specs.declared.Call.{Call}
-use Rattle.store.proofs.Results.{accepted-short, number-of}
+use Rattle.model.proofs.ResultSize.{accepted-short}
+use Rattle.store.proofs.Results.{number-of}
 use Rattle.store.proofs.Lengths.{out-length}
-use Rattle.sogvect.specs.Coded.{codeOf, countAfter, answerCode, answerCount, verdictCode, alikeAfter, wordsAfter}
+use Rattle.serving.specs.Host.{Lent, hostReply, hostedReply, Hosts}
+use Rattle.serving.specs.declared.host.Hosted.{Hosted}
+use Rattle.serving.specs.declared.host.Hosted.the-variants as hosted
+use Rattle.sogvect.specs.Coded.{codeOf, countAfter, answerCode, answerCount, verdictCode, alikeAfter, wordsAfter, numberAfter, Scripted}
 
 -- ── the arms of `coded` and `judge` ──
 
@@ -116,7 +120,7 @@ module _ (g : Geometry) (log out : List ℕ) where
 
 -- ── a comparison ──
 
-pub compared : (c : Comparison) (v : Verdict) (old r n : ℕ) → verdictOf c ≡ v → Judged c old r n → (r ≡ verdictCode v) × (n ≡ alikeAfter v old)
+pub compared : (c : Comparison) (v : Compared) (old r n : ℕ) → verdictOf c ≡ v → Judged c old r n → (r ≡ verdictCode v) × (n ≡ alikeAfter v old)
 compared c v old r n e p = (p .0 ∙ ap verdictCode e, p .1 ∙ ap (λ w. alikeAfter w old) e)
 
 -- ── a log compressed ──
@@ -136,3 +140,33 @@ refused-compacted c k old e = (sym (ap (λ d. codeOf (compactReplyOf d)) e), sym
 pub was-compacted : (c : Compaction) (R : Reply) (old r n : ℕ) (out left : List ℕ) → (compactReplyOf c ≡ R) × (out ≡ left) → Compacted (compactReplyOf c) old r n →
     (r ≡ codeOf R) × ((n ≡ wordsAfter R old) × (out ≡ left))
 was-compacted c R old r n out left e p = (p .0 ∙ ap codeOf (e .0), (p .1 ∙ ap (λ w. wordsAfter w old) (e .0), e .1))
+
+-- ── a part of a script ──
+
+-- the code r of a part, the position behind it and the number of its bytes
+abbrev pub Parted : Reply → ℕ → ℕ → ℕ → ℕ → ℕ → Type 0
+Parted R at count r end n = (r ≡ codeOf R) × ((end ≡ numberAfter 0 R at) × (n ≡ numberAfter 1 R count))
+
+pub part-parted : (h : Hosted) (end n at count : ℕ) → h ≡ hosted.Part end n → Parted (hostedReply h) at count 0 end n
+unfolding hostedReply codeOf numberAfter
+part-parted h end n at count e = (
+  sym (ap (λ d. codeOf (hostedReply d)) e),
+  (sym (ap (λ d. numberAfter 0 (hostedReply d) at) e), sym (ap (λ d. numberAfter 1 (hostedReply d) count) e)),
+)
+
+pub refused-parted : (h : Hosted) (k at count : ℕ) → h ≡ hosted.Refused k → Parted (hostedReply h) at count k at count
+unfolding hostedReply codeOf numberAfter
+refused-parted h k at count e = (
+  sym (ap (λ d. codeOf (hostedReply d)) e),
+  (sym (ap (λ d. numberAfter 0 (hostedReply d) at) e), sym (ap (λ d. numberAfter 1 (hostedReply d) count) e)),
+)
+
+pub scripted : (text : List ℕ) (at count : ℕ) (H : Lent) (h : Hosted) (left : Lent) (r end n : ℕ) → Hosts text at H h left
+    → Parted (hostedReply h) at count r end n → Scripted text at count H r end n left
+scripted text at count H h left r end n v p =
+    record {
+      code = p .0 ∙ ap codeOf (v .reply);
+      place = p .1 .0 ∙ ap (λ w. numberAfter 0 w at) (v .reply);
+      bytes = p .1 .1 ∙ ap (λ w. numberAfter 1 w count) (v .reply);
+      leaves = v .leaves;
+    }

@@ -2,15 +2,17 @@
 -- refusal leaves as it was. A comparison has a code too, and a number that says whether the logs are alike.
 use mathlib.Core.Path.{_≡_}
 use mathlib.Core.Bool.{cond}
+use mathlib.Core.List.{List}
 use Prim.Native.Nat.{ℕ}
 use lib.ListN.{length, getD}
 use Rattle.answer.specs.declared.Answer.{Answer}
 use Rattle.answer.specs.declared.Answer.the-variants.{Done, Refused}
 use Rattle.answer.specs.Reply.{Reply, accepted, refused}
 use Rattle.geometry.specs.declared.Geometry.{Geometry}
-use Rattle.log.specs.Tool.{Verdict, judged, turnedAway}
+use Rattle.log.specs.Tool.{Compared, judged, turnedAway}
 use Rattle.model.specs.declared.Call.{Call}
 use Rattle.model.specs.Memory.{Memory, reply, after}
+use Rattle.serving.specs.Host.{Lent, hostReply, hostLeft}
 
 -- ── a call ──
 
@@ -41,12 +43,12 @@ answerCount (Refused k) old = old
 
 -- ── a comparison ──
 
-unfoldable pub verdictCode : Verdict → ℕ
+unfoldable pub verdictCode : Compared → ℕ
 verdictCode (judged t) = 0
 verdictCode (turnedAway n) = n
 
 -- 1 for logs that are alike, 0 for others
-unfoldable pub alikeAfter : Verdict → ℕ → ℕ
+unfoldable pub alikeAfter : Compared → ℕ → ℕ
 alikeAfter (judged t) old = cond t 1 0
 alikeAfter (turnedAway n) old = old
 
@@ -56,3 +58,17 @@ alikeAfter (turnedAway n) old = old
 unfoldable pub wordsAfter : Reply → ℕ → ℕ
 wordsAfter (accepted l) old = getD l 0 0
 wordsAfter (refused n) old = old
+
+-- ── a part of a script ──
+
+-- one of the reply's numbers: the position behind the part, or how many bytes of replies it has
+unfoldable pub numberAfter : ℕ → Reply → ℕ → ℕ
+numberAfter i (accepted l) old = getD l i 0
+numberAfter i (refused n) old = old
+
+-- the promise of a part of a text for a host that lends H: the code r, the position and the count, which were `at` and `count`, and what is left
+pub record Scripted (text : List ℕ) (at count : ℕ) (H : Lent) (r end n : ℕ) (left : Lent) : Type 0 where
+  pub code : r ≡ codeOf (hostReply text at H)
+  pub place : end ≡ numberAfter 0 (hostReply text at H) at
+  pub bytes : n ≡ numberAfter 1 (hostReply text at H) count
+  pub leaves : left ≡ hostLeft text at H

@@ -7,6 +7,7 @@ ghost use Rattle.model.specs.Memory.{makeReply, makeAfter, lent};
 ghost use Rattle.sogvect.specs.Coded.{codeOf, countAfter, answerCode, answerCount, verdictCode, alikeAfter, wordsAfter};
 
 pub mod letters;
+pub mod scripts;
 
 use answer::Answer;
 use log::tool::Compaction;

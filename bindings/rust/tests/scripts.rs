@@ -1,0 +1,199 @@
+//! Scripts in memory through the library: the replies are the stored ones, however long the buffer is and however the text arrives, and what is lent
+//! is refused in order and left as it was.
+mod common;
+
+use common::{Random, MARK, MARKS};
+use sogvect::{script_part, Memory, Part, Refusal, Script, SCRIPT_LOG, SCRIPT_OUT, SCRIPT_REPLIES, SCRIPT_RUN, SCRIPT_TABLES};
+use std::fs::{read, read_to_string};
+
+/// The scripts that the gate runs, with the replies that it expects.
+fn stored() -> Vec<(Vec<u8>, Vec<u8>)> {
+    let folder = concat!(env!("CARGO_MANIFEST_DIR"), "/../../crates/vectors");
+    let mut all: Vec<(Vec<u8>, Vec<u8>)> = Vec::new();
+    for line in read_to_string(format!("{folder}/stdout")).expect("the expected replies").lines() {
+        if line.ends_with(".script") {
+            let mut text = read(format!("{folder}/data/{line}")).expect("a script");
+            // what the runner reads
+            text.truncate(65_536);
+            all.push((text, Vec::new()));
+        } else {
+            all.last_mut().expect("a name comes first").1.extend(line.bytes().chain([b'\n']));
+        }
+    }
+    all
+}
+
+fn served(mut script: Script, text: &[u8]) -> Vec<u8> {
+    let (mut at, mut replies) = (0, Vec::new());
+    while let Some(part) = script.part(text, &mut at) {
+        replies.extend_from_slice(part);
+    }
+    replies
+}
+
+#[test]
+fn replies_are_the_stored_ones() {
+    let all = stored();
+    assert!(all.len() > 10);
+    for (text, replies) in &all {
+        assert_eq!(&served(Script::new(), text), replies);
+        assert_eq!(&served(Script::with_buffer(0), text), replies);
+        assert_eq!(&served(Script::with_buffer(1 << 20), text), replies);
+    }
+}
+
+#[test]
+fn a_text_may_arrive_line_by_line() {
+    for (text, replies) in &stored() {
+        let (mut script, mut at, mut got, mut random) = (Script::new(), 0, Vec::new(), Random::new(7));
+        let mut there = 0;
+        while there < text.len() {
+            there += 1 + random.below(200) as usize;
+            while there < text.len() && text[there - 1] != b'\n' {
+                there += 1;
+            }
+            there = there.min(text.len());
+            while let Some(part) = script.part(&text[..there], &mut at) {
+                got.extend_from_slice(part);
+            }
+        }
+        assert_eq!(&got, replies);
+    }
+}
+
+/// All that a host lends.
+#[derive(Clone, Debug, PartialEq, Eq)]
+struct Lent {
+    run: Vec<u32>,
+    tables: Vec<u32>,
+    log: Vec<u8>,
+    out: Vec<u32>,
+    replies: Vec<u8>,
+}
+
+impl Lent {
+    /// Memory full of marks, of the least lengths but for the reply buffer, and a run of zeros.
+    fn new() -> Lent {
+        Lent {
+            run: vec![0; SCRIPT_RUN],
+            tables: vec![MARKS; SCRIPT_TABLES],
+            log: vec![MARK; SCRIPT_LOG],
+            out: vec![MARKS; SCRIPT_OUT],
+            replies: vec![MARK; REPLIES],
+        }
+    }
+
+    fn part(&mut self, text: &[u8], at: usize) -> Result<Part, Refusal> {
+        let mut memory = Memory { tables: &mut self.tables, log: &mut self.log, out: &mut self.out };
+        script_part(text, at, &mut self.run, &mut memory, &mut self.replies)
+    }
+
+    /// The part is refused, and nothing is changed.
+    fn refuses(mut self, refusal: Refusal) {
+        let before = self.clone();
+        assert_eq!(self.part(b"L\n", 0), Err(refusal));
+        assert_eq!(self, before);
+    }
+}
+
+/// A reply buffer for more than one line a part.
+const REPLIES: usize = 65_536;
+
+const BEGINNING: &[u8] = b"store 1 4 2 4 8 10\nB\nW 1 0 0\n";
+
+/// A store with a record and a block, as a first part leaves it.
+fn begun() -> Lent {
+    let mut lent = Lent::new();
+    assert_eq!(lent.part(BEGINNING, 0), Ok(Part { at: BEGINNING.len(), count: 10 }));
+    assert_eq!(&lent.replies[..10], b"+\n+ 1\n+ 0\n");
+    assert!(lent.replies[10..].iter().all(|&b| b == MARK));
+    assert_eq!(lent.run, [1, 1, 4, 2, 4, 8, 10]);
+    lent
+}
+
+#[test]
+fn a_second_part_goes_on() {
+    let mut lent = begun();
+    assert_eq!(lent.part(b"R 1 0\nL", 0), Ok(Part { at: 8, count: 10 }));
+    assert_eq!(&lent.replies[..10], b"+ 0\n+ 1 3\n");
+}
+
+#[test]
+fn the_least_buffer_has_one_line_a_part() {
+    let mut lent = Lent::new();
+    lent.replies.truncate(SCRIPT_REPLIES);
+    for (at, end, count) in [(0, 19, 2), (19, 21, 4), (21, 29, 4)] {
+        assert_eq!(lent.part(BEGINNING, at), Ok(Part { at: end, count }));
+    }
+    assert_eq!(&lent.replies[..4], b"+ 0\n");
+}
+
+#[test]
+fn nothing_is_served_behind_the_end() {
+    let mut lent = begun();
+    let before = lent.clone();
+    assert_eq!(lent.part(BEGINNING, BEGINNING.len()), Ok(Part { at: BEGINNING.len(), count: 0 }));
+    assert_eq!(lent.part(BEGINNING, usize::MAX), Ok(Part { at: usize::MAX, count: 0 }));
+    assert_eq!(lent, before);
+}
+
+#[test]
+fn foreign_numbers_are_refused_by_2() {
+    for (place, number) in [(1, 0), (1, 17), (2, 1025), (3, 257), (4, 65), (5, 4097), (6, 9), (6, 8193), (6, u32::MAX)] {
+        let mut lent = begun();
+        lent.run[place] = number;
+        // 2 comes before 3 and 4
+        lent.tables[9] = MARKS;
+        lent.replies.truncate(9);
+        lent.refuses(Refusal::OUTSIDE_LIMITS);
+    }
+}
+
+#[test]
+fn short_memory_is_refused_by_3() {
+    let short: [fn(&mut Lent); 5] = [
+        |l| l.run.truncate(SCRIPT_RUN - 1),
+        |l| l.tables.truncate(SCRIPT_TABLES - 1),
+        |l| l.log.truncate(SCRIPT_LOG - 1),
+        |l| l.out.truncate(SCRIPT_OUT - 1),
+        |l| l.replies.truncate(SCRIPT_REPLIES - 1),
+    ];
+    for cut in short {
+        let mut fresh = Lent::new();
+        cut(&mut fresh);
+        fresh.refuses(Refusal::TOO_SHORT);
+    }
+    for cut in &short[1..] {
+        let mut lent = begun();
+        // 3 comes before 4
+        lent.tables[9] = MARKS;
+        cut(&mut lent);
+        lent.refuses(Refusal::TOO_SHORT);
+    }
+}
+
+#[test]
+fn damaged_memory_is_refused_by_4() {
+    for place in [0, 5, 6, 8, 9, 16] {
+        let mut lent = begun();
+        lent.tables[place] ^= 1 << 20;
+        lent.refuses(Refusal::NOT_SOUND);
+    }
+    let mut lent = begun();
+    lent.log[7] = 2;
+    lent.refuses(Refusal::NOT_SOUND);
+    let mut lent = begun();
+    lent.run[6] = 11;
+    lent.refuses(Refusal::NOT_SOUND);
+}
+
+#[test]
+fn before_the_first_store_line_tables_are_of_no_matter() {
+    let mut lent = Lent::new();
+    lent.run = vec![0, u32::MAX, 0, 7, MARKS, 1, 2];
+    let before = lent.clone();
+    assert_eq!(lent.part(b"B\n", 0), Ok(Part { at: 2, count: 4 }));
+    assert_eq!(&lent.replies[..4], b"- 4\n");
+    lent.replies[..4].fill(MARK);
+    assert_eq!(lent, before);
+}
