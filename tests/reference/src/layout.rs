@@ -1,5 +1,5 @@
 //! The lent memory, as docs/LAYOUT.md describes it: whether it is sound, the store it stands for, and what a call leaves in it.
-//! Soundness is decided the crude way, by the paper's sentences: every pair of records, every page of every record, sets of blocks.
+//! Soundness is decided the crude way, by the rules' sentences: every pair of records, every page of every record, sets of blocks.
 use crate::damaged::Answers;
 use crate::store::{Call, Geometry, Line, Record, Reply, Store};
 use std::collections::{BTreeMap, BTreeSet};
@@ -362,9 +362,12 @@ fn call(six: &[u64; 6], memory: &mut Memory, lent: [usize; 3], c: Call) -> Reply
 /// The slot that a record stands in.
 type Places = BTreeMap<u64, usize>;
 
-/// A new record takes the first empty slot.
+/// A new record takes the slot of its number less one, round the largest power of two that is no more than the slots, if it is empty; else the first
+/// empty one.
 fn places_after(tables: &Tables, store: &Store) -> Places {
-    let vacant = (0..).find(|s| !tables.rows.contains_key(s)).unwrap();
+    let power = (0..7).map(|k| 1 << k).filter(|&p| p <= tables.g.records).max().unwrap();
+    let own = ((store.last.max(1) - 1) % power) as usize;
+    let vacant = std::iter::once(own).chain(0..).find(|s| !tables.rows.contains_key(s)).unwrap();
     store.numbers().into_iter().map(|n| (n, tables.slot(n).unwrap_or(vacant))).collect()
 }
 

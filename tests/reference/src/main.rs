@@ -1,4 +1,4 @@
-//! An implementation of the scope document written from the paper, to compare the proved runner with.
+//! An implementation written from the rules alone (docs/RULES.md), to compare the proved runner with.
 //!   reference run                       replies to the script on standard input
 //!   reference script SEED               a script made from a seed
 //!   reference damaged                   the replies to calls on damaged memory, as this implementation predicts them

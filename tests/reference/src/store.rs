@@ -1,4 +1,4 @@
-//! The store of the scope document, the crude way: a block is freed when it leaves the last page of the last record.
+//! The store of the rules, the crude way: a block is freed when it leaves the last page of the last record.
 //! Deadlists are kept only for the order in which a delete gives its blocks, and checked against the crude walk.
 use std::collections::BTreeMap;
 
