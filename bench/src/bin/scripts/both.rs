@@ -4,8 +4,8 @@ use bench::clock::seconds;
 use bench::script;
 use bench::store::{Geometry, Store};
 
-/// `measure_script` stops once less than this is free.
-const FREE: usize = 65_536;
+/// `measure_script` stops once less than this, a longest reply, is free.
+const FREE: usize = 49_168;
 
 pub struct Both {
     store: Box<Store>,
