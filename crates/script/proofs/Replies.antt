@@ -10,7 +10,7 @@ use Rattle.answer.specs.Reply.{Reply, accepted, refused}
 use Rattle.script.specs.Decimal.{decimal, spaced}
 use Rattle.script.specs.Lines.{linesOf, ended, NoFeed, NoFeeds}
 use Rattle.script.specs.Parse.{isDigit}
-use Rattle.script.specs.ReplyText.{replyText, begins, joined, insideRead, numbersRead, gives, refuses, replyRead, replyLine, replyLines, replyTexts}
+use Rattle.script.specs.ReplyText.{replyText, begins, withFirst, insideRead, numbersRead, gives, refuses, replyRead, replyLine, replyLines, replyTexts}
 use Rattle.script.proofs.Decimals.{decimal-one}
 use Rattle.script.proofs.LinesFacts.{lines-ended}
 use Rattle.script.proofs.OnePass.{no-feed-spaced}
@@ -50,7 +50,7 @@ inside-spaced (n ∷ ns) v =
     let rest : List ℕ = spaced ns ++ (10 ∷ []) in
     let d = decimal-means n in
     rw (append-assoc (decimal n) (spaced ns) (10 ∷ []), begins-spaced n ns)
-    (ap (joined v) (inside-digits (decimal n) rest 0 (d .0) ∙ ap (λ (w : ℕ). insideRead w rest) (d .1) ∙ inside-spaced ns n))
+    (ap (withFirst v) (inside-digits (decimal n) rest 0 (d .0) ∙ ap (λ (w : ℕ). insideRead w rest) (d .1) ∙ inside-spaced ns n))
 
 numbers-back : (ns : List ℕ) → numbersRead (spaced ns ++ (10 ∷ [])) ≡ some ns
 unfolding numbersRead spaced

@@ -39,15 +39,15 @@ abbrev pub ends : ℕ → List ℕ → Bool
 ends b [] = eqb b 10
 ends b (c ∷ l) = false
 
-abbrev pub joined : ℕ → Option (List ℕ) → Option (List ℕ)
-joined n none = none
-joined n (some ns) = some (n ∷ ns)
+abbrev pub withFirst : ℕ → Option (List ℕ) → Option (List ℕ)
+withFirst n none = none
+withFirst n (some ns) = some (n ∷ ns)
 
 -- from inside a number on, of which v is read: its other digits; then a single space and a number, or the end
 unfoldable pub insideRead : ℕ → List ℕ → Option (List ℕ)
 insideRead v [] = none
 insideRead v (b ∷ l) =
-    cond (isDigit b) (insideRead (v * 10 + (b - 48)) l) (cond (eqb b 32 && begins l) (joined v (insideRead 0 l)) (cond (ends b l) (some (v ∷ [])) none))
+    cond (isDigit b) (insideRead (v * 10 + (b - 48)) l) (cond (eqb b 32 && begins l) (withFirst v (insideRead 0 l)) (cond (ends b l) (some (v ∷ [])) none))
 
 -- the numbers behind a sign
 unfoldable pub numbersRead : List ℕ → Option (List ℕ)

@@ -31,7 +31,7 @@ use Rattle.session.specs.Step.{geometryIn, startedBy, stepSession, Kept}
 use Rattle.serving.specs.declared.Served.{Served}
 use Rattle.serving.specs.declared.host.Hosted.the-variants as answered
 use Rattle.serving.specs.Part.{Part, begun, longest, servedLine, goesOn, servedMost, served, Serves}
-use Rattle.serving.specs.Host.{Lent, sessionOf, runOf, tooShort, hostConditions, hostPart, hostReply, hostLeft, hostedReply, Hosts, Narrow}
+use Rattle.serving.specs.Host.{Lent, sessionOf, runOf, lentShort, hostConditions, hostPart, hostReply, hostLeft, hostedReply, Hosts, Narrow}
 
 -- ── the numbers of a session ──
 
@@ -119,8 +119,8 @@ pub record Long (H : Lent) : Type 0 where
   pub log : 65536 ≤ length (H .memory .log)
   pub out : 4160 ≤ length (H .memory .out)
 
-pub long : (H : Lent) → tooShort H ≡ false → Long H
-unfolding tooShort
+pub long : (H : Lent) → lentShort H ≡ false → Long H
+unfolding lentShort
 long H e =
     let a = or-no _ _ e in
     let b = or-no _ _ (a .1) in
@@ -134,24 +134,24 @@ long H e =
     }
 
 module _ (H : Lent) where
-  pub run-short : length (H .run) < 7 → true ≡ tooShort H
-  unfolding tooShort
+  pub run-short : length (H .run) < 7 → true ≡ lentShort H
+  unfolding lentShort
   run-short h = rw (lt-ltb (length (H .run)) 7 h)
 
   module _ (run : 7 ≤ length (H .run)) where
-    pub tables-short : length (H .memory .tables) < 36864 → true ≡ tooShort H
-    unfolding tooShort
+    pub tables-short : length (H .memory .tables) < 36864 → true ≡ lentShort H
+    unfolding lentShort
     tables-short h = rw (le-ltb (length (H .run)) 7 run, lt-ltb (length (H .memory .tables)) 36864 h)
 
     module _ (tables : 36864 ≤ length (H .memory .tables)) where
-      pub log-short : length (H .memory .log) < 65536 → true ≡ tooShort H
-      unfolding tooShort
+      pub log-short : length (H .memory .log) < 65536 → true ≡ lentShort H
+      unfolding lentShort
       log-short h =
           rw (le-ltb (length (H .run)) 7 run, le-ltb (length (H .memory .tables)) 36864 tables, lt-ltb (length (H .memory .log)) 65536 h)
 
       module _ (log : 65536 ≤ length (H .memory .log)) where
-        pub out-short : length (H .memory .out) < 4160 → true ≡ tooShort H
-        unfolding tooShort
+        pub out-short : length (H .memory .out) < 4160 → true ≡ lentShort H
+        unfolding lentShort
         out-short h =
             rw (
               le-ltb (length (H .run)) 7 run,
@@ -160,8 +160,8 @@ module _ (H : Lent) where
               lt-ltb (length (H .memory .out)) 4160 h,
             )
 
-        pub replies-short : 4160 ≤ length (H .memory .out) → ltb (length (H .replies)) longest ≡ tooShort H
-        unfolding tooShort
+        pub replies-short : 4160 ≤ length (H .memory .out) → ltb (length (H .replies)) longest ≡ lentShort H
+        unfolding lentShort
         replies-short h =
             rw (
               le-ltb (length (H .run)) 7 run,
@@ -198,7 +198,7 @@ module _ (text : List ℕ) (at : ℕ) (H : Lent) (s : Session) (is : s ≡ sessi
   unsound? = made? s && not (sound? (s .g) (H .memory .tables) (H .memory .log))
 
   abbrev conditions : List Condition
-  conditions = (2, outside?) ∷ (3, tooShort H) ∷ (4, unsound?) ∷ []
+  conditions = (2, outside?) ∷ (3, lentShort H) ∷ (4, unsound?) ∷ []
 
   abbrev given : List ℕ
   given = hostPart text at H .at ∷ length (hostPart text at H .replies) ∷ []
@@ -216,7 +216,7 @@ module _ (text : List ℕ) (at : ℕ) (H : Lent) (s : Session) (is : s ≡ sessi
       ap
       (λ (k : Session).
       decide
-      ((2, made? k && not (fits (k .g))) ∷ (3, tooShort H) ∷ (4, made? k && not (sound? (k .g) (H .memory .tables) (H .memory .log))) ∷ [])
+      ((2, made? k && not (fits (k .g))) ∷ (3, lentShort H) ∷ (4, made? k && not (sound? (k .g) (H .memory .tables) (H .memory .log))) ∷ [])
       given)
       (sym is)
 
@@ -229,13 +229,13 @@ module _ (text : List ℕ) (at : ℕ) (H : Lent) (s : Session) (is : s ≡ sessi
   pub by-2 : outside? ≡ true → Hosts text at H (answered.Refused 2) H
   by-2 a = refuses 2 (rw a)
 
-  pub by-3 : outside? ≡ false → tooShort H ≡ true → Hosts text at H (answered.Refused 3) H
+  pub by-3 : outside? ≡ false → lentShort H ≡ true → Hosts text at H (answered.Refused 3) H
   by-3 a b = refuses 3 (rw (a, b))
 
-  pub by-4 : outside? ≡ false → tooShort H ≡ false → unsound? ≡ true → Hosts text at H (answered.Refused 4) H
+  pub by-4 : outside? ≡ false → lentShort H ≡ false → unsound? ≡ true → Hosts text at H (answered.Refused 4) H
   by-4 a b d = refuses 4 (rw (a, b, d))
 
-  module _ (a : outside? ≡ false) (b : tooShort H ≡ false) (d : unsound? ≡ false) where
+  module _ (a : outside? ≡ false) (b : lentShort H ≡ false) (d : unsound? ≡ false) where
     pub kept : Kept s (H .memory .tables) (H .memory .log) (H .memory .out)
     kept =
         let l = long H b in

@@ -22,7 +22,7 @@ use Rattle.session.specs.declared.Session.{Session}
 use Rattle.ledger.specs.Transcript.{Runner, without-store, with-store, printed, left}
 use Rattle.ledger.proofs.Parts.{parts}
 use Rattle.serving.specs.Part.{Part, begun, longest}
-use Rattle.serving.specs.Host.{Lent, sessionOf, runOf, tooShort, hostConditions, hostPart, hostReply, hostLeft}
+use Rattle.serving.specs.Host.{Lent, sessionOf, runOf, lentShort, hostConditions, hostPart, hostReply, hostLeft}
 use Rattle.serving.specs.Transcribed.{Ample, hosted, HostGets}
 use Rattle.serving.proofs.TranscriptLine.{Stands}
 use Rattle.serving.proofs.TranscriptParts.{Follows, served-follows, gets-on}
@@ -39,8 +39,8 @@ or-false : (p q : Bool) → (p || q) ≡ false → (p ≡ false) × (q ≡ false
 or-false true q e = (e, absurd (true≢false e))
 or-false false q e = (refl, e)
 
-long-lends : (H : Lent) → tooShort H ≡ false → Lends H
-unfolding tooShort
+long-lends : (H : Lent) → lentShort H ≡ false → Lends H
+unfolding lentShort
 long-lends H e =
     let a = or-false (ltb (length (H .run)) 7) _ e in
     let b = or-false (ltb (length (H .memory .tables)) 36864) _ (a .1) in
@@ -56,8 +56,8 @@ long-lends H e =
       replies = ltb-false (length (H .replies)) longest (d .1);
     }
 
-lends-long : (H : Lent) → Lends H → tooShort H ≡ false
-unfolding tooShort
+lends-long : (H : Lent) → Lends H → lentShort H ≡ false
+unfolding lentShort
 lends-long H l =
     rw (
       le-ltb (length (H .run)) 7 (l .run),
@@ -92,13 +92,13 @@ none-holds (with-store g L) s M short e h =
     ap (λ d. sound? d (M .tables) (M .log)) (h .same) ∙ sound-iff g (h .inside) (M .tables) (M .log) .1 (h .owned .sound) in
     rw (m, f, k) (refl, (e, (refl, tt)))
 
-module _ (text : List ℕ) (at : ℕ) (R : Runner) (H : Lent) (short : tooShort H ≡ false) (st : Stands R (sessionOf (H .run)) (H .memory)) where
+module _ (text : List ℕ) (at : ℕ) (R : Runner) (H : Lent) (short : lentShort H ≡ false) (st : Stands R (sessionOf (H .run)) (H .memory)) where
   abbrev part : Part
   part = hostPart text at H
 
   accepts : hostReply text at H ≡ accepted (hostPart text at H .at ∷ length (hostPart text at H .replies) ∷ [])
   unfolding hostReply hostConditions
-  accepts = decide-accepts (hostConditions H) (part .at ∷ length (part .replies) ∷ []) (none-holds R (sessionOf (H .run)) (H .memory) (tooShort H) short st)
+  accepts = decide-accepts (hostConditions H) (part .at ∷ length (part .replies) ∷ []) (none-holds R (sessionOf (H .run)) (H .memory) (lentShort H) short st)
 
   abbrev next : Lent
   next = record { run = sets (H .run) 0 (runOf (part .session)); memory = part .memory; replies = writeAt (H .replies) 0 (part .replies) }
@@ -115,7 +115,7 @@ module _ (text : List ℕ) (at : ℕ) (R : Runner) (H : Lent) (short : tooShort 
   unfolding hostPart
   on h = gets-on text (length (H .replies)) at (sessionOf (H .run)) (H .memory) (long-lends H short .replies) h
 
-  next-short : tooShort next ≡ false
+  next-short : lentShort next ≡ false
   next-short =
       let l = long-lends H short in
       lends-long next (record {
@@ -129,7 +129,7 @@ module _ (text : List ℕ) (at : ℕ) (R : Runner) (H : Lent) (short : tooShort 
 
 -- ── any parts ──
 
-parts-hosted : (n : ℕ) (text : List ℕ) (at : ℕ) (R : Runner) (H : Lent) → tooShort H ≡ false → Stands R (sessionOf (H .run)) (H .memory) →
+parts-hosted : (n : ℕ) (text : List ℕ) (at : ℕ) (R : Runner) (H : Lent) → lentShort H ≡ false → Stands R (sessionOf (H .run)) (H .memory) →
     length text ≤ at + n → hosted n text at H ≡ printed R (linesOf (drop at text))
 unfolding hosted linesOf printed
 parts-hosted zero text at R H short st k = rw (drop-of-length-le text {i = at} (omega arith))

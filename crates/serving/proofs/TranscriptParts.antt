@@ -17,7 +17,7 @@ use Rattle.script.specs.Said.{saidAt}
 use Rattle.ledger.specs.Transcript.{Runner, lineSays, printed, left}
 use Rattle.ledger.proofs.Parts.{parts, parts-left}
 use Rattle.serving.specs.Part.{Part, begun, longest, servedLine, goesOn, servedMost, served}
-use Rattle.serving.specs.Transcribed.{joined, partsMost, Ample, GetsOn}
+use Rattle.serving.specs.Transcribed.{andThen, partsMost, Ample, GetsOn}
 use Rattle.serving.proofs.Onward.{gets-further}
 use Rattle.serving.proofs.TranscriptLine.{Stands, line-says, line-stands, line-ample}
 use Rattle.serving.proofs.TranscriptLines.{endAt, line-met, ends-by}
@@ -101,7 +101,7 @@ gets-on text room at s M h k = gets-further text room (begun at s M) (served tex
 
 -- ── parts ──
 
-joined-follows : (text : List ℕ) (R : Runner) (p q : Part) → Follows text R (begun (p .at) (p .session) (p .memory)) q → Follows text R p (joined p q)
+joined-follows : (text : List ℕ) (R : Runner) (p q : Part) → Follows text R (begun (p .at) (p .session) (p .memory)) q → Follows text R p (andThen p q)
 joined-follows text R p q F = record {
   lines = F .lines;
   met = F .met;
@@ -113,7 +113,7 @@ joined-follows text R p q F = record {
 
 -- the next part, behind p
 abbrev next : List ℕ → ℕ → Part → Part
-next text room p = joined p (served text room (begun (p .at) (p .session) (p .memory)))
+next text room p = andThen p (served text room (begun (p .at) (p .session) (p .memory)))
 
 pub parts-follow : (n : ℕ) (text : List ℕ) (room : ℕ) (R : Runner) (p : Part) → Stands R (p .session) (p .memory) → Ample (p .memory) →
     Follows text R p (partsMost n text room p)

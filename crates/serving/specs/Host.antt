@@ -37,8 +37,8 @@ abbrev pub runOf : Session → List ℕ
 runOf s = s .made ∷ s .g .arenas ∷ s .g .per ∷ s .g .pages ∷ s .g .records ∷ s .g .turn ∷ s .g .words ∷ []
 
 -- memory enough for every geometry, so that no line of the script is answered 3 (10.5), and room for a longest reply
-unfoldable pub tooShort : Lent → Bool
-tooShort H =
+unfoldable pub lentShort : Lent → Bool
+lentShort H =
     ltb (length (H .run)) 7 ||
     (ltb (length (H .memory .tables)) 36864 ||
     (ltb (length (H .memory .log)) 65536 || (ltb (length (H .memory .out)) 4160 || ltb (length (H .replies)) longest)))
@@ -48,7 +48,7 @@ unfoldable pub hostConditions : Lent → List Condition
 hostConditions H =
     let s = sessionOf (H .run) in
     let made = not (eqb (s .made) 0) in
-    (2, made && not (fits (s .g))) ∷ (3, tooShort H) ∷ (4, made && not (sound? (s .g) (H .memory .tables) (H .memory .log))) ∷ []
+    (2, made && not (fits (s .g))) ∷ (3, lentShort H) ∷ (4, made && not (sound? (s .g) (H .memory .tables) (H .memory .log))) ∷ []
 
 -- the part that it serves of a text from a position on
 unfoldable pub hostPart : List ℕ → ℕ → Lent → Part

@@ -12,19 +12,19 @@ use Rattle.script.specs.Lines.{linesOf}
 use Rattle.session.specs.declared.Session.{Session}
 use Rattle.ledger.specs.Transcript.{without-store, printed, transcript}
 use Rattle.serving.specs.Part.{Part, begun, longest, served}
-use Rattle.serving.specs.Host.{Lent, hostReply, hostLeft, tooShort}
+use Rattle.serving.specs.Host.{Lent, hostReply, hostLeft, lentShort}
 
 -- ── the runner ──
 
 -- the next part's replies behind those of the parts before it
-abbrev pub joined : Part → Part → Part
-joined p q = record { at = q .at; replies = p .replies ++ q .replies; session = q .session; memory = q .memory }
+abbrev pub andThen : Part → Part → Part
+andThen p q = record { at = q .at; replies = p .replies ++ q .replies; session = q .session; memory = q .memory }
 
 -- parts, each into a buffer of `room` bytes, until the text is read; at most n of them
 unfoldable pub partsMost : ℕ → List ℕ → ℕ → Part → Part
 partsMost zero text room p = p
 partsMost (suc n) text room p =
-    cond (ltb (p .at) (length text)) (partsMost n text room (joined p (served text room (begun (p .at) (p .session) (p .memory))))) p
+    cond (ltb (p .at) (length text)) (partsMost n text room (andThen p (served text room (begun (p .at) (p .session) (p .memory))))) p
 
 -- a text that arrives bit by bit: how much of it was there each time that it was looked at
 unfoldable pub looked : List ℕ → ℕ → List ℕ → Part → Part
@@ -71,5 +71,5 @@ hosted (suc n) text at H =
 
 -- A HOST GETS THE TRANSCRIPT of any text, from a run of zeros: no part is refused
 abbrev pub HostGets : Type 0
-HostGets = (text : List ℕ) (H : Lent) → tooShort H ≡ false → getD (H .run) 0 0 ≡ 0 →
+HostGets = (text : List ℕ) (H : Lent) → lentShort H ≡ false → getD (H .run) 0 0 ≡ 0 →
     hosted (length text) text 0 H ≡ printed without-store (linesOf text)

@@ -8,7 +8,7 @@ ghost use lib.ListN.{length, getD};
 ghost use lib.Seq.{sets};
 ghost use Rattle.geometry.specs.Limits.{Inside, fits};
 ghost use Rattle.model.specs.Memory.{sound?};
-ghost use Rattle.serving.specs.Host.{lentBy, sessionOf, runOf, tooShort, Hosts, Narrow};
+ghost use Rattle.serving.specs.Host.{lentBy, sessionOf, runOf, lentShort, Hosts, Narrow};
 use crate::LONGEST;
 use crate::serve_part;
 use geometry::Geometry;
@@ -78,7 +78,7 @@ fn is_outside(s: Session) -> bool
 }
 
 fn is_too_short(run: &[u32], tables: &[u32], log: &[u8], out: &[u32], replies: &[u8]) -> bool
-    ensures { λ r. ⌜ r ≡ tooShort (lentBy (now (run .entry)) (now (tables .entry)) (now (log .entry)) (now (out .entry)) (now (replies .entry))) ⌝ }
+    ensures { λ r. ⌜ r ≡ lentShort (lentBy (now (run .entry)) (now (tables .entry)) (now (log .entry)) (now (out .entry)) (now (replies .entry))) ⌝ }
 {
     if run.len() < 7 {
         return true;
