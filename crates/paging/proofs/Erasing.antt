@@ -66,9 +66,9 @@ module _ (g : Geometry) (t : List ℕ) (n x w : ℕ) (ew : w ≡ x) where
       unfolding stateOf
       unused-is = ap (λ k. g .words - k) (sym eu)
 
-      pub erase-14 : g .words - u < f → replied g t (Erase n x) ≡ refused 14
+      pub erase-14 : g .words ≤ u → 0 < f → replied g t (Erase n x) ≡ refused 14
       unfolding replied
-      erase-14 s =
+      erase-14 s one =
           Looking.cond-next _ _ _ _ (lt-leb (g .pages) x (omega arith)) (Looking.cond-next _ _ _ _ (Looking.eight-no R n l e used)
           (Looking.cond-next _ _ _ _ (Looking.nine-no R n l e used o)
           (Looking.cond-here _ _ _ (lt-ltb (g .words - stateOf g t .used) (length (written g (stateOf g t) (Erase n x))) (omega (arith, words-are, unused-is))))))
@@ -122,6 +122,13 @@ erased-few K s l = cases (same? (length (erased K s l)) 1) (λ e. omega arith) (
 
 pub few-freed : (K : View) (s l f : ℕ) → f ≡ length (erased K s l) → f ≤ 1
 few-freed K s l f e = omega (arith, erased-few K s l)
+
+-- one unused word is enough for an E, two for a W
+pub one-enough : (K : View) (s l u m : ℕ) → u < m → length (erased K s l) ≤ m - u
+one-enough K s l u m h = omega (arith, erased-few K s l)
+
+pub two-enough : (K : View) (s l m : ℕ) → 1 < m → 1 + length (erased K s l) ≤ m
+two-enough K s l m h = omega (arith, erased-few K s l)
 
 module _ {g : Geometry} {t : List ℕ} {s x : ℕ} (A : Target g t s x) (l f : ℕ) (e : l ≡ getD t (pageCell s x) 0)
     (ef : f ≡ length (freesOf g t s x)) where

@@ -47,7 +47,11 @@ fn erase_verdict(t: &[u32], g: Geometry, n: u32, page: u32) -> Verdict
     if t[OPEN + s] == 0 {
         return Verdict::Refused(9);
     }
-    if g.words - wide(t[USED]) < frees_on(t, g, s, wide(page)) {
+    // One word is enough.
+    if wide(t[USED]) < g.words {
+        return Verdict::Accept(s);
+    }
+    if 0 < frees_on(t, g, s, wide(page)) {
         return Verdict::Refused(14);
     }
     Verdict::Accept(s)

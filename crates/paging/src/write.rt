@@ -59,7 +59,12 @@ fn write_verdict(t: &[u32], g: Geometry, n: u32, page: u32, kind: u32) -> Verdic
     let Found::At(a, o) = found else {
         return Verdict::Refused(13);
     };
-    if g.words - wide(t[USED]) < 1 + frees_on(t, g, s, wide(page)) {
+    // Two words are enough: at most one block is freed.
+    let unused = g.words - wide(t[USED]);
+    if 1 < unused {
+        return Verdict::Accept(s, a, o);
+    }
+    if unused < 1 + frees_on(t, g, s, wide(page)) {
         return Verdict::Refused(14);
     }
     Verdict::Accept(s, a, o)

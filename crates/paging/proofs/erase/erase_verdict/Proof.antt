@@ -1,6 +1,7 @@
 -- The refusals of E in their order, or the slot.
 use native.Mathlib.Omega.{arith}
 use borrow.Author.Needs.{needs}
+use mathlib.Core.Path.{refl}
 use Rattle.paging.proofs.Looking
 use Rattle.paging.proofs.Erasing
 use Rattle.paging.proofs.erase.erase_verdict.Statement.{statement}
@@ -39,20 +40,20 @@ shared-slice-read-wide c = search needs
 wide-requires-2 : tie.Need-wide-requires-2
 wide-requires-2 c κs = search needs
 
-sub-if4 : tie.Need-sub-if4
-sub-if4 c = omega (arith, Looking.used-le (c .before .before .before .before .before .before .before .before .before .before .before .pre))
+returns-4 : tie.Need-returns-4
+returns-4 c = Erasing.erase-accepts _ _ _ _ _ (c .before .before .before .before .before .before .before .before .before .before .wide .ensures) (c .before .before .before .before .before .before .before .before .before .before .before .before .pre) _ (c .before .before .before .before .before .before .before .before .if1 .left) (c .before .before .before .before .before .before .before .slot-of .ensures .0) (c .before .before .before .before .before .before .if2 .left) (c .before .before .before .before .if3 .left) _ _ _ (c .before .before .wide2 .ensures) refl refl (Erasing.one-enough _ _ _ _ _ (c .if4 .taken))
 
 wide-requires-3 : tie.Need-wide-requires-3
 wide-requires-3 c κs = search needs
 
 frees-on-requires : tie.Need-frees-on-requires
-frees-on-requires c κs = (c .before .before .before .before .before .before .before .before .before .before .before .before .pre, omega (arith, c .before .before .before .before .before .before .before .slot-of .ensures .1), Looking.named-live (c .before .before .before .before .before .before .before .before .before .before .before .before .pre) _ _ (c .before .before .before .before .before .before .before .slot-of .ensures .0) (c .before .before .before .before .before .before .if2 .left), omega arith)
-
-returns-4 : tie.Need-returns-4
-returns-4 c = Erasing.erase-14 _ _ _ _ _ (c .before .before .before .before .before .before .before .before .before .before .before .before .wide .ensures) (c .before .before .before .before .before .before .before .before .before .before .before .before .before .before .pre) _ (c .before .before .before .before .before .before .before .before .before .before .if1 .left) (c .before .before .before .before .before .before .before .before .before .slot-of .ensures .0) (c .before .before .before .before .before .before .before .before .if2 .left) (c .before .before .before .before .before .before .if3 .left) _ _ _ (c .before .before .before .before .wide2 .ensures) (c .before .before .wide3 .ensures) (c .before .frees-on .ensures) (c .if4 .taken)
+frees-on-requires c κs = (c .before .before .before .before .before .before .before .before .before .before .before .before .before .pre, omega (arith, c .before .before .before .before .before .before .before .before .slot-of .ensures .1), Looking.named-live (c .before .before .before .before .before .before .before .before .before .before .before .before .before .pre) _ _ (c .before .before .before .before .before .before .before .before .slot-of .ensures .0) (c .before .before .before .before .before .before .before .if2 .left), omega arith)
 
 returns-5 : tie.Need-returns-5
-returns-5 c = Erasing.erase-accepts _ _ _ _ _ (c .before .before .before .before .before .before .before .before .before .before .before .before .wide .ensures) (c .before .before .before .before .before .before .before .before .before .before .before .before .before .before .pre) _ (c .before .before .before .before .before .before .before .before .before .before .if1 .left) (c .before .before .before .before .before .before .before .before .before .slot-of .ensures .0) (c .before .before .before .before .before .before .before .before .if2 .left) (c .before .before .before .before .before .before .if3 .left) _ _ _ (c .before .before .before .before .wide2 .ensures) (c .before .before .wide3 .ensures) (c .before .frees-on .ensures) (c .if4 .left)
+returns-5 c = Erasing.erase-14 _ _ _ _ _ (c .before .before .before .before .before .before .before .before .before .before .before .before .before .wide .ensures) (c .before .before .before .before .before .before .before .before .before .before .before .before .before .before .before .pre) _ (c .before .before .before .before .before .before .before .before .before .before .before .if1 .left) (c .before .before .before .before .before .before .before .before .before .before .slot-of .ensures .0) (c .before .before .before .before .before .before .before .before .before .if2 .left) (c .before .before .before .before .before .before .before .if3 .left) _ _ _ (c .before .before .before .before .before .wide2 .ensures) (c .before .before .wide3 .ensures) (c .before .frees-on .ensures) (c .before .before .before .if4 .left) (c .if5 .taken)
+
+returns-6 : tie.Need-returns-6
+returns-6 c = Erasing.erase-accepts _ _ _ _ _ (c .before .before .before .before .before .before .before .before .before .before .before .before .before .wide .ensures) (c .before .before .before .before .before .before .before .before .before .before .before .before .before .before .before .pre) _ (c .before .before .before .before .before .before .before .before .before .before .before .if1 .left) (c .before .before .before .before .before .before .before .before .before .before .slot-of .ensures .0) (c .before .before .before .before .before .before .before .before .before .if2 .left) (c .before .before .before .before .before .before .before .if3 .left) _ _ _ (c .before .before .before .before .before .wide2 .ensures) (c .before .before .wide3 .ensures) (c .before .frees-on .ensures) (omega (arith, c .if5 .left))
 
 pub erase-verdict-spec : {M : Type 1} → statement M
 erase-verdict-spec =
@@ -69,8 +70,8 @@ erase-verdict-spec =
     returns-3
     shared-slice-read-wide
     wide-requires-2
-    sub-if4
+    returns-4
     wide-requires-3
     frees-on-requires
-    returns-4
-    returns-5)
+    returns-5
+    returns-6)

@@ -1,6 +1,7 @@
 -- The refusals of W in their order, or the slot and the place of the block.
 use native.Mathlib.Omega.{arith}
 use borrow.Author.Needs.{needs}
+use mathlib.Core.Path.{refl}
 use Rattle.paging.proofs.Looking
 use Rattle.paging.proofs.Erasing
 use Rattle.paging.proofs.Giving
@@ -55,23 +56,26 @@ shared-slice-read-wide c = search needs
 wide-requires-2 : tie.Need-wide-requires-2
 wide-requires-2 c κs = search needs
 
-sub-if5 : tie.Need-sub-if5
-sub-if5 c = omega (arith, Looking.used-le (c .before .before .before .before .before .before .before .before .before .before .before .before .before .before .before .before .pre))
+sub-unused : tie.Need-sub-unused
+sub-unused c = omega (arith, Looking.used-le (c .before .before .before .before .before .before .before .before .before .before .before .before .before .before .before .before .pre))
+
+returns-6 : tie.Need-returns-6
+returns-6 c = Giving.write-accepts _ _ _ _ _ _ (c .before .before .before .before .before .before .before .before .before .before .before .before .before .before .before .wide .ensures) (c .before .before .before .before .before .before .before .before .before .before .before .before .before .if1 .left) (c .before .before .before .before .before .before .before .before .before .before .before .before .if2 .left) _ (c .before .before .before .before .before .before .before .before .before .before .before .slot-of .ensures .0) (c .before .before .before .before .before .before .before .before .before .before .before .before .before .before .before .before .before .pre) (c .before .before .before .before .before .before .before .before .before .before .if3 .left) (c .before .before .before .before .before .before .before .before .if4 .left) _ (c .before .before .before .before .before .before .before .search .ensures) _ _ (c .before .before .before .before .before .found .given .1) _ _ _ (c .before .before .wide2 .ensures) refl refl (Erasing.two-enough _ _ _ _ (c .if5 .taken))
 
 wide-requires-3 : tie.Need-wide-requires-3
 wide-requires-3 c κs = search needs
 
 frees-on-requires : tie.Need-frees-on-requires
-frees-on-requires c κs = (c .before .before .before .before .before .before .before .before .before .before .before .before .before .before .before .before .before .pre, omega (arith, c .before .before .before .before .before .before .before .before .before .before .before .slot-of .ensures .1, c .before .before .before .before .before .before .before .before .before .before .if3 .left), Looking.named-live (c .before .before .before .before .before .before .before .before .before .before .before .before .before .before .before .before .before .pre) _ _ (c .before .before .before .before .before .before .before .before .before .before .before .slot-of .ensures .0) (c .before .before .before .before .before .before .before .before .before .before .if3 .left), omega (arith, c .wide3 .ensures, c .before .before .before .before .before .before .before .before .before .before .before .before .before .before .before .wide .ensures, c .before .before .before .before .before .before .before .before .before .before .before .before .before .if1 .left))
+frees-on-requires c κs = (c .before .before .before .before .before .before .before .before .before .before .before .before .before .before .before .before .before .before .pre, omega (arith, c .before .before .before .before .before .before .before .before .before .before .before .before .slot-of .ensures .1, c .before .before .before .before .before .before .before .before .before .before .before .if3 .left), Looking.named-live (c .before .before .before .before .before .before .before .before .before .before .before .before .before .before .before .before .before .before .pre) _ _ (c .before .before .before .before .before .before .before .before .before .before .before .before .slot-of .ensures .0) (c .before .before .before .before .before .before .before .before .before .before .before .if3 .left), omega (arith, c .wide3 .ensures, c .before .before .before .before .before .before .before .before .before .before .before .before .before .before .before .before .wide .ensures, c .before .before .before .before .before .before .before .before .before .before .before .before .before .before .if1 .left))
 
-add-if5 : tie.Need-add-if5
-add-if5 c = omega (arith, Erasing.few-freed _ _ _ _ (c .frees-on .ensures))
-
-returns-6 : tie.Need-returns-6
-returns-6 c = Giving.write-14 _ _ _ _ _ _ (c .before .before .before .before .before .before .before .before .before .before .before .before .before .before .before .before .before .wide .ensures) (c .before .before .before .before .before .before .before .before .before .before .before .before .before .before .before .if1 .left) (c .before .before .before .before .before .before .before .before .before .before .before .before .before .before .if2 .left) _ (c .before .before .before .before .before .before .before .before .before .before .before .before .before .slot-of .ensures .0) (c .before .before .before .before .before .before .before .before .before .before .before .before .before .before .before .before .before .before .before .pre) (c .before .before .before .before .before .before .before .before .before .before .before .before .if3 .left) (c .before .before .before .before .before .before .before .before .before .before .if4 .left) _ (c .before .before .before .before .before .before .before .before .before .search .ensures) _ _ (c .before .before .before .before .before .before .before .found .given .1) _ _ _ (c .before .before .before .before .wide2 .ensures) (c .before .before .wide3 .ensures) (c .before .frees-on .ensures) (c .if5 .taken)
+add-if6 : tie.Need-add-if6
+add-if6 c = omega (arith, Erasing.few-freed _ _ _ _ (c .frees-on .ensures))
 
 returns-7 : tie.Need-returns-7
-returns-7 c = Giving.write-accepts _ _ _ _ _ _ (c .before .before .before .before .before .before .before .before .before .before .before .before .before .before .before .before .before .wide .ensures) (c .before .before .before .before .before .before .before .before .before .before .before .before .before .before .before .if1 .left) (c .before .before .before .before .before .before .before .before .before .before .before .before .before .before .if2 .left) _ (c .before .before .before .before .before .before .before .before .before .before .before .before .before .slot-of .ensures .0) (c .before .before .before .before .before .before .before .before .before .before .before .before .before .before .before .before .before .before .before .pre) (c .before .before .before .before .before .before .before .before .before .before .before .before .if3 .left) (c .before .before .before .before .before .before .before .before .before .before .if4 .left) _ (c .before .before .before .before .before .before .before .before .before .search .ensures) _ _ (c .before .before .before .before .before .before .before .found .given .1) _ _ _ (c .before .before .before .before .wide2 .ensures) (c .before .before .wide3 .ensures) (c .before .frees-on .ensures) (c .if5 .left)
+returns-7 c = Giving.write-14 _ _ _ _ _ _ (c .before .before .before .before .before .before .before .before .before .before .before .before .before .before .before .before .before .before .wide .ensures) (c .before .before .before .before .before .before .before .before .before .before .before .before .before .before .before .before .if1 .left) (c .before .before .before .before .before .before .before .before .before .before .before .before .before .before .before .if2 .left) _ (c .before .before .before .before .before .before .before .before .before .before .before .before .before .before .slot-of .ensures .0) (c .before .before .before .before .before .before .before .before .before .before .before .before .before .before .before .before .before .before .before .before .pre) (c .before .before .before .before .before .before .before .before .before .before .before .before .before .if3 .left) (c .before .before .before .before .before .before .before .before .before .before .before .if4 .left) _ (c .before .before .before .before .before .before .before .before .before .before .search .ensures) _ _ (c .before .before .before .before .before .before .before .before .found .given .1) _ _ _ (c .before .before .before .before .before .wide2 .ensures) (c .before .before .wide3 .ensures) (c .before .frees-on .ensures) (c .if6 .taken)
+
+returns-8 : tie.Need-returns-8
+returns-8 c = Giving.write-accepts _ _ _ _ _ _ (c .before .before .before .before .before .before .before .before .before .before .before .before .before .before .before .before .before .before .wide .ensures) (c .before .before .before .before .before .before .before .before .before .before .before .before .before .before .before .before .if1 .left) (c .before .before .before .before .before .before .before .before .before .before .before .before .before .before .before .if2 .left) _ (c .before .before .before .before .before .before .before .before .before .before .before .before .before .before .slot-of .ensures .0) (c .before .before .before .before .before .before .before .before .before .before .before .before .before .before .before .before .before .before .before .before .pre) (c .before .before .before .before .before .before .before .before .before .before .before .before .before .if3 .left) (c .before .before .before .before .before .before .before .before .before .before .before .if4 .left) _ (c .before .before .before .before .before .before .before .before .before .before .search .ensures) _ _ (c .before .before .before .before .before .before .before .before .found .given .1) _ _ _ (c .before .before .before .before .before .wide2 .ensures) (c .before .before .wide3 .ensures) (c .before .frees-on .ensures) (c .if6 .left)
 
 pub write-verdict-spec : {M : Type 1} → statement M
 write-verdict-spec =
@@ -93,9 +97,10 @@ write-verdict-spec =
     returns-5
     shared-slice-read-wide
     wide-requires-2
-    sub-if5
+    sub-unused
+    returns-6
     wide-requires-3
     frees-on-requires
-    add-if5
-    returns-6
-    returns-7)
+    add-if6
+    returns-7
+    returns-8)
