@@ -4,7 +4,9 @@ ghost use mathlib.Core.Path.{_≡_};
 ghost use Prim.Native.Nat.{ℕ, _+_, _<_, _≤_};
 ghost use lib.ListN.{length, getD};
 ghost use lib.Seq.{sets};
+ghost use Rattle.model.specs.Lists.{rows};
 ghost use Rattle.model.specs.View.{parent, pageOf};
+ghost use Rattle.model.specs.Check.{ownAt};
 ghost use Rattle.model.specs.Effects.{pruned};
 ghost use Rattle.model.specs.Layout.{viewOf};
 ghost use Rattle.tables.specs.Ready.{Roomy, Ready};
@@ -14,7 +16,9 @@ use tables::cells::PAGES;
 use tables::cells::PREV;
 use tables::cells::ROW;
 use tables::differ::differ_word;
+use tables::differ::differing;
 use tables::differ::filled_word;
+use tables::differ::stretch;
 use tables::find::wide;
 
 // The pred of the record in slot s.
@@ -107,6 +111,42 @@ pub fn count_young(t: &[u32], g: Geometry, s: usize) -> usize
     count
 }
 
+// The link on page x of slot s.
+fn page_at(t: &[u32], g: Geometry, s: usize, x: usize) -> u32
+    requires { ⌜ Roomy g (now t) × (s < g .records) × (x < g .pages) ⌝ }
+    ensures { λ r. ⌜ r ≡ viewOf g (now (t .entry)) .page s x ⌝ }
+{
+    t[PAGES + ROW * s + x]
+}
+
+// Of the n pages of slot s from x on, the blocks that its pred has not on the same page, written to `out` from `count` on. They are found by the bits
+// of a word: from page y on `rest` is what is left of it. Returns how many there are with the `count` before them.
+fn list_word(t: &[u32], g: Geometry, out: &mut [u32], s: usize, pred: usize, x: usize, n: usize, count: usize) -> usize
+    requires { ⌜ Ready g (now t) × (count + length (rows (ownAt (viewOf g (now t)) s) x n) ≤ length (now out)) × (s < g .records) × (pred ≡ parent (viewOf g (now t)) s) × (pred ≤ g .records) × (n ≤ 32) × (x + n ≤ g .pages) × (count ≤ x) ⌝ }
+    ensures count { λ r. ⌜ r ≡ count + length (rows (ownAt (viewOf g (now (t .entry))) s) x n) ⌝ }
+    ensures range { λ r. ⌜ r ≤ x + n ⌝ }
+    ensures out { λ r. ⌜ now (out .exit) ≡ sets (now (out .entry)) count (rows (ownAt (viewOf g (now (t .entry))) s) x n) ⌝ }
+{
+    let mut rest = differing(g, t, s, pred, x, n);
+    let mut y = x;
+    let mut found = count;
+    while rest != 0 {
+        let step = u32::trailing_zeros(rest);
+        let z = y + step as usize;
+        let link = page_at(t, g, s, z);
+        if link != 0 {
+            out[found] = link - 1;
+            found += 1;
+            rest = (rest >> step) >> 1;
+            y = z + 1;
+        } else {
+            rest = (rest >> step) >> 1;
+            y = z + 1;
+        }
+    }
+    found
+}
+
 // Writes them to `out`, by rising page, and returns how many they are.
 pub fn list_young(t: &[u32], g: Geometry, out: &mut [u32], s: usize) -> usize
     requires { ⌜ Ready g (now t) × (length (pruned (viewOf g (now t)) s (g .pages)) ≤ length (now out)) × (s < g .records) × (0 < viewOf g (now t) .num s) ⌝ }
@@ -115,16 +155,11 @@ pub fn list_young(t: &[u32], g: Geometry, out: &mut [u32], s: usize) -> usize
 {
     let pred = pred_link(t, g, s);
     let mut count: usize = 0;
-    let mut x = own_page(t, g, s, pred, 0);
+    let mut x: usize = 0;
     while x < g.pages {
-        let link = t[PAGES + ROW * s + x];
-        if link != 0 {
-            out[count] = link - 1;
-            count += 1;
-            x = own_page(t, g, s, pred, x + 1);
-        } else {
-            x = own_page(t, g, s, pred, x + 1);
-        }
+        let n = stretch(g.pages - x);
+        count = list_word(t, g, out, s, pred, x, n, count);
+        x += n;
     }
     count
 }

@@ -6,7 +6,6 @@ pub mod Pairing
 pub mod Free
 pub mod Whole
 pub mod Short
-pub mod PagesWord
 pub mod PagesLinks
 pub mod PagesMarks
 pub mod PagesWalk

@@ -14,12 +14,6 @@ use Rattle.soundness.specs.declared.pages.Kin.{Kin}
 use Rattle.soundness.specs.declared.pages.Walk.{Walk}
 use Rattle.soundness.specs.declared.pages.Walk.the-variants.{Fits, Fails}
 
--- ── what differs ──
-
--- page x of s is not as that of the record behind a link
-unfoldable pub differs : View → ℕ → ℕ → ℕ → Bool
-differs K s l x = not (eqb (K .page s x) (pageOf K l x))
-
 -- ── what is asked of a record at each of its pages ──
 
 -- a link to one of R slots, else 0

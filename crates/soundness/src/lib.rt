@@ -1,5 +1,4 @@
 // The check of what a stranger lends: whether it is long enough, and whether tables and log are a sound store. Linear in the tables and the log, but for pairs of record slots.
-mod differ;
 mod header;
 mod held;
 pub mod lengths;

@@ -12,7 +12,6 @@ ghost use Rattle.model.specs.Layout.{viewOf};
 ghost use Rattle.model.specs.Stamps.{stamped};
 ghost use Rattle.tables.specs.Ready.{Roomy};
 ghost use Rattle.soundness.specs.Pages.{reached, kinOf, younger, seen, Walked, slotFits};
-use crate::differ::differing;
 use crate::lists::list_fits;
 use geometry::Geometry;
 use tables::cells::BASE;
@@ -22,6 +21,8 @@ use tables::cells::PAGES;
 use tables::cells::PREV;
 use tables::cells::ROW;
 use tables::cells::ROWS;
+use tables::differ::differing;
+use tables::differ::stretch;
 use tables::find::wide;
 
 // What the walk over a record's pages asks of the record each time: its number, a link to its pred, the pred's number, whether a record is before
@@ -210,13 +211,6 @@ fn word_walk(
         y += 1;
     }
     Walk::Fits(found)
-}
-
-// How many pages the next word of a row is for, of those that are left.
-fn stretch(left: usize) -> usize
-    ensures { λ r. ⌜ (r ≤ left) × (r ≤ 32) × (0 < left → 0 < r) ⌝ }
-{
-    if left < 32 { left } else { 32 }
 }
 
 // All pages of slot s.

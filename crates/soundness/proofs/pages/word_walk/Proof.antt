@@ -4,7 +4,7 @@ use native.Mathlib.Omega.{arith}
 use Prim.Native.Nat.{_+_, _-_}
 use Rattle.choice.proofs.Runs.{zeros-fit}
 use Rattle.model.specs.Layout.{viewOf}
-use Rattle.soundness.proofs.PagesWord.{bits-few}
+use Rattle.tables.proofs.PagesWord.{bits-few}
 use Rattle.soundness.proofs.PagesStep.{pred-range, Walking, word-starts, word-inside, word-differs, word-stops, word-goes, word-ends}
 use Rattle.soundness.proofs.pages.word_walk.Statement.{statement}
 use Rattle.soundness.proofs.pages.word_walk.Tie as tie

@@ -16,9 +16,8 @@ use Rattle.choice.proofs.Finds.{true-false}
 use Rattle.geometry.specs.declared.Geometry.{Geometry}
 use Rattle.model.specs.Table.{via}
 use Rattle.model.specs.Layout.{pageCell, viewOf}
+use Rattle.tables.specs.Rows.{apart, filled, differs}
 use Rattle.tables.proofs.Fields.{page-is}
-use Rattle.tables.specs.Rows.{apart, filled}
-use Rattle.soundness.specs.Pages.{differs}
 
 -- ── the word of a row's pages ──
 
