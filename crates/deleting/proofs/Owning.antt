@@ -2,7 +2,7 @@
 use mathlib.Core.Path.{_≡_, refl, sym, ap, ap₂, _∙_}
 use mathlib.Core.Bool.{true, false}
 use mathlib.Core.List.{List, [], _∷_, _++_, append-nil}
-use Prim.Native.Nat.{ℕ, zero, suc, _+_, _-_, _*_, _/_, _^_, _≤_, _<_}
+use Prim.Native.Nat.{ℕ, zero, suc, _+_, _-_, _/_, _^_, _≤_, _<_}
 use native.Mathlib.Nat.{div-one}
 use native.Mathlib.Omega.{arith}
 use lib.Count.{trailingZeros}
@@ -10,15 +10,14 @@ use lib.Dec.{eqb}
 use lib.ListN.{length, getD, set, length-append}
 use lib.Seq.{sets, length-sets}
 use borrow.Author.Tests.{eq-eqb, ne-eqb, eqb-true, eqb-false, not-true, not-false}
-use Rattle.answer.proofs.Cases.{cases, same?, lt?}
 use Rattle.choice.specs.Words.{wordOf}
 use Rattle.geometry.specs.declared.Geometry.{Geometry}
-use Rattle.model.specs.Table.{via, firstLink}
+use Rattle.model.specs.Table.{firstLink}
 use Rattle.model.specs.Lists.{rows, onPage}
 use Rattle.model.specs.View.{View, parent, pageOf}
 use Rattle.model.specs.Check.{like?, ownAt}
 use Rattle.model.specs.Effects.{pruned}
-use Rattle.model.specs.Layout.{prevCell, baseCell, pageCell, viewOf}
+use Rattle.model.specs.Layout.{prevCell, baseCell, viewOf}
 use Rattle.model.proofs.ListFacts.{rows-split, rows-snoc}
 use Rattle.model.proofs.CheckFacts.{pruned-own}
 use Rattle.tables.specs.Ready.{Ready}
@@ -47,71 +46,6 @@ module _ {g : Geometry} {t : List ℕ} (R : Ready g t) (s : ℕ) (hs : s < g .re
       let p : prev ≡ viewOf g t .prev s = e ∙ sym (Fields.prev-is g t s hs) in
       (first-some prev (viewOf g t .base s) n ∙ ap (λ l. firstLink l (viewOf g t .base s)) p, omega (arith, Ranges.prev-le R s live))
 
--- ── places from x up to y that agree ──
-
--- m places more, from y on
-module _ (t : List ℕ) (a b : ℕ) where
-  pub agree-none : (x : ℕ) → (z : ℕ) → x ≤ z → z < x → getD t (a + z) 0 ≡ getD t (b + z) 0
-  agree-none x z l k = absurd (let e : ⊥ = omega arith in e)
-
-  pub agree-more : {x y : ℕ} (m : ℕ) → ((z : ℕ) → x ≤ z → z < y → getD t (a + z) 0 ≡ getD t (b + z) 0) →
-      ((k : ℕ) → k < m → getD t (a + y + k) 0 ≡ getD t (b + y + k) 0) → (z : ℕ) → x ≤ z → z < y + m → getD t (a + z) 0 ≡ getD t (b + z) 0
-  agree-more {x} {y} m f e z l k =
-      cases (lt? z y)
-      (λ d. f z l d)
-      (λ d.
-      ap (λ i. getD t i 0) (let w : a + z ≡ a + y + (z - y) = omega arith in w) ∙ e (z - y) (omega arith) ∙
-      ap (λ i. getD t i 0) (let w : b + y + (z - y) ≡ b + z = omega arith in w))
-
-  pub differ-at : (y k : ℕ) → (getD t (a + y + k) 0 ≡ getD t (b + y + k) 0 → ⊥) → getD t (a + (y + k)) 0 ≡ getD t (b + (y + k)) 0 → ⊥
-  differ-at y k n e =
-      n (ap (λ i. getD t i 0) (let w : a + y + k ≡ a + (y + k) = omega arith in w) ∙ e ∙ ap (λ i. getD t i 0) (let w : b + (y + k) ≡ b + y + k = omega arith in w))
-
--- ── places from x up to y that are 0 ──
-
-module _ (t : List ℕ) (a : ℕ) where
-  pub empty-none : (x : ℕ) → (z : ℕ) → x ≤ z → z < x → getD t (a + z) 0 ≡ 0
-  empty-none x z l k = absurd (let e : ⊥ = omega arith in e)
-
-  pub empty-more : {x y : ℕ} (m : ℕ) → ((z : ℕ) → x ≤ z → z < y → getD t (a + z) 0 ≡ 0) → ((k : ℕ) → k < m → getD t (a + y + k) 0 ≡ 0) →
-      (z : ℕ) → x ≤ z → z < y + m → getD t (a + z) 0 ≡ 0
-  empty-more {x} {y} m f e z l k =
-      cases (lt? z y) (λ d. f z l d) (λ d. ap (λ i. getD t i 0) (let w : a + z ≡ a + y + (z - y) = omega arith in w) ∙ e (z - y) (omega arith))
-
-  pub full-at : (y k : ℕ) → (getD t (a + y + k) 0 ≡ 0 → ⊥) → getD t (a + (y + k)) 0 ≡ 0 → ⊥
-  full-at y k n e = n (ap (λ i. getD t i 0) (let w : a + y + k ≡ a + (y + k) = omega arith in w) ∙ e)
-
--- rows of tables as pages of records: the record of slot s, and the one behind a link
-module _ (g : Geometry) (t : List ℕ) (s : ℕ) (hs : s < g .records) where
-  via-none : (link x : ℕ) → link ≡ 0 → pageOf (viewOf g t) link x ≡ 0
-  unfolding via
-  via-none link x e = rw e
-
-  via-some : (link x : ℕ) → (link ≡ 0 → ⊥) → pageOf (viewOf g t) link x ≡ viewOf g t .page (link - 1) x
-  unfolding via
-  via-some zero x n = absurd (n refl)
-  via-some (suc p) x n = ap (λ q. viewOf g t .page q x) (omega arith)
-
-  module _ (link : ℕ) (none : link ≡ 0) (r : ℕ) (hr : r ≤ g .pages) where
-    pub none-like : (x : ℕ) → ((y : ℕ) → x ≤ y → y < r → getD t (2048 + 256 * s + y) 0 ≡ 0) →
-        (y : ℕ) → x ≤ y → y < r → viewOf g t .page s y ≡ pageOf (viewOf g t) link y
-    none-like x h y l k = Fields.page-is g t s y hs (omega arith) ∙ h y l k ∙ sym (via-none link y none)
-
-    pub none-own : (r < g .pages → getD t (2048 + 256 * s + r) 0 ≡ 0 → ⊥) → r < g .pages → viewOf g t .page s r ≡ pageOf (viewOf g t) link r → ⊥
-    none-own h l e = h l (sym (Fields.page-is g t s r hs l) ∙ e ∙ via-none link r none)
-
-  module _ (link : ℕ) (some : link ≡ 0 → ⊥) (hl : link ≤ g .records) (r : ℕ) (hr : r ≤ g .pages) where
-    there : (y : ℕ) → y < g .pages → pageOf (viewOf g t) link y ≡ getD t (pageCell (link - 1) y) 0
-    there y l = via-some link y some ∙ Fields.page-is g t (link - 1) y (let z : 0 < link = omega arith in omega arith) l
-
-    pub some-like : (x : ℕ) → ((y : ℕ) → x ≤ y → y < r → getD t (2048 + 256 * s + y) 0 ≡ getD t (2048 + 256 * (link - 1) + y) 0) →
-        (y : ℕ) → x ≤ y → y < r → viewOf g t .page s y ≡ pageOf (viewOf g t) link y
-    some-like x h y l k = Fields.page-is g t s y hs (omega arith) ∙ h y l k ∙ sym (there y (omega arith))
-
-    pub some-own : (r < g .pages → getD t (2048 + 256 * s + r) 0 ≡ getD t (2048 + 256 * (link - 1) + r) 0 → ⊥) →
-        r < g .pages → viewOf g t .page s r ≡ pageOf (viewOf g t) link r → ⊥
-    some-own h l e = h l (sym (Fields.page-is g t s r hs l) ∙ e ∙ there r l)
-
 -- ── lists of which many are empty ──
 
 module _ (f : ℕ → List ℕ) where
@@ -120,21 +54,6 @@ module _ (f : ℕ → List ℕ) where
   rows-none zero i h = refl
   rows-none (suc n) i h =
       ap₂ (λ (x y : List ℕ). x ++ y) (h i (omega arith) (omega arith)) (rows-none n (suc i) (λ y l k. h y (omega arith) (omega arith)))
-
-  rows-next : (x y : ℕ) → x + 1 ≤ y → ((z : ℕ) → x + 1 ≤ z → z < y → f z ≡ []) → rows f 0 y ≡ rows f 0 x ++ f x
-  rows-next x y l h =
-      ap (rows f 0) (let z : y ≡ suc x + (y - suc x) = omega arith in z) ∙ rows-split f (suc x) (y - suc x) 0 ∙
-      ap (λ (m : List ℕ). rows f 0 (suc x) ++ m) (rows-none (y - suc x) (0 + suc x) (λ z a b. h z (omega arith) (omega arith))) ∙
-      append-nil (rows f 0 (suc x)) ∙ rows-snoc f x 0 ∙ ap (λ j. rows f 0 x ++ f j) (let z : 0 + x ≡ x = omega arith in z)
-
-  rows-le : (x y : ℕ) → x ≤ y → length (rows f 0 x) ≤ length (rows f 0 y)
-  rows-le x y l =
-      omega (
-        arith,
-        ap (λ j. length (rows f 0 j)) (let z : y ≡ x + (y - x) = omega arith in z),
-        ap length (rows-split f x (y - x) 0),
-        length-append (rows f 0 x) (rows f (0 + x) (y - x)),
-      )
 
   -- from page x + a on: the next m are empty, and the one behind them
   rows-skip : (x a m : ℕ) → ((j : ℕ) → j < m → f (x + a + j) ≡ []) → rows f x (a + m) ≡ rows f x a
@@ -244,64 +163,8 @@ module _ (K : View) (s x n : ℕ) where
   pub joined-room : (c p : ℕ) → c ≡ length (rows (ownAt K s) 0 x) → x ≤ p → n ≤ p - x → c + length (rows (ownAt K s) x n) ≤ length (rows (ownAt K s) 0 p)
   joined-room c p e h k = omega (arith, joined-count c (c + length (rows (ownAt K s) x n)) e refl, rows-part (ownAt K s) 0 (x + n) p (omega arith))
 
--- ── the walk ──
-
+-- all pages: what the deletion frees
 module _ {g : Geometry} {t : List ℕ} (R : Ready g t) (s : ℕ) (live : 0 < viewOf g t .num s) where
-  abbrev K : View
-  K = viewOf g t
-
-  abbrev own : ℕ → List ℕ
-  own = ownAt (viewOf g t) s
-
-  -- the blocks of the first x pages
-  abbrev pub owned : ℕ → List ℕ
-  owned x = rows (ownAt (viewOf g t) s) 0 x
-
-  pub owned-all : (x : ℕ) → x ≤ g .pages → g .pages ≤ x → owned x ≡ pruned (viewOf g t) s (g .pages)
-  owned-all x h k = ap (rows own 0) (let z : x ≡ g .pages = omega arith in z) ∙ sym (pruned-own K (Ranges.sound R) s live (g .pages))
-
-  module _ (link : ℕ) (el : link ≡ parent (viewOf g t) s) where
-    like-none : (y : ℕ) → K .page s y ≡ pageOf K link y → own y ≡ []
-    unfolding ownAt like?
-    like-none y e = rw (eq-eqb (K .page s y) (pageOf K (parent K s) y) (e ∙ ap (λ l. pageOf K l y) el))
-
-    own-is : (y : ℕ) → (K .page s y ≡ pageOf K link y → ⊥) → own y ≡ onPage (K .page s y)
-    unfolding ownAt like?
-    own-is y n = rw (ne-eqb (K .page s y) (pageOf K (parent K s) y) (λ e. n (e ∙ ap (λ l. pageOf K l y) (sym el))))
-
-    pub owned-start : (x : ℕ) → ((y : ℕ) → 0 ≤ y → y < x → viewOf g t .page s y ≡ pageOf (viewOf g t) link y) → owned x ≡ []
-    owned-start x h = rows-none own x 0 (λ y l k. like-none y (h y l (omega arith)))
-
-    -- page x differs, and those up to y do not; v is its link
-    module _ (x y v : ℕ) (hv : v ≡ viewOf g t .page s x) (differs : viewOf g t .page s x ≡ pageOf (viewOf g t) link x → ⊥)
-        (l : x + 1 ≤ y) (same : (z : ℕ) → x + 1 ≤ z → z < y → viewOf g t .page s z ≡ pageOf (viewOf g t) link z) where
-      next : owned y ≡ owned x ++ onPage v
-      next =
-          rows-next own x y l (λ z a b. like-none z (same z a b)) ∙ ap (λ (m : List ℕ). owned x ++ m) (own-is x differs) ∙
-          ap (λ w. owned x ++ onPage w) (sym hv)
-
-      pub owned-none : v ≡ 0 → owned y ≡ owned x
-      unfolding onPage
-      owned-none z = next ∙ ap (λ w. owned x ++ onPage w) z ∙ append-nil (owned x)
-
-      pub owned-one : (v ≡ 0 → ⊥) → owned y ≡ owned x ++ ((v - 1) ∷ [])
-      unfolding onPage
-      owned-one n = next ∙ ap (λ w. owned x ++ onPage w) (let z : v ≡ suc (v - 1) = (let w : 0 < v = omega arith in omega arith) in z)
-
-      pub count-one : (v ≡ 0 → ⊥) → (c : ℕ) → c ≡ length (owned x) → c + 1 ≡ length (owned y)
-      count-one n c e = omega (arith, ap length (owned-one n), length-append (owned x) ((v - 1) ∷ []))
-
-      pub out-one : (v ≡ 0 → ⊥) → (c : ℕ) → c ≡ length (owned x) → (o₀ o : List ℕ) → o ≡ sets o₀ 0 (owned x) → set o c (v - 1) ≡ sets o₀ 0 (owned y)
-      out-one n c e o₀ o eo =
-          ap (λ (u : List ℕ). set u c (v - 1)) eo ∙ sets-last o₀ 0 (owned x) (v - 1) c (omega arith) ∙ ap (sets o₀ 0) (sym (owned-one n))
-
-    -- room for the block of page x
-    pub owned-room : (x v : ℕ) → x < g .pages → v ≡ viewOf g t .page s x → (v ≡ 0 → ⊥) → (viewOf g t .page s x ≡ pageOf (viewOf g t) link x → ⊥) →
-        (c : ℕ) → c ≡ length (owned x) → c < length (pruned (viewOf g t) s (g .pages))
-    owned-room x v h hv n differs c e =
-        omega (
-          arith,
-          count-one x (x + 1) v hv differs (omega arith) (λ z a b. absurd (let w : ⊥ = omega arith in w)) n c e,
-          rows-le own (x + 1) (g .pages) (omega arith),
-          ap length (pruned-own K (Ranges.sound R) s live (g .pages)),
-        )
+  pub owned-all : (x : ℕ) → x ≤ g .pages → g .pages ≤ x → rows (ownAt (viewOf g t) s) 0 x ≡ pruned (viewOf g t) s (g .pages)
+  owned-all x h k =
+      ap (rows (ownAt (viewOf g t) s) 0) (let z : x ≡ g .pages = omega arith in z) ∙ sym (pruned-own (viewOf g t) (Ranges.sound R) s live (g .pages))

@@ -1,11 +1,11 @@
 // The deletion of a record that nothing follows. A block on its pages was born above its pred exactly where the pred has not the same block on
 // the same page: rows are compared, and no birth is read.
 ghost use mathlib.Core.Path.{_≡_};
-ghost use Prim.Native.Nat.{ℕ, _+_, _<_, _≤_};
-ghost use lib.ListN.{length, getD};
+ghost use Prim.Native.Nat.{_+_, _<_, _≤_};
+ghost use lib.ListN.{length};
 ghost use lib.Seq.{sets};
 ghost use Rattle.model.specs.Lists.{rows};
-ghost use Rattle.model.specs.View.{parent, pageOf};
+ghost use Rattle.model.specs.View.{parent};
 ghost use Rattle.model.specs.Check.{ownAt};
 ghost use Rattle.model.specs.Effects.{pruned};
 ghost use Rattle.model.specs.Layout.{viewOf};
@@ -15,9 +15,7 @@ use tables::cells::BASE;
 use tables::cells::PAGES;
 use tables::cells::PREV;
 use tables::cells::ROW;
-use tables::differ::differ_word;
 use tables::differ::differing;
-use tables::differ::filled_word;
 use tables::differ::stretch;
 use tables::find::wide;
 
@@ -34,62 +32,38 @@ fn pred_link(t: &[u32], g: Geometry, s: usize) -> usize
     prev
 }
 
-// The first place from x on where the n numbers from a and those from b differ, or n. It looks at 32 places at once; what stands behind the n
-// numbers does not matter.
-fn agree_to(t: &[u32], a: usize, b: usize, x: usize, n: usize) -> usize
-    requires { ⌜ (a + n + 32 ≤ length (now t)) × (b + n + 32 ≤ length (now t)) × (x ≤ n) × (n ≤ 256) ⌝ }
-    ensures range { λ r. ⌜ (x ≤ r) × (r ≤ n) ⌝ }
-    ensures agree { λ r. ⌜ ((y : ℕ) → x ≤ y → y < r → getD (now (t .entry)) (a + y) 0 ≡ getD (now (t .entry)) (b + y) 0) ⌝ }
-    ensures differ { λ r. ⌜ (r < n → getD (now (t .entry)) (a + r) 0 ≡ getD (now (t .entry)) (b + r) 0 → ⊥) ⌝ }
+// The link on page x of slot s.
+fn page_at(t: &[u32], g: Geometry, s: usize, x: usize) -> u32
+    requires { ⌜ Roomy g (now t) × (s < g .records) × (x < g .pages) ⌝ }
+    ensures { λ r. ⌜ r ≡ viewOf g (now (t .entry)) .page s x ⌝ }
 {
-    let mut y = x;
-    while y < n {
-        let word = differ_word(t, a + y, b + y);
-        if word != 0 {
-            let z = y + (u32::trailing_zeros(word) as usize);
-            if z < n {
-                return z;
-            }
-            return n;
-        }
-        y += 32;
-    }
-    n
+    t[PAGES + ROW * s + x]
 }
 
-// The first place from x on where the n numbers from a are not 0, or n.
-fn empty_to(t: &[u32], a: usize, x: usize, n: usize) -> usize
-    requires { ⌜ (a + n + 32 ≤ length (now t)) × (x ≤ n) × (n ≤ 256) ⌝ }
-    ensures range { λ r. ⌜ (x ≤ r) × (r ≤ n) ⌝ }
-    ensures empty { λ r. ⌜ ((y : ℕ) → x ≤ y → y < r → getD (now (t .entry)) (a + y) 0 ≡ 0) ⌝ }
-    ensures full { λ r. ⌜ (r < n → getD (now (t .entry)) (a + r) 0 ≡ 0 → ⊥) ⌝ }
+// Of the n pages of slot s from x on, how many have a block that its pred has not on the same page. They are found by the bits of a word: from page
+// y on `rest` is what is left of it.
+fn count_word(t: &[u32], g: Geometry, s: usize, pred: usize, x: usize, n: usize) -> usize
+    requires { ⌜ Roomy g (now t) × (s < g .records) × (pred ≡ parent (viewOf g (now t)) s) × (pred ≤ g .records) × (n ≤ 32) × (x + n ≤ g .pages) ⌝ }
+    ensures is { λ r. ⌜ r ≡ length (rows (ownAt (viewOf g (now (t .entry))) s) x n) ⌝ }
+    ensures range { λ r. ⌜ r ≤ n ⌝ }
 {
+    let mut rest = differing(g, t, s, pred, x, n);
     let mut y = x;
-    while y < n {
-        let word = filled_word(t, a + y);
-        if word != 0 {
-            let z = y + (u32::trailing_zeros(word) as usize);
-            if z < n {
-                return z;
-            }
-            return n;
+    let mut found: usize = 0;
+    while rest != 0 {
+        let step = u32::trailing_zeros(rest);
+        let z = y + step as usize;
+        let link = page_at(t, g, s, z);
+        if link != 0 {
+            found += 1;
+            rest = (rest >> step) >> 1;
+            y = z + 1;
+        } else {
+            rest = (rest >> step) >> 1;
+            y = z + 1;
         }
-        y += 32;
     }
-    n
-}
-
-// The first page from x on that differs from the same page of the record behind a link, or the page count.
-fn own_page(t: &[u32], g: Geometry, s: usize, link: usize, x: usize) -> usize
-    requires { ⌜ Roomy g (now t) × (s < g .records) × (link ≤ g .records) × (x ≤ g .pages) ⌝ }
-    ensures range { λ r. ⌜ (x ≤ r) × (r ≤ g .pages) ⌝ }
-    ensures like { λ r. ⌜ ((y : ℕ) → x ≤ y → y < r → viewOf g (now (t .entry)) .page s y ≡ pageOf (viewOf g (now (t .entry))) link y) ⌝ }
-    ensures own { λ r. ⌜ (r < g .pages → viewOf g (now (t .entry)) .page s r ≡ pageOf (viewOf g (now (t .entry))) link r → ⊥) ⌝ }
-{
-    if link == 0 {
-        return empty_to(t, PAGES + ROW * s, x, g.pages);
-    }
-    agree_to(t, PAGES + ROW * s, PAGES + ROW * (link - 1), x, g.pages)
+    found
 }
 
 // How many blocks the deletion of slot s frees, where nothing follows.
@@ -99,29 +73,27 @@ pub fn count_young(t: &[u32], g: Geometry, s: usize) -> usize
 {
     let pred = pred_link(t, g, s);
     let mut count: usize = 0;
-    let mut x = own_page(t, g, s, pred, 0);
+    let mut x: usize = 0;
     while x < g.pages {
-        if t[PAGES + ROW * s + x] != 0 {
-            count += 1;
-            x = own_page(t, g, s, pred, x + 1);
-        } else {
-            x = own_page(t, g, s, pred, x + 1);
-        }
+        let n = stretch(g.pages - x);
+        let more = count_word(t, g, s, pred, x, n);
+        count += more;
+        x += n;
     }
     count
 }
 
-// The link on page x of slot s.
-fn page_at(t: &[u32], g: Geometry, s: usize, x: usize) -> u32
-    requires { ⌜ Roomy g (now t) × (s < g .records) × (x < g .pages) ⌝ }
-    ensures { λ r. ⌜ r ≡ viewOf g (now (t .entry)) .page s x ⌝ }
-{
-    t[PAGES + ROW * s + x]
-}
-
-// Of the n pages of slot s from x on, the blocks that its pred has not on the same page, written to `out` from `count` on. They are found by the bits
-// of a word: from page y on `rest` is what is left of it. Returns how many there are with the `count` before them.
-fn list_word(t: &[u32], g: Geometry, out: &mut [u32], s: usize, pred: usize, x: usize, n: usize, count: usize) -> usize
+// Of the n pages of slot s from x on, the blocks that its pred has not on the same page, written to `out` from `count` on. Returns how many there are with the `count` before them.
+fn list_word(
+    t: &[u32],
+    g: Geometry,
+    out: &mut [u32],
+    s: usize,
+    pred: usize,
+    x: usize,
+    n: usize,
+    count: usize,
+) -> usize
     requires { ⌜ Ready g (now t) × (count + length (rows (ownAt (viewOf g (now t)) s) x n) ≤ length (now out)) × (s < g .records) × (pred ≡ parent (viewOf g (now t)) s) × (pred ≤ g .records) × (n ≤ 32) × (x + n ≤ g .pages) × (count ≤ x) ⌝ }
     ensures count { λ r. ⌜ r ≡ count + length (rows (ownAt (viewOf g (now (t .entry))) s) x n) ⌝ }
     ensures range { λ r. ⌜ r ≤ x + n ⌝ }

@@ -19,12 +19,12 @@ use Rattle.model.specs.Layout.{pageCell, viewOf}
 use Rattle.model.specs.Stamps.{stamped}
 use Rattle.tables.specs.Rows.{differs}
 use Rattle.tables.proofs.Fields.{page-is}
+use Rattle.tables.proofs.PagesWord.{bits-none, bits-inside, bits-below, bits-at, bits-next}
 use Rattle.soundness.specs.declared.pages.Kin.{Kin}
 use Rattle.soundness.specs.declared.pages.Walk.{Walk}
 use Rattle.soundness.specs.declared.pages.Walk.the-variants.{Fits, Fails}
 use Rattle.soundness.specs.Pages.{reached, kinOf, younger, seen, leftAt, Rest, restOf, Walked}
 use Rattle.soundness.proofs.PagesLinks.{reached-in, reached-out, page-reached}
-use Rattle.tables.proofs.PagesWord.{bits-none, bits-inside, bits-below, bits-at, bits-next}
 use Rattle.soundness.proofs.PagesWalk.{left-apart, left-first, rest-fails, rest-next, rest-skip}
 
 -- ── the two answers ──

@@ -11,7 +11,7 @@ use crate::cells::ROW;
 use geometry::Geometry;
 
 // 32 places, from a and from b on. The bound is a constant: the loop is compiled to wide steps.
-pub fn differ_word(t: &[u32], a: usize, b: usize) -> u32
+fn differ_word(t: &[u32], a: usize, b: usize) -> u32
     requires { ⌜ (a + 32 ≤ length (now t)) × (b + 32 ≤ length (now t)) ⌝ }
     ensures { λ r. ⌜ r ≡ wordOf (apart (now (t .entry)) a b) 0 32 ⌝ }
 {
@@ -27,7 +27,7 @@ pub fn differ_word(t: &[u32], a: usize, b: usize) -> u32
 }
 
 // 32 places from a on: where they are not 0.
-pub fn filled_word(t: &[u32], a: usize) -> u32
+fn filled_word(t: &[u32], a: usize) -> u32
     requires { ⌜ a + 32 ≤ length (now t) ⌝ }
     ensures { λ r. ⌜ r ≡ wordOf (filled (now (t .entry)) a) 0 32 ⌝ }
 {

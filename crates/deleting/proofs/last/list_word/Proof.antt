@@ -1,7 +1,6 @@
 -- The blocks of the pages passed are listed, and `rest` is what is left of the word.
 use mathlib.Core.Path.{_≡_, refl, sym, ap, _∙_}
-use Prim.Native.Nat.{_+_, _-_, _/_, _^_, _≤_, _<_}
-use native.Mathlib.Nat.{div-one}
+use Prim.Native.Nat.{_+_, _-_, _/_, _^_, _≤_}
 use lib.Count.{trailingZeros}
 use lib.ListN.{length, length-set}
 use lib.Seq.{sets}
@@ -13,7 +12,6 @@ use Rattle.model.specs.Layout.{viewOf}
 use Rattle.tables.specs.Rows.{differs}
 use Rattle.tables.proofs.PagesWord.{bits-next, bits-inside, bits-few}
 use Rattle.deleting.proofs.Owning
-use borrow.Author.Needs.{needs}
 use native.Mathlib.Omega.{arith}
 use Rattle.deleting.proofs.last.list_word.Statement.{statement}
 use Rattle.deleting.proofs.last.list_word.Tie as tie
