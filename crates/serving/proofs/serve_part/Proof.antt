@@ -69,14 +69,22 @@ loop-less c = omega (arith, c .before .before .before .before .before .before .b
 
 loop-again : tie.Need-loop-again Inv-loop μ-loop
 loop-again c =
-    let p = c .before .before .put-reply in
-    let s = c .before .before .before .before .before .before .before .before .before .before .before .before .step in
-    let d = c .before .before .before .before .before .before .before .before .before .before .before .before .before .before .before .before .said-at in
-    let l = c .before .before .before .before .before .before .before .before .before .before .before .before .before .before .before .before .before .before .before .loop in
-    let a = c .before .before .before .before .before .before .before .before .before .before .before .before .before .before .before .before .before .before .before .before .before .before .before .before .before .before .args in
+    let at-put-reply = c .before .before in
+    let at-step = at-put-reply .before .before .before .before .before .before .before .before .before .before in
+    let at-said-at = at-step .before .before .before .before in
+    let at-if2 = at-said-at .before in
+    let at-loop-test = at-if2 .before in
+    let at-loop = at-loop-test .before in
+    let at-if1 = at-loop .before in
+    let start = at-if1 .before .before .before .before .before .before in
+    let p = at-put-reply .put-reply in
+    let s = at-step .step in
+    let d = at-said-at .said-at in
+    let l = at-loop .loop in
+    let a = start .args in
     let e = s .ensures in
     turned (a .text .now) _ (a .t .now) (a .log .now) (a .out .now) (a .replies .now) (l .s) (l .t) (l .log) (l .out) (l .replies) (l .used) (l .i) (l .inv) (d .result) (d .ensures .0) (s .result) _ _ _ _ _ (e .0) (e .1 .0) (e .1 .1 .0) (e .1 .1 .1 .0) (e .1 .1 .1 .1 .0)
-    (p .ensures .0) (p .ensures .1) (c .before .before .before .before .before .before .before .before .before .before .before .before .before .before .before .before .before .before .loop-test .taken) (omega (arith, c .before .before .before .before .before .before .before .before .before .before .before .before .before .before .before .before .before .if2 .left, c .before .before .before .before .before .before .before .before .before .before .before .before .before .before .before .before .before .before .before .before .if1 .left)) (s .kept .1 .1 .0) (s .kept .1 .1 .1 .0)
+    (p .ensures .0) (p .ensures .1) (at-loop-test .loop-test .taken) (omega (arith, at-if2 .if2 .left, at-if1 .if1 .left)) (s .kept .1 .1 .0) (s .kept .1 .1 .1 .0)
     (s .kept .1 .1 .1 .1 .0) (p .kept .0) (e .1 .1 .1 .1 .1 .0)
 
 same-length-5 : tie.Need-same-length-5 Inv-loop μ-loop

@@ -14,8 +14,15 @@ unhook-requires c κs = c .before .before .before .before .pre
 
 free-all-requires : tie.Need-free-all-requires
 free-all-requires c κs =
-    let start = c .before .before .before .before .before .before .before .before .before .before .before in
-    let out = c .before .before .before .before .before .before .unhook .ensures in (Leaving.leave-roomy (start .pre .0) (start .args .s) (start .pre .2) (start .args .link) (start .pre .3) _ (out .1 .0), Leaving.leave-room (start .pre .0) (start .args .s) (start .pre .2) (start .args .link) (start .pre .3) _ (out .1 .0) _ _ (out .1 .1) (start .pre .1) _ (out .0), Leaving.leave-below (start .pre .0) (start .args .s) (start .pre .2) (start .args .link) (start .pre .3) _ (out .1 .0) _ _ (out .1 .1) (start .pre .1) _ (out .0))
+    let at-unhook = c .before .before .before .before .before .before in
+    let start = at-unhook .before .before .before .before .before in
+    let pre = start .pre in
+    let a = start .args in
+    let out = at-unhook .unhook .ensures in (
+      Leaving.leave-roomy (pre .0) (a .s) (pre .2) (a .link) (pre .3) _ (out .1 .0),
+      Leaving.leave-room (pre .0) (a .s) (pre .2) (a .link) (pre .3) _ (out .1 .0) _ _ (out .1 .1) (pre .1) _ (out .0),
+      Leaving.leave-below (pre .0) (a .s) (pre .2) (a .link) (pre .3) _ (out .1 .0) _ _ (out .1 .1) (pre .1) _ (out .0),
+    )
 
 add-t : tie.Need-add-t
 add-t c =

@@ -18,8 +18,12 @@ wide-requires : tie.Need-wide-requires
 wide-requires c κs = search needs
 
 erase-page-requires : tie.Need-erase-page-requires
-erase-page-requires c κs = let j = Erasing.judged-accept _ _ _ _ _ _ (c .before .before .before .before .before .before .before .erase-verdict .ensures) (c .before .before .before .before .before .verdict2 .given .1) in
-    (Erasing.erase-target (c .before .before .before .before .before .before .before .before .before .before .before .before .pre .0) _ _ _ _ (j .0) (j .1) (c .wide .ensures), Erasing.erase-fits (c .before .before .before .before .before .before .before .before .before .before .before .before .pre .0) _ _ _ _ (j .0) (j .1) (c .wide .ensures), c .before .before .before .before .before .before .before .before .before .before .before .before .pre .1, c .before .before .before .before .before .before .before .before .before .before .before .before .pre .2)
+erase-page-requires c κs =
+    let at-verdict2 = c .before .before .before .before .before in
+    let at-erase-verdict = at-verdict2 .before .before in
+    let start = at-erase-verdict .before .before .before .before .before in
+    let j = Erasing.judged-accept _ _ _ _ _ _ (at-erase-verdict .erase-verdict .ensures) (at-verdict2 .verdict2 .given .1) in
+    (Erasing.erase-target (start .pre .0) _ _ _ _ (j .0) (j .1) (c .wide .ensures), Erasing.erase-fits (start .pre .0) _ _ _ _ (j .0) (j .1) (c .wide .ensures), start .pre .1, start .pre .2)
 
 same-length : tie.Need-same-length
 same-length c = search needs
@@ -39,9 +43,18 @@ same-length-4 : tie.Need-same-length-4
 same-length-4 c = search needs
 
 returns-2 : tie.Need-returns-2
-returns-2 c = let j = Erasing.judged-accept _ _ _ _ _ _ (c .before .before .before .before .before .before .before .before .before .before .before .before .before .before .erase-verdict .ensures) (c .before .before .before .before .before .before .before .before .before .before .before .before .verdict2 .given .1) in let R = c .before .before .before .before .before .before .before .before .before .before .before .before .before .before .before .before .before .before .before .pre .0 in let w = c .before .before .before .before .before .before .before .wide .ensures in
-    let p = c .before .before .before .before .before .before .erase-page .ensures in let o = Erasing.erase-out R _ _ _ _ (j .0) (j .1) w (c .before .before .before .before .before .before .before .before .before .before .before .before .before .before .before .before .before .before .before .args .out .now) _ _ (c .before .before .before .before .before .before .before .before .before .before .before .before .before .before .before .before .before .before .before .pre .2) (p .0) (p .1 .1 .1) in
-    (o .0, (Erasing.erase-tables R _ _ _ _ (j .0) (j .1) w _ (p .1 .0), (Erasing.erase-log R _ _ _ _ (j .0) (j .1) w (c .before .before .before .before .before .before .before .before .before .before .before .before .before .before .before .before .before .before .before .args .log .now) _ (p .1 .1 .0), o .1)))
+returns-2 c =
+    let at-erase-page = c .before .before .before .before .before .before in
+    let at-wide = at-erase-page .before in
+    let at-verdict2 = at-wide .before .before .before .before .before in
+    let at-erase-verdict = at-verdict2 .before .before in
+    let start = at-erase-verdict .before .before .before .before .before in
+    let j = Erasing.judged-accept _ _ _ _ _ _ (at-erase-verdict .erase-verdict .ensures) (at-verdict2 .verdict2 .given .1) in
+    let R = start .pre .0 in
+    let w = at-wide .wide .ensures in
+    let p = at-erase-page .erase-page .ensures in
+    let o = Erasing.erase-out R _ _ _ _ (j .0) (j .1) w (start .args .out .now) _ _ (start .pre .2) (p .0) (p .1 .1 .1) in
+    (o .0, (Erasing.erase-tables R _ _ _ _ (j .0) (j .1) w _ (p .1 .0), (Erasing.erase-log R _ _ _ _ (j .0) (j .1) w (start .args .log .now) _ (p .1 .1 .0), o .1)))
 
 pub erase-spec : {M : Type 1} → statement M
 erase-spec =

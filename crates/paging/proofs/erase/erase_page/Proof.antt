@@ -38,8 +38,13 @@ add-log-one : tie.Need-add-log-one
 add-log-one c = omega (arith, Killing.link-small (c .before .before .before .before .before .before .before .before .before .before .before .before .pre .0) _ (c .before .before .before .before .before .before .before .wide .ensures))
 
 log-one-requires : tie.Need-log-one-requires
-log-one-requires c κs = let k = c .before .before .before .before .before .kill-on .ensures in
-    Erasing.one-room (c .before .before .before .before .before .before .before .before .before .before .before .before .pre .0) _ _ (c .before .before .before .before .before .before .before .wide .ensures) (k .0) _ (k .1) (c .before .before .if1 .taken) (c .before .before .before .before .before .before .before .before .before .before .before .before .args .log .now) (c .before .before .before .before .before .before .before .before .before .before .before .before .pre .1) (c .before .before .before .before .before .before .before .before .before .before .before .before .pre .2)
+log-one-requires c κs =
+    let at-if1 = c .before .before in
+    let at-kill-on = at-if1 .before .before .before in
+    let at-wide = at-kill-on .before .before in
+    let start = at-wide .before .before .before .before .before in
+    let k = at-kill-on .kill-on .ensures in
+    Erasing.one-room (start .pre .0) _ _ (at-wide .wide .ensures) (k .0) _ (k .1) (at-if1 .if1 .taken) (start .args .log .now) (start .pre .1) (start .pre .2)
 
 cast-out : tie.Need-cast-out
 cast-out c = omega (arith, Killing.link-small (c .before .before .before .before .before .before .before .before .before .before .before .before .before .before .before .before .before .pre .0) _ (c .before .before .before .before .before .before .before .before .before .before .before .before .wide .ensures))
@@ -57,13 +62,23 @@ same-length-3 : tie.Need-same-length-3
 same-length-3 c = search needs
 
 returns : tie.Need-returns
-returns c = let A = c .before .before .before .before .before .before .before .before .before .before .before .before .before .before .before .before .before .pre .0 in let w = c .before .before .before .before .before .before .before .before .before .before .before .before .wide .ensures in let k = c .before .before .before .before .before .before .before .before .before .before .kill-on .ensures in let i = c .before .before .before .before .before .before .before .if1 .taken in let p = c .before .before .before .before .log-one .ensures in (
-  Erasing.one-count A _ _ w (k .0) i,
-  (
-    p .0 ∙ Erasing.one-tables A _ _ w (k .0) _ (k .1) i,
-    (Erasing.one-log A _ _ w (k .0) _ (k .1) i _ (c .before .before .before .before .before .before .before .before .before .before .before .before .before .before .before .before .before .args .log .now) _ refl (p .1), Erasing.one-out A _ _ w (k .0) i (c .before .before .before .before .before .before .before .before .before .before .before .before .before .before .before .before .before .args .out .now)),
-  ),
-)
+returns c =
+    let at-log-one = c .before .before .before .before in
+    let at-if1 = at-log-one .before .before .before in
+    let at-kill-on = at-if1 .before .before .before in
+    let at-wide = at-kill-on .before .before in
+    let start = at-wide .before .before .before .before .before in
+    let A = start .pre .0 in
+    let w = at-wide .wide .ensures in
+    let k = at-kill-on .kill-on .ensures in
+    let i = at-if1 .if1 .taken in
+    let p = at-log-one .log-one .ensures in (
+      Erasing.one-count A _ _ w (k .0) i,
+      (
+        p .0 ∙ Erasing.one-tables A _ _ w (k .0) _ (k .1) i,
+        (Erasing.one-log A _ _ w (k .0) _ (k .1) i _ (start .args .log .now) _ refl (p .1), Erasing.one-out A _ _ w (k .0) i (start .args .out .now)),
+      ),
+    )
 
 same-length-4 : tie.Need-same-length-4
 same-length-4 c = search needs

@@ -41,19 +41,50 @@ wide-requires-2 : tie.Need-wide-requires-2
 wide-requires-2 c κs = search needs
 
 returns-4 : tie.Need-returns-4
-returns-4 c = Erasing.erase-accepts _ _ _ _ _ (c .before .before .before .before .before .before .before .before .before .before .wide .ensures) (c .before .before .before .before .before .before .before .before .before .before .before .before .pre) _ (c .before .before .before .before .before .before .before .before .if1 .left) (c .before .before .before .before .before .before .before .slot-of .ensures .0) (c .before .before .before .before .before .before .if2 .left) (c .before .before .before .before .if3 .left) _ _ _ (c .before .before .wide2 .ensures) refl refl (Erasing.one-enough _ _ _ _ _ (c .if4 .taken))
+returns-4 c =
+    let at-wide2 = c .before .before in
+    let at-if3 = at-wide2 .before .before in
+    let at-if2 = at-if3 .before .before in
+    let at-slot-of = at-if2 .before in
+    let at-if1 = at-slot-of .before in
+    let at-wide = at-if1 .before .before in
+    let start = at-wide .before .before in
+    Erasing.erase-accepts _ _ _ _ _ (at-wide .wide .ensures) (start .pre) _ (at-if1 .if1 .left) (at-slot-of .slot-of .ensures .0) (at-if2 .if2 .left) (at-if3 .if3 .left) _ _ _ (at-wide2 .wide2 .ensures) refl refl (Erasing.one-enough _ _ _ _ _ (c .if4 .taken))
 
 wide-requires-3 : tie.Need-wide-requires-3
 wide-requires-3 c κs = search needs
 
 frees-on-requires : tie.Need-frees-on-requires
-frees-on-requires c κs = (c .before .before .before .before .before .before .before .before .before .before .before .before .before .pre, omega (arith, c .before .before .before .before .before .before .before .before .slot-of .ensures .1), Looking.named-live (c .before .before .before .before .before .before .before .before .before .before .before .before .before .pre) _ _ (c .before .before .before .before .before .before .before .before .slot-of .ensures .0) (c .before .before .before .before .before .before .before .if2 .left), omega arith)
+frees-on-requires c κs =
+    let at-if2 = c .before .before .before .before .before .before .before in
+    let at-slot-of = at-if2 .before in
+    let start = at-slot-of .before .before .before .before .before in
+    (start .pre, omega (arith, at-slot-of .slot-of .ensures .1), Looking.named-live (start .pre) _ _ (at-slot-of .slot-of .ensures .0) (at-if2 .if2 .left), omega arith)
 
 returns-5 : tie.Need-returns-5
-returns-5 c = Erasing.erase-14 _ _ _ _ _ (c .before .before .before .before .before .before .before .before .before .before .before .before .before .wide .ensures) (c .before .before .before .before .before .before .before .before .before .before .before .before .before .before .before .pre) _ (c .before .before .before .before .before .before .before .before .before .before .before .if1 .left) (c .before .before .before .before .before .before .before .before .before .before .slot-of .ensures .0) (c .before .before .before .before .before .before .before .before .before .if2 .left) (c .before .before .before .before .before .before .before .if3 .left) _ _ _ (c .before .before .before .before .before .wide2 .ensures) (c .before .before .wide3 .ensures) (c .before .frees-on .ensures) (c .before .before .before .if4 .left) (c .if5 .taken)
+returns-5 c =
+    let at-wide3 = c .before .before in
+    let at-if4 = at-wide3 .before in
+    let at-wide2 = at-if4 .before .before in
+    let at-if3 = at-wide2 .before .before in
+    let at-if2 = at-if3 .before .before in
+    let at-slot-of = at-if2 .before in
+    let at-if1 = at-slot-of .before in
+    let at-wide = at-if1 .before .before in
+    let start = at-wide .before .before in
+    Erasing.erase-14 _ _ _ _ _ (at-wide .wide .ensures) (start .pre) _ (at-if1 .if1 .left) (at-slot-of .slot-of .ensures .0) (at-if2 .if2 .left) (at-if3 .if3 .left) _ _ _ (at-wide2 .wide2 .ensures) (at-wide3 .wide3 .ensures) (c .before .frees-on .ensures) (at-if4 .if4 .left) (c .if5 .taken)
 
 returns-6 : tie.Need-returns-6
-returns-6 c = Erasing.erase-accepts _ _ _ _ _ (c .before .before .before .before .before .before .before .before .before .before .before .before .before .wide .ensures) (c .before .before .before .before .before .before .before .before .before .before .before .before .before .before .before .pre) _ (c .before .before .before .before .before .before .before .before .before .before .before .if1 .left) (c .before .before .before .before .before .before .before .before .before .before .slot-of .ensures .0) (c .before .before .before .before .before .before .before .before .before .if2 .left) (c .before .before .before .before .before .before .before .if3 .left) _ _ _ (c .before .before .before .before .before .wide2 .ensures) (c .before .before .wide3 .ensures) (c .before .frees-on .ensures) (omega (arith, c .if5 .left))
+returns-6 c =
+    let at-wide3 = c .before .before in
+    let at-wide2 = at-wide3 .before .before .before in
+    let at-if3 = at-wide2 .before .before in
+    let at-if2 = at-if3 .before .before in
+    let at-slot-of = at-if2 .before in
+    let at-if1 = at-slot-of .before in
+    let at-wide = at-if1 .before .before in
+    let start = at-wide .before .before in
+    Erasing.erase-accepts _ _ _ _ _ (at-wide .wide .ensures) (start .pre) _ (at-if1 .if1 .left) (at-slot-of .slot-of .ensures .0) (at-if2 .if2 .left) (at-if3 .if3 .left) _ _ _ (at-wide2 .wide2 .ensures) (at-wide3 .wide3 .ensures) (c .before .frees-on .ensures) (omega (arith, c .if5 .left))
 
 pub erase-verdict-spec : {M : Type 1} → statement M
 erase-verdict-spec =

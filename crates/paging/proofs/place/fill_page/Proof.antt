@@ -25,7 +25,12 @@ same-length : tie.Need-same-length
 same-length c = search needs
 
 returns : tie.Need-returns
-returns c = (c .before .before .before .before .before .before .before .before .before .before .before .kill-on .ensures .0, Placing.page-filled (c .before .before .before .before .before .before .before .before .before .before .before .before .before .before .pre .0) (c .before .before .before .before .before .before .before .before .before .before .before .before .before .before .pre .1) _ (c .before .before .before .before .before .before .before .before .before .before .before .kill-on .ensures .1) _ (c .before .before .before .before .before .before .put-block .ensures) _ (c .before .before .turn-on .ensures))
+returns c =
+    let at-turn-on = c .before .before in
+    let at-put-block = at-turn-on .before .before .before .before in
+    let at-kill-on = at-put-block .before .before .before .before .before in
+    let start = at-kill-on .before .before .before in
+    (at-kill-on .kill-on .ensures .0, Placing.page-filled (start .pre .0) (start .pre .1) _ (at-kill-on .kill-on .ensures .1) _ (at-put-block .put-block .ensures) _ (at-turn-on .turn-on .ensures))
 
 pub fill-page-spec : {M : Type 1} → statement M
 fill-page-spec =

@@ -52,7 +52,13 @@ same-length : tie.Need-same-length
 same-length c = search needs
 
 returns : tie.Need-returns
-returns c = Placing.turn-put (c .before .before .before .before .before .before .before .before .before .pre .0) _ _ (c .before .before .before .before .before .before .before .before .before .pre .1) _ _ _ (c .before .before .before .before .before .before .wide .ensures) (c .before .before .before .before .wide2 .ensures) (c .before .before .before .turned-by .ensures .0) (c .before .before .next-of .ensures .0)
+returns c =
+    let at-next-of = c .before .before in
+    let at-turned-by = at-next-of .before in
+    let at-wide2 = at-turned-by .before in
+    let at-wide = at-wide2 .before .before in
+    let start = at-wide .before .before .before in
+    Placing.turn-put (start .pre .0) _ _ (start .pre .1) _ _ _ (at-wide .wide .ensures) (at-wide2 .wide2 .ensures) (at-turned-by .turned-by .ensures .0) (at-next-of .next-of .ensures .0)
 
 pub turn-on-spec : {M : Type 1} → statement M
 turn-on-spec =

@@ -43,13 +43,27 @@ wide-requires-3 : tie.Need-wide-requires-3
 wide-requires-3 c κs = search needs
 
 returns-3 : tie.Need-returns-3
-returns-3 c = Looking.read-empty _ _ _ _ _ (c .before .before .before .before .before .before .before .before .wide .ensures) (c .before .before .before .before .before .before .before .before .before .before .before .pre .0) _ (c .before .before .before .before .before .before .if1 .left) (c .before .before .before .before .before .slot-of .ensures .0) (c .before .before .before .before .if2 .left) _ _ (c .before .before .before .wide2 .ensures) (c .before .wide3 .ensures) _ (c .if3 .taken)
+returns-3 c =
+    let at-wide2 = c .before .before .before in
+    let at-if2 = at-wide2 .before in
+    let at-slot-of = at-if2 .before in
+    let at-if1 = at-slot-of .before in
+    let at-wide = at-if1 .before .before in
+    let start = at-wide .before .before .before in
+    Looking.read-empty _ _ _ _ _ (at-wide .wide .ensures) (start .pre .0) _ (at-if1 .if1 .left) (at-slot-of .slot-of .ensures .0) (at-if2 .if2 .left) _ _ (at-wide2 .wide2 .ensures) (c .before .wide3 .ensures) _ (c .if3 .taken)
 
 sub-out : tie.Need-sub-out
 sub-out c = search needs
 
 cast-out : tie.Need-cast-out
-cast-out c = omega (arith, Looking.read-le _ _ _ _ _ (c .before .before .before .before .before .before .before .before .wide .ensures) (c .before .before .before .before .before .before .before .before .before .before .before .pre .0) _ (c .before .before .before .before .before .before .if1 .left) (c .before .before .before .before .before .slot-of .ensures .0) (c .before .before .before .before .if2 .left) _ _ (c .before .before .before .wide2 .ensures) (c .before .wide3 .ensures))
+cast-out c =
+    let at-wide2 = c .before .before .before in
+    let at-if2 = at-wide2 .before in
+    let at-slot-of = at-if2 .before in
+    let at-if1 = at-slot-of .before in
+    let at-wide = at-if1 .before .before in
+    let start = at-wide .before .before .before in
+    omega (arith, Looking.read-le _ _ _ _ _ (at-wide .wide .ensures) (start .pre .0) _ (at-if1 .if1 .left) (at-slot-of .slot-of .ensures .0) (at-if2 .if2 .left) _ _ (at-wide2 .wide2 .ensures) (c .before .wide3 .ensures))
 
 slice-write-out : tie.Need-slice-write-out
 slice-write-out c = search needs
@@ -58,7 +72,14 @@ same-length : tie.Need-same-length
 same-length c = search needs
 
 returns-4 : tie.Need-returns-4
-returns-4 c = Looking.read-one _ _ _ _ _ (c .before .before .before .before .before .before .before .before .wide .ensures) (c .before .before .before .before .before .before .before .before .before .before .before .pre .0) _ (c .before .before .before .before .before .before .if1 .left) (c .before .before .before .before .before .slot-of .ensures .0) (c .before .before .before .before .if2 .left) _ _ (c .before .before .before .wide2 .ensures) (c .before .wide3 .ensures) _ (c .before .before .before .before .before .before .before .before .before .before .before .pre .1) (c .if3 .left)
+returns-4 c =
+    let at-wide2 = c .before .before .before in
+    let at-if2 = at-wide2 .before in
+    let at-slot-of = at-if2 .before in
+    let at-if1 = at-slot-of .before in
+    let at-wide = at-if1 .before .before in
+    let start = at-wide .before .before .before in
+    Looking.read-one _ _ _ _ _ (at-wide .wide .ensures) (start .pre .0) _ (at-if1 .if1 .left) (at-slot-of .slot-of .ensures .0) (at-if2 .if2 .left) _ _ (at-wide2 .wide2 .ensures) (c .before .wide3 .ensures) _ (start .pre .1) (c .if3 .left)
 
 pub read-spec : {M : Type 1} → statement M
 read-spec =

@@ -41,7 +41,12 @@ same-length-2 : tie.Need-same-length-2
 same-length-2 c = search needs
 
 returns : tie.Need-returns
-returns c = (Wording.counted (c .before .before .before .before .before .before .before .before .before .before .before .before .args .t .now) 2 _ _ (c .before .before .before .before .before .before .before .before .wide .ensures), Wording.two-words (c .before .before .before .before .before .before .before .before .before .before .before .before .args .log .now) _ _ _ _ _ _ (c .before .before .before .before .before .before .before .before .wide .ensures) (c .before .before .before .before .before .before .before .before .before .before .before .before .pre .2) (c .before .before .before .before .before .before .append .ensures .1) (c .before .before .append2 .ensures .1))
+returns c =
+    let at-append2 = c .before .before in
+    let at-append = at-append2 .before .before .before .before in
+    let at-wide = at-append .before .before in
+    let start = at-wide .before .before .before .before in
+    (Wording.counted (start .args .t .now) 2 _ _ (at-wide .wide .ensures), Wording.two-words (start .args .log .now) _ _ _ _ _ _ (at-wide .wide .ensures) (start .pre .2) (at-append .append .ensures .1) (at-append2 .append2 .ensures .1))
 
 pub log-two-spec : {M : Type 1} → statement M
 log-two-spec =

@@ -39,9 +39,18 @@ same-length-4 : tie.Need-same-length-4
 same-length-4 c = search needs
 
 returns-2 : tie.Need-returns-2
-returns-2 c = let j = Giving.judged-accept _ _ _ _ _ _ _ _ _ (c .before .before .before .before .before .before .before .before .before .before .before .before .before .before .write-verdict .ensures) (c .before .before .before .before .before .before .before .before .before .before .before .before .verdict2 .given .1) in let R = c .before .before .before .before .before .before .before .before .before .before .before .before .before .before .before .before .before .before .before .pre .0 in let w = c .before .before .before .before .before .before .before .wide .ensures in
-    let p = c .before .before .before .before .before .before .write-page .ensures in let o = Giving.write-out R _ _ _ _ _ _ _ j w (c .before .before .before .before .before .before .before .before .before .before .before .before .before .before .before .before .before .before .before .args .out .now) _ _ (c .before .before .before .before .before .before .before .before .before .before .before .before .before .before .before .before .before .before .before .pre .2) (p .0) (p .1 .1 .1) in
-    (o .0, (Giving.write-tables R _ _ _ _ _ _ _ j w _ (p .1 .0), (Giving.write-log R _ _ _ _ _ _ _ j w (c .before .before .before .before .before .before .before .before .before .before .before .before .before .before .before .before .before .before .before .args .log .now) _ (p .1 .1 .0), o .1)))
+returns-2 c =
+    let at-write-page = c .before .before .before .before .before .before in
+    let at-wide = at-write-page .before in
+    let at-verdict2 = at-wide .before .before .before .before .before in
+    let at-write-verdict = at-verdict2 .before .before in
+    let start = at-write-verdict .before .before .before .before .before in
+    let j = Giving.judged-accept _ _ _ _ _ _ _ _ _ (at-write-verdict .write-verdict .ensures) (at-verdict2 .verdict2 .given .1) in
+    let R = start .pre .0 in
+    let w = at-wide .wide .ensures in
+    let p = at-write-page .write-page .ensures in
+    let o = Giving.write-out R _ _ _ _ _ _ _ j w (start .args .out .now) _ _ (start .pre .2) (p .0) (p .1 .1 .1) in
+    (o .0, (Giving.write-tables R _ _ _ _ _ _ _ j w _ (p .1 .0), (Giving.write-log R _ _ _ _ _ _ _ j w (start .args .log .now) _ (p .1 .1 .0), o .1)))
 
 pub write-spec : {M : Type 1} → statement M
 write-spec =

@@ -58,8 +58,13 @@ add-log-two-2 : tie.Need-add-log-two-2
 add-log-two-2 c = omega (arith, Killing.link-small (c .before .before .before .before .before .before .before .before .before .before .before .before .before .pre .0) _ (c .before .before .before .before .before .before .before .before .wide .ensures))
 
 log-two-requires : tie.Need-log-two-requires
-log-two-requires c κs = let k = c .before .before .before .before .before .before .fill-page .ensures in
-    Giving.two-room (c .before .before .before .before .before .before .before .before .before .before .before .before .before .pre .0) (c .before .before .before .before .before .before .before .before .before .before .before .before .before .pre .1) _ _ (c .before .before .before .before .before .before .before .before .wide .ensures) (k .0) _ (k .1) (c .before .before .if1 .taken) (c .before .before .before .before .before .before .before .before .before .before .before .before .before .args .log .now) (c .before .before .before .before .before .before .before .before .before .before .before .before .before .pre .2) (c .before .before .before .before .before .before .before .before .before .before .before .before .before .pre .3)
+log-two-requires c κs =
+    let at-if1 = c .before .before in
+    let at-fill-page = at-if1 .before .before .before .before in
+    let at-wide = at-fill-page .before .before in
+    let start = at-wide .before .before .before .before .before in
+    let k = at-fill-page .fill-page .ensures in
+    Giving.two-room (start .pre .0) (start .pre .1) _ _ (at-wide .wide .ensures) (k .0) _ (k .1) (at-if1 .if1 .taken) (start .args .log .now) (start .pre .2) (start .pre .3)
 
 cast-out-2 : tie.Need-cast-out-2
 cast-out-2 c = omega (arith, Killing.link-small (c .before .before .before .before .before .before .before .before .before .before .before .before .before .before .before .before .before .before .pre .0) _ (c .before .before .before .before .before .before .before .before .before .before .before .before .before .wide .ensures))
@@ -77,13 +82,24 @@ same-length-3 : tie.Need-same-length-3
 same-length-3 c = search needs
 
 returns : tie.Need-returns
-returns c = let A = c .before .before .before .before .before .before .before .before .before .before .before .before .before .before .before .before .before .before .pre .0 in let P = c .before .before .before .before .before .before .before .before .before .before .before .before .before .before .before .before .before .before .pre .1 in let w = c .before .before .before .before .before .before .before .before .before .before .before .before .before .wide .ensures in let k = c .before .before .before .before .before .before .before .before .before .before .before .fill-page .ensures in let i = c .before .before .before .before .before .before .before .if1 .taken in let p = c .before .before .before .before .log-two .ensures in (
-  Giving.two-count A P _ _ w (k .0) i,
-  (
-    p .0 ∙ Giving.two-tables A P _ _ w (k .0) _ (k .1) i,
-    (Giving.two-log A P _ _ w (k .0) _ (k .1) i _ _ (c .before .before .before .before .before .before .before .before .before .before .before .before .before .before .before .before .before .before .args .log .now) _ refl refl (p .1), Giving.two-out A P _ _ w (k .0) i (c .before .before .before .before .before .before .before .before .before .before .before .before .before .before .before .before .before .before .args .out .now)),
-  ),
-)
+returns c =
+    let at-log-two = c .before .before .before .before in
+    let at-if1 = at-log-two .before .before .before in
+    let at-fill-page = at-if1 .before .before .before .before in
+    let at-wide = at-fill-page .before .before in
+    let start = at-wide .before .before .before .before .before in
+    let A = start .pre .0 in
+    let P = start .pre .1 in
+    let w = at-wide .wide .ensures in
+    let k = at-fill-page .fill-page .ensures in
+    let i = at-if1 .if1 .taken in
+    let p = at-log-two .log-two .ensures in (
+      Giving.two-count A P _ _ w (k .0) i,
+      (
+        p .0 ∙ Giving.two-tables A P _ _ w (k .0) _ (k .1) i,
+        (Giving.two-log A P _ _ w (k .0) _ (k .1) i _ _ (start .args .log .now) _ refl refl (p .1), Giving.two-out A P _ _ w (k .0) i (start .args .out .now)),
+      ),
+    )
 
 mul-log-one : tie.Need-mul-log-one
 mul-log-one c = search needs
@@ -92,8 +108,13 @@ add-log-one : tie.Need-add-log-one
 add-log-one c = search needs
 
 log-one-requires : tie.Need-log-one-requires
-log-one-requires c κs = let k = c .before .before .before .before .before .before .fill-page .ensures in
-    Giving.one-room (c .before .before .before .before .before .before .before .before .before .before .before .before .before .pre .0) (c .before .before .before .before .before .before .before .before .before .before .before .before .before .pre .1) _ _ (c .before .before .before .before .before .before .before .before .wide .ensures) (k .0) _ (k .1) (c .before .before .if1 .left) (c .before .before .before .before .before .before .before .before .before .before .before .before .before .args .log .now) (c .before .before .before .before .before .before .before .before .before .before .before .before .before .pre .2) (c .before .before .before .before .before .before .before .before .before .before .before .before .before .pre .3)
+log-one-requires c κs =
+    let at-if1 = c .before .before in
+    let at-fill-page = at-if1 .before .before .before .before in
+    let at-wide = at-fill-page .before .before in
+    let start = at-wide .before .before .before .before .before in
+    let k = at-fill-page .fill-page .ensures in
+    Giving.one-room (start .pre .0) (start .pre .1) _ _ (at-wide .wide .ensures) (k .0) _ (k .1) (at-if1 .if1 .left) (start .args .log .now) (start .pre .2) (start .pre .3)
 
 same-length-4 : tie.Need-same-length-4
 same-length-4 c = search needs
@@ -105,13 +126,24 @@ same-length-6 : tie.Need-same-length-6
 same-length-6 c = search needs
 
 returns-2 : tie.Need-returns-2
-returns-2 c = let A = c .before .before .before .before .before .before .before .before .before .before .before .before .before .before .before .before .before .before .pre .0 in let P = c .before .before .before .before .before .before .before .before .before .before .before .before .before .before .before .before .before .before .pre .1 in let w = c .before .before .before .before .before .before .before .before .before .before .before .before .before .wide .ensures in let k = c .before .before .before .before .before .before .before .before .before .before .before .fill-page .ensures in let i = c .before .before .before .before .before .before .before .if1 .left in let p = c .before .before .before .before .log-one .ensures in (
-  Giving.one-count A P _ _ w (k .0) i,
-  (
-    p .0 ∙ Giving.one-tables A P _ _ w (k .0) _ (k .1) i,
-    (Giving.one-log A P _ _ w (k .0) _ (k .1) i _ (c .before .before .before .before .before .before .before .before .before .before .before .before .before .before .before .before .before .before .args .log .now) _ refl (p .1), Giving.one-out A P _ _ w (k .0) i (c .before .before .before .before .before .before .before .before .before .before .before .before .before .before .before .before .before .before .args .out .now)),
-  ),
-)
+returns-2 c =
+    let at-log-one = c .before .before .before .before in
+    let at-if1 = at-log-one .before .before .before in
+    let at-fill-page = at-if1 .before .before .before .before in
+    let at-wide = at-fill-page .before .before in
+    let start = at-wide .before .before .before .before .before in
+    let A = start .pre .0 in
+    let P = start .pre .1 in
+    let w = at-wide .wide .ensures in
+    let k = at-fill-page .fill-page .ensures in
+    let i = at-if1 .if1 .left in
+    let p = at-log-one .log-one .ensures in (
+      Giving.one-count A P _ _ w (k .0) i,
+      (
+        p .0 ∙ Giving.one-tables A P _ _ w (k .0) _ (k .1) i,
+        (Giving.one-log A P _ _ w (k .0) _ (k .1) i _ (start .args .log .now) _ refl (p .1), Giving.one-out A P _ _ w (k .0) i (start .args .out .now)),
+      ),
+    )
 
 pub write-page-spec : {M : Type 1} → statement M
 write-page-spec =

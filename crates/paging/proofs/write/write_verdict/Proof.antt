@@ -48,7 +48,16 @@ enum-told : tie.Need-enum-told
 enum-told c = search needs
 
 returns-5 : tie.Need-returns-5
-returns-5 c = Giving.write-13 _ _ _ _ _ _ (c .before .before .before .before .before .before .before .before .before .before .wide .ensures) (c .before .before .before .before .before .before .before .before .if1 .left) (c .before .before .before .before .before .before .before .if2 .left) _ (c .before .before .before .before .before .before .slot-of .ensures .0) (c .before .before .before .before .before .before .before .before .before .before .before .before .pre) (c .before .before .before .before .before .if3 .left) (c .before .before .before .if4 .left) _ (c .before .before .search .ensures) (c .enum-told .given .1)
+returns-5 c =
+    let at-search = c .before .before in
+    let at-if4 = at-search .before in
+    let at-if3 = at-if4 .before .before in
+    let at-slot-of = at-if3 .before in
+    let at-if2 = at-slot-of .before in
+    let at-if1 = at-if2 .before in
+    let at-wide = at-if1 .before .before in
+    let start = at-wide .before .before in
+    Giving.write-13 _ _ _ _ _ _ (at-wide .wide .ensures) (at-if1 .if1 .left) (at-if2 .if2 .left) _ (at-slot-of .slot-of .ensures .0) (start .pre) (at-if3 .if3 .left) (at-if4 .if4 .left) _ (at-search .search .ensures) (c .enum-told .given .1)
 
 shared-slice-read-wide : tie.Need-shared-slice-read-wide
 shared-slice-read-wide c = search needs
@@ -60,22 +69,63 @@ sub-unused : tie.Need-sub-unused
 sub-unused c = omega (arith, Looking.used-le (c .before .before .before .before .before .before .before .before .before .before .before .before .before .before .before .before .pre))
 
 returns-6 : tie.Need-returns-6
-returns-6 c = Giving.write-accepts _ _ _ _ _ _ (c .before .before .before .before .before .before .before .before .before .before .before .before .before .before .before .wide .ensures) (c .before .before .before .before .before .before .before .before .before .before .before .before .before .if1 .left) (c .before .before .before .before .before .before .before .before .before .before .before .before .if2 .left) _ (c .before .before .before .before .before .before .before .before .before .before .before .slot-of .ensures .0) (c .before .before .before .before .before .before .before .before .before .before .before .before .before .before .before .before .before .pre) (c .before .before .before .before .before .before .before .before .before .before .if3 .left) (c .before .before .before .before .before .before .before .before .if4 .left) _ (c .before .before .before .before .before .before .before .search .ensures) _ _ (c .before .before .before .before .before .found .given .1) _ _ _ (c .before .before .wide2 .ensures) refl refl (Erasing.two-enough _ _ _ _ (c .if5 .taken))
+returns-6 c =
+    let at-wide2 = c .before .before in
+    let at-found = at-wide2 .before .before .before in
+    let at-search = at-found .before .before in
+    let at-if4 = at-search .before in
+    let at-if3 = at-if4 .before .before in
+    let at-slot-of = at-if3 .before in
+    let at-if2 = at-slot-of .before in
+    let at-if1 = at-if2 .before in
+    let at-wide = at-if1 .before .before in
+    let start = at-wide .before .before in
+    Giving.write-accepts _ _ _ _ _ _ (at-wide .wide .ensures) (at-if1 .if1 .left) (at-if2 .if2 .left) _ (at-slot-of .slot-of .ensures .0) (start .pre) (at-if3 .if3 .left) (at-if4 .if4 .left) _ (at-search .search .ensures) _ _ (at-found .found .given .1) _ _ _ (at-wide2 .wide2 .ensures) refl refl (Erasing.two-enough _ _ _ _ (c .if5 .taken))
 
 wide-requires-3 : tie.Need-wide-requires-3
 wide-requires-3 c κs = search needs
 
 frees-on-requires : tie.Need-frees-on-requires
-frees-on-requires c κs = (c .before .before .before .before .before .before .before .before .before .before .before .before .before .before .before .before .before .before .pre, omega (arith, c .before .before .before .before .before .before .before .before .before .before .before .before .slot-of .ensures .1, c .before .before .before .before .before .before .before .before .before .before .before .if3 .left), Looking.named-live (c .before .before .before .before .before .before .before .before .before .before .before .before .before .before .before .before .before .before .pre) _ _ (c .before .before .before .before .before .before .before .before .before .before .before .before .slot-of .ensures .0) (c .before .before .before .before .before .before .before .before .before .before .before .if3 .left), omega (arith, c .wide3 .ensures, c .before .before .before .before .before .before .before .before .before .before .before .before .before .before .before .before .wide .ensures, c .before .before .before .before .before .before .before .before .before .before .before .before .before .before .if1 .left))
+frees-on-requires c κs =
+    let at-if3 = c .before .before .before .before .before .before .before .before .before .before .before in
+    let at-slot-of = at-if3 .before in
+    let at-if1 = at-slot-of .before .before in
+    let at-wide = at-if1 .before .before in
+    let start = at-wide .before .before in
+    (start .pre, omega (arith, at-slot-of .slot-of .ensures .1, at-if3 .if3 .left), Looking.named-live (start .pre) _ _ (at-slot-of .slot-of .ensures .0) (at-if3 .if3 .left), omega (arith, c .wide3 .ensures, at-wide .wide .ensures, at-if1 .if1 .left))
 
 add-if6 : tie.Need-add-if6
 add-if6 c = omega (arith, Erasing.few-freed _ _ _ _ (c .frees-on .ensures))
 
 returns-7 : tie.Need-returns-7
-returns-7 c = Giving.write-14 _ _ _ _ _ _ (c .before .before .before .before .before .before .before .before .before .before .before .before .before .before .before .before .before .before .wide .ensures) (c .before .before .before .before .before .before .before .before .before .before .before .before .before .before .before .before .if1 .left) (c .before .before .before .before .before .before .before .before .before .before .before .before .before .before .before .if2 .left) _ (c .before .before .before .before .before .before .before .before .before .before .before .before .before .before .slot-of .ensures .0) (c .before .before .before .before .before .before .before .before .before .before .before .before .before .before .before .before .before .before .before .before .pre) (c .before .before .before .before .before .before .before .before .before .before .before .before .before .if3 .left) (c .before .before .before .before .before .before .before .before .before .before .before .if4 .left) _ (c .before .before .before .before .before .before .before .before .before .before .search .ensures) _ _ (c .before .before .before .before .before .before .before .before .found .given .1) _ _ _ (c .before .before .before .before .before .wide2 .ensures) (c .before .before .wide3 .ensures) (c .before .frees-on .ensures) (c .if6 .taken)
+returns-7 c =
+    let at-wide3 = c .before .before in
+    let at-wide2 = at-wide3 .before .before .before in
+    let at-found = at-wide2 .before .before .before in
+    let at-search = at-found .before .before in
+    let at-if4 = at-search .before in
+    let at-if3 = at-if4 .before .before in
+    let at-slot-of = at-if3 .before in
+    let at-if2 = at-slot-of .before in
+    let at-if1 = at-if2 .before in
+    let at-wide = at-if1 .before .before in
+    let start = at-wide .before .before in
+    Giving.write-14 _ _ _ _ _ _ (at-wide .wide .ensures) (at-if1 .if1 .left) (at-if2 .if2 .left) _ (at-slot-of .slot-of .ensures .0) (start .pre) (at-if3 .if3 .left) (at-if4 .if4 .left) _ (at-search .search .ensures) _ _ (at-found .found .given .1) _ _ _ (at-wide2 .wide2 .ensures) (at-wide3 .wide3 .ensures) (c .before .frees-on .ensures) (c .if6 .taken)
 
 returns-8 : tie.Need-returns-8
-returns-8 c = Giving.write-accepts _ _ _ _ _ _ (c .before .before .before .before .before .before .before .before .before .before .before .before .before .before .before .before .before .before .wide .ensures) (c .before .before .before .before .before .before .before .before .before .before .before .before .before .before .before .before .if1 .left) (c .before .before .before .before .before .before .before .before .before .before .before .before .before .before .before .if2 .left) _ (c .before .before .before .before .before .before .before .before .before .before .before .before .before .before .slot-of .ensures .0) (c .before .before .before .before .before .before .before .before .before .before .before .before .before .before .before .before .before .before .before .before .pre) (c .before .before .before .before .before .before .before .before .before .before .before .before .before .if3 .left) (c .before .before .before .before .before .before .before .before .before .before .before .if4 .left) _ (c .before .before .before .before .before .before .before .before .before .before .search .ensures) _ _ (c .before .before .before .before .before .before .before .before .found .given .1) _ _ _ (c .before .before .before .before .before .wide2 .ensures) (c .before .before .wide3 .ensures) (c .before .frees-on .ensures) (c .if6 .left)
+returns-8 c =
+    let at-wide3 = c .before .before in
+    let at-wide2 = at-wide3 .before .before .before in
+    let at-found = at-wide2 .before .before .before in
+    let at-search = at-found .before .before in
+    let at-if4 = at-search .before in
+    let at-if3 = at-if4 .before .before in
+    let at-slot-of = at-if3 .before in
+    let at-if2 = at-slot-of .before in
+    let at-if1 = at-if2 .before in
+    let at-wide = at-if1 .before .before in
+    let start = at-wide .before .before in
+    Giving.write-accepts _ _ _ _ _ _ (at-wide .wide .ensures) (at-if1 .if1 .left) (at-if2 .if2 .left) _ (at-slot-of .slot-of .ensures .0) (start .pre) (at-if3 .if3 .left) (at-if4 .if4 .left) _ (at-search .search .ensures) _ _ (at-found .found .given .1) _ _ _ (at-wide2 .wide2 .ensures) (at-wide3 .wide3 .ensures) (c .before .frees-on .ensures) (c .if6 .left)
 
 pub write-verdict-spec : {M : Type 1} → statement M
 write-verdict-spec =

@@ -70,9 +70,17 @@ digits-at-requires : tie.Need-digits-at-requires
 digits-at-requires c κs = omega arith
 
 returns-7 : tie.Need-returns-7
-returns-7 c = let a = c .before .before .before .before .before .before .before .before .before .before .before .before .before .args in
+returns-7 c =
+    let at-if6 = c .before .before in
+    let at-if5 = at-if6 .before .before in
+    let at-if4 = at-if5 .before .before in
+    let at-if3 = at-if4 .before .before in
+    let at-if2 = at-if3 .before in
+    let at-if1 = at-if2 .before .before in
+    let start = at-if1 .before .before in
+    let a = start .args in
     let xs = a .line .now in
-    c .digits-at .ensures ∙ sym (number-first xs (a .at) (a .at) (c .before .before .before .before .before .before .before .before .before .before .before .if1 .left) (c .before .before .before .before .before .before .before .before .before .if2 .left) ∙ first-more xs (a .at + 1) (a .at + 1) (c .before .before .before .before .before .before .before .before .if3 .left) (c .before .before .before .before .before .before .if4 .left) (digit-yes (getD xs (a .at + 1) 0) (c .before .before .before .before .if5 .left) (c .before .before .if6 .left)))
+    c .digits-at .ensures ∙ sym (number-first xs (a .at) (a .at) (at-if1 .if1 .left) (at-if2 .if2 .left) ∙ first-more xs (a .at + 1) (a .at + 1) (at-if3 .if3 .left) (at-if4 .if4 .left) (digit-yes (getD xs (a .at + 1) 0) (at-if5 .if5 .left) (at-if6 .if6 .left)))
 
 pub number-at-spec : {M : Type 1} → statement M
 number-at-spec =

@@ -23,8 +23,15 @@ second-is c = agrees-read _ (numberFrom (drop (c .before .before .before .before
 
 -- the third number, and where it ends
 third-is : (c : tie.After-third) →
-    (Number.Read (c .third .given .0 .0) (c .third .given .0 .1 .0) ≡ numberFrom (drop (c .before .before .before .before .second .given .0 .1 .0) (c .before .before .before .before .before .before .before .before .before .before .before .before .args .text .now)) (c .before .before .before .before .second .given .0 .1 .0)) × (c .third .given .0 .1 .0 ≤ (c .before .before .before .before .second .given .0 .1 .0) + 5)
-third-is c = agrees-read _ (numberFrom (drop (c .before .before .before .before .second .given .0 .1 .0) (c .before .before .before .before .before .before .before .before .before .before .before .before .args .text .now)) (c .before .before .before .before .second .given .0 .1 .0)) _ _ ((c .before .before .before .before .second .given .0 .1 .0) + 5) (c .third .given .1) (c .before .before .short-at3 .ensures)
+    let at-second = c .before .before .before .before in
+    let text = at-second .before .before .before .before .before .before .before .before .args .text .now in
+    let from = at-second .second .given .0 .1 .0 in
+    (Number.Read (c .third .given .0 .0) (c .third .given .0 .1 .0) ≡ numberFrom (drop from text) from) × (c .third .given .0 .1 .0 ≤ from + 5)
+third-is c =
+    let at-short-at3 = c .before .before in
+    let at-second = at-short-at3 .before .before in
+    let start = at-second .before .before .before .before .before .before .before .before in
+    agrees-read _ (numberFrom (drop (at-second .second .given .0 .1 .0) (start .args .text .now)) (at-second .second .given .0 .1 .0)) _ _ ((at-second .second .given .0 .1 .0) + 5) (c .third .given .1) (at-short-at3 .short-at3 .ensures)
 
 add-short-at : tie.Need-add-short-at
 add-short-at c = search needs

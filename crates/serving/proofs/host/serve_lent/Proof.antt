@@ -77,27 +77,43 @@ same-length-11 c = search needs
 
 returns-3 : tie.Need-returns-3
 returns-3 c =
-    let b = c .before .before .before .before .before .before .before .before .before .before .before .before .before .before .before .before .before .before .before .before .before in
+    let at-if2 = c .before .before .before .before in
+    let at-is-too-short = at-if2 .before in
+    let at-if1 = at-is-too-short .before .before .before .before .before .before in
+    let at-is-outside = at-if1 .before in
+    let at-session-of = at-is-outside .before in
+    let b = at-session-of .before .before .before .before .before .before .before .before in
     let a = b .args in
     let H = lentBy (a .run .now) (a .tables .now) (a .log .now) (a .out .now) (a .replies .now) in
-    let s = c .before .before .before .before .before .before .before .before .before .before .before .before .before .session-of in
-    by-4 (a .text .now) (a .at) H (s .result) (s .ensures .0) (sym (c .before .before .before .before .before .before .before .before .before .before .before .before .is-outside .ensures) ∙ c .before .before .before .before .before .before .before .before .before .before .before .if1 .left) (sym (c .before .before .before .before .before .is-too-short .ensures) ∙ c .before .before .before .before .if2 .left) (sym (c .before .is-unsound .ensures) ∙ c .if3 .taken)
+    let s = at-session-of .session-of in
+    by-4 (a .text .now) (a .at) H (s .result) (s .ensures .0) (sym (at-is-outside .is-outside .ensures) ∙ at-if1 .if1 .left) (sym (at-is-too-short .is-too-short .ensures) ∙ at-if2 .if2 .left) (sym (c .before .is-unsound .ensures) ∙ c .if3 .taken)
 
 serve-part-requires : tie.Need-serve-part-requires
 serve-part-requires c κs =
-    let b = c .before .before .before .before .before .before .before .before .before .before .before .before .before .before .before .before .before .before .before .before .before .before .before .before .before in
+    let at-if3 = c .before .before .before .before in
+    let at-is-unsound = at-if3 .before in
+    let at-if2 = at-is-unsound .before .before .before in
+    let at-is-too-short = at-if2 .before in
+    let at-if1 = at-is-too-short .before .before .before .before .before .before in
+    let at-is-outside = at-if1 .before in
+    let at-session-of = at-is-outside .before in
+    let b = at-session-of .before .before .before .before .before .before .before .before in
     let a = b .args in
     let H = lentBy (a .run .now) (a .tables .now) (a .log .now) (a .out .now) (a .replies .now) in
-    let s = c .before .before .before .before .before .before .before .before .before .before .before .before .before .before .before .before .before .session-of in
-    kept (a .text .now) (a .at) H (s .result) (s .ensures .0) (sym (c .before .before .before .before .before .before .before .before .before .before .before .before .before .before .before .before .is-outside .ensures) ∙ c .before .before .before .before .before .before .before .before .before .before .before .before .before .before .before .if1 .left) (sym (c .before .before .before .before .before .before .before .before .before .is-too-short .ensures) ∙ c .before .before .before .before .before .before .before .before .if2 .left) (sym (c .before .before .before .before .before .is-unsound .ensures) ∙ c .before .before .before .before .if3 .left)
+    let s = at-session-of .session-of in
+    kept (a .text .now) (a .at) H (s .result) (s .ensures .0) (sym (at-is-outside .is-outside .ensures) ∙ at-if1 .if1 .left) (sym (at-is-too-short .is-too-short .ensures) ∙ at-if2 .if2 .left) (sym (at-is-unsound .is-unsound .ensures) ∙ at-if3 .if3 .left)
 
 put-run-requires : tie.Need-put-run-requires
 put-run-requires c κs =
-    let b = c .before .before .before .before .before .before .before .before .before .before .before .before .before .before .before .before .before .before .before .before .before .before .before .before .before .before .before .before .before .before .before .before .before .before .before in
+    let at-serve-part = c .before .before .before .before .before .before .before .before .before in
+    let at-if2 = at-serve-part .before .before .before .before .before .before .before .before .before in
+    let at-is-too-short = at-if2 .before in
+    let at-session-of = at-is-too-short .before .before .before .before .before .before .before .before in
+    let b = at-session-of .before .before .before .before .before .before .before .before in
     let a = b .args in
     let H = lentBy (a .run .now) (a .tables .now) (a .log .now) (a .out .now) (a .replies .now) in
-    let s = c .before .before .before .before .before .before .before .before .before .before .before .before .before .before .before .before .before .before .before .before .before .before .before .before .before .before .before .session-of in
-    (long H (sym (c .before .before .before .before .before .before .before .before .before .before .before .before .before .before .before .before .before .before .before .is-too-short .ensures) ∙ c .before .before .before .before .before .before .before .before .before .before .before .before .before .before .before .before .before .before .if2 .left) .run, narrow-after (a .text .now) (length (a .replies .now)) (a .at) (s .result) _ (a .replies .now) _ _ _ (s .ensures .1) (c .before .before .before .before .before .before .before .before .before .serve-part .ensures))
+    let s = at-session-of .session-of in
+    (long H (sym (at-is-too-short .is-too-short .ensures) ∙ at-if2 .if2 .left) .run, narrow-after (a .text .now) (length (a .replies .now)) (a .at) (s .result) _ (a .replies .now) _ _ _ (s .ensures .1) (at-serve-part .serve-part .ensures))
 
 same-length-12 : tie.Need-same-length-12
 same-length-12 c = search needs
@@ -116,11 +132,48 @@ same-length-16 c = search needs
 
 returns-4 : tie.Need-returns-4
 returns-4 c =
-    let b = c .before .before .before .before .before .before .before .before .before .before .before .before .before .before .before .before .before .before .before .before .before .before .before .before .before .before .before .before .before .before .before .before .before .before .before .before .before .before in
+    let at-put-run = c .before .before in
+    let at-serve-part = at-put-run .before .before .before .before .before .before .before .before .before .before in
+    let at-if3 = at-serve-part .before .before .before .before .before in
+    let at-is-unsound = at-if3 .before in
+    let at-if2 = at-is-unsound .before .before .before in
+    let at-is-too-short = at-if2 .before in
+    let at-if1 = at-is-too-short .before .before .before .before .before .before in
+    let at-is-outside = at-if1 .before in
+    let at-session-of = at-is-outside .before in
+    let b = at-session-of .before .before .before .before .before .before .before .before in
     let a = b .args in
     let H = lentBy (a .run .now) (a .tables .now) (a .log .now) (a .out .now) (a .replies .now) in
-    let s = c .before .before .before .before .before .before .before .before .before .before .before .before .before .before .before .before .before .before .before .before .before .before .before .before .before .before .before .before .before .before .session-of in
-    done (a .text .now) (a .at) H (s .result) (s .ensures .0) (sym (c .before .before .before .before .before .before .before .before .before .before .before .before .before .before .before .before .before .before .before .before .before .before .before .before .before .before .before .before .before .is-outside .ensures) ∙ c .before .before .before .before .before .before .before .before .before .before .before .before .before .before .before .before .before .before .before .before .before .before .before .before .before .before .before .before .if1 .left) (sym (c .before .before .before .before .before .before .before .before .before .before .before .before .before .before .before .before .before .before .before .before .before .before .is-too-short .ensures) ∙ c .before .before .before .before .before .before .before .before .before .before .before .before .before .before .before .before .before .before .before .before .before .if2 .left) (sym (c .before .before .before .before .before .before .before .before .before .before .before .before .before .before .before .before .before .before .is-unsound .ensures) ∙ c .before .before .before .before .before .before .before .before .before .before .before .before .before .before .before .before .before .if3 .left) _ _ _ _ (c .before .before .before .before .before .before .before .before .before .before .before .before .serve-part .ensures) (c .before .before .put-run .ensures)
+    let s = at-session-of .session-of in
+    done (a .text .now) (a .at) H (s .result) (s .ensures .0) (sym (at-is-outside .is-outside .ensures) ∙ at-if1 .if1 .left) (sym (at-is-too-short .is-too-short .ensures) ∙ at-if2 .if2 .left) (sym (at-is-unsound .is-unsound .ensures) ∙ at-if3 .if3 .left) _ _ _ _ (at-serve-part .serve-part .ensures) (at-put-run .put-run .ensures)
 
 pub serve-lent-spec : {M : Type 1} → statement M
-serve-lent-spec = tie.close (tie.spec session-of-requires is-outside-requires same-length returns is-too-short-requires same-length-2 same-length-3 same-length-4 same-length-5 same-length-6 returns-2 is-unsound-requires same-length-7 same-length-8 same-length-9 same-length-10 same-length-11 returns-3 serve-part-requires put-run-requires same-length-12 same-length-13 same-length-14 same-length-15 same-length-16 returns-4)
+serve-lent-spec =
+    tie.close
+    (tie.spec
+    session-of-requires
+    is-outside-requires
+    same-length
+    returns
+    is-too-short-requires
+    same-length-2
+    same-length-3
+    same-length-4
+    same-length-5
+    same-length-6
+    returns-2
+    is-unsound-requires
+    same-length-7
+    same-length-8
+    same-length-9
+    same-length-10
+    same-length-11
+    returns-3
+    serve-part-requires
+    put-run-requires
+    same-length-12
+    same-length-13
+    same-length-14
+    same-length-15
+    same-length-16
+    returns-4)

@@ -24,7 +24,13 @@ header-number-requires-6 c κs = search needs
 
 returns : tie.Need-returns
 unfolding numbers?
-returns c = rw (c .before .before .before .before .before .before .before .before .before .before .before .header-number .ensures, c .before .before .before .before .before .before .before .before .before .header-number2 .ensures, c .before .before .before .before .before .before .before .header-number3 .ensures, c .before .before .before .before .before .header-number4 .ensures, c .before .before .before .header-number5 .ensures, c .before .header-number6 .ensures)
+returns c =
+    let at-header-number5 = c .before .before .before in
+    let at-header-number4 = at-header-number5 .before .before in
+    let at-header-number3 = at-header-number4 .before .before in
+    let at-header-number2 = at-header-number3 .before .before in
+    let at-header-number = at-header-number2 .before .before in
+    rw (at-header-number .header-number .ensures, at-header-number2 .header-number2 .ensures, at-header-number3 .header-number3 .ensures, at-header-number4 .header-number4 .ensures, at-header-number5 .header-number5 .ensures, c .before .header-number6 .ensures)
 
 pub numbers-fit-spec : {M : Type 1} → statement M
 numbers-fit-spec =

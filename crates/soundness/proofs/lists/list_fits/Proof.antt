@@ -74,10 +74,16 @@ add-if3 : tie.Need-add-if3 Inv-loop μ-loop
 add-if3 c = search needs
 
 returns-3 : tie.Need-returns-3 Inv-loop μ-loop
-returns-3 c = let d = c .before .before .before .before .before .before .before .before .before .before .before .before .before in
+returns-3 c =
+    let at-wide2 = c .before .before .before .before in
+    let at-loop-test = at-wide2 .before .before .before in
+    let at-loop = at-loop-test .before in
+    let at-if1 = at-loop .before in
+    let at-wide = at-if1 .before in
+    let d = at-wide .before .before .before in
     let a = d .args in
-    let W = c .before .before .before .before .before .before .before .before .loop .inv in
-    (taking-fails (a .g) (a .t .now) (a .s) (a .count) (a .gone .now) (d .pre .1) (c .before .before .before .before .before .before .before .before .before .before .wide .ensures) (c .before .before .before .before .before .before .before .before .before .if1 .left) W (c .before .before .before .before .before .before .before .loop-test .taken) (c .before .before .before .before .wide2 .ensures) (λ w. c .if3 .taken (omega (arith, c .before .stamp .ensures, w))), (W .size, W .lower))
+    let W = at-loop .loop .inv in
+    (taking-fails (a .g) (a .t .now) (a .s) (a .count) (a .gone .now) (d .pre .1) (at-wide .wide .ensures) (at-if1 .if1 .left) W (at-loop-test .loop-test .taken) (at-wide2 .wide2 .ensures) (λ w. c .if3 .taken (omega (arith, c .before .stamp .ensures, w))), (W .size, W .lower))
 
 element-write-gone : tie.Need-element-write-gone Inv-loop μ-loop
 element-write-gone c = search needs
@@ -89,9 +95,16 @@ loop-less : tie.Need-loop-less Inv-loop μ-loop
 loop-less c = search needs
 
 loop-again : tie.Need-loop-again Inv-loop μ-loop
-loop-again c = let d = c .before .before .before .before .before .before .before .before .before .before .before .before .before in
+loop-again c =
+    let at-if2 = c .before .before .before in
+    let at-wide2 = at-if2 .before in
+    let at-loop-test = at-wide2 .before .before .before in
+    let at-loop = at-loop-test .before in
+    let at-if1 = at-loop .before in
+    let at-wide = at-if1 .before in
+    let d = at-wide .before .before .before in
     let a = d .args in
-    taking-goes (a .g) (a .t .now) (a .s) (a .count) (a .gone .now) (d .pre .1) (c .before .before .before .before .before .before .before .before .before .before .wide .ensures) (c .before .before .before .before .before .before .before .before .before .if1 .left) (c .before .before .before .before .before .before .before .before .loop .inv) (c .before .before .before .before .before .before .before .loop-test .taken) (c .before .before .before .before .wide2 .ensures) (omega (arith, c .if3 .left, c .before .stamp .ensures)) (c .before .before .before .if2 .left)
+    taking-goes (a .g) (a .t .now) (a .s) (a .count) (a .gone .now) (d .pre .1) (at-wide .wide .ensures) (at-if1 .if1 .left) (at-loop .loop .inv) (at-loop-test .loop-test .taken) (at-wide2 .wide2 .ensures) (omega (arith, c .if3 .left, c .before .stamp .ensures)) (at-if2 .if2 .left)
 
 returns-4 : tie.Need-returns-4 Inv-loop μ-loop
 returns-4 c = let d = c .before .before .before .before .before .before in

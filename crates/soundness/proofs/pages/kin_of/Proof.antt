@@ -47,7 +47,14 @@ wide-requires-3 : tie.Need-wide-requires-3
 wide-requires-3 c κs = search needs
 
 returns : tie.Need-returns
-returns c = kin-first _ _ _ (c .before .before .before .before .before .before .before .before .before .before .pre .1) (c .wide3 .ensures) (c .before .before .before .before .before .before .before .wide .ensures) (c .before .before .before .before .before .wide2 .ensures) (c .before .before .before .before .reach .ensures .0) (c .before .before .before .number-behind .ensures) (c .before .before .if1 .taken)
+returns c =
+    let at-if1 = c .before .before in
+    let at-number-behind = at-if1 .before in
+    let at-reach = at-number-behind .before in
+    let at-wide2 = at-reach .before in
+    let at-wide = at-wide2 .before .before in
+    let start = at-wide .before .before .before in
+    kin-first _ _ _ (start .pre .1) (c .wide3 .ensures) (at-wide .wide .ensures) (at-wide2 .wide2 .ensures) (at-reach .reach .ensures .0) (at-number-behind .number-behind .ensures) (at-if1 .if1 .taken)
 
 reach-requires-2 : tie.Need-reach-requires-2
 reach-requires-2 c κs = search needs
@@ -68,7 +75,16 @@ wide-requires-4 : tie.Need-wide-requires-4
 wide-requires-4 c κs = search needs
 
 returns-2 : tie.Need-returns-2
-returns-2 c = kin-next _ _ _ (c .before .before .before .before .before .before .before .before .before .before .before .before .pre .1) (c .wide4 .ensures) (c .before .before .before .before .before .before .before .before .before .wide .ensures) (c .before .before .before .before .before .before .before .wide2 .ensures) (c .before .before .before .before .before .before .reach .ensures .0) (c .before .before .before .before .before .number-behind .ensures) (c .before .before .before .before .if1 .left) (c .before .before .before .reach2 .ensures .0) (c .before .before .number-behind2 .ensures)
+returns-2 c =
+    let at-number-behind2 = c .before .before in
+    let at-reach2 = at-number-behind2 .before in
+    let at-if1 = at-reach2 .before in
+    let at-number-behind = at-if1 .before in
+    let at-reach = at-number-behind .before in
+    let at-wide2 = at-reach .before in
+    let at-wide = at-wide2 .before .before in
+    let start = at-wide .before .before .before in
+    kin-next _ _ _ (start .pre .1) (c .wide4 .ensures) (at-wide .wide .ensures) (at-wide2 .wide2 .ensures) (at-reach .reach .ensures .0) (at-number-behind .number-behind .ensures) (at-if1 .if1 .left) (at-reach2 .reach2 .ensures .0) (at-number-behind2 .number-behind2 .ensures)
 
 pub kin-of-spec : {M : Type 1} → statement M
 kin-of-spec =

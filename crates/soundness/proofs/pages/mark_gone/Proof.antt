@@ -63,11 +63,15 @@ element-write-gone : tie.Need-element-write-gone
 element-write-gone c = search needs
 
 returns-4 : tie.Need-returns-4
-returns-4 c = let a = c .before .before .before .before .before .before .before .before .args in
-    let e = birth-said (a .g) (a .t .now) (a .link) (c .before .before .before .before .before .before .if1 .left) (c .before .before .before .before .if2 .left) (c .before .wide .ensures) in
-    let k : a .link - 1 < 2048 = omega (arith, c .before .before .before .before .before .before .before .before .pre .0 .inside .blocks-most) in
-    let p = stamp-one (suc (a .s)) (a .gone .now) (a .link - 1) (a .s + 1) (add-one (a .s)) (young-is (viewOf (a .g) (a .t .now)) (a .s) (a .link) (c .before .before .before .before .before .before .if1 .left) (omega (arith, c .if3 .left, c .before .before .before .before .before .before .before .before .pre .2))) (omega (arith, c .before .before .before .before .before .before .before .before .pre .3)) in
-    (p .0, (p .1, (omega arith, length-set (a .gone .now) (a .link - 1) (a .s + 1) ∙ c .before .before .before .before .before .before .before .before .pre .3)))
+returns-4 c =
+    let at-if2 = c .before .before .before .before in
+    let at-if1 = at-if2 .before .before in
+    let start = at-if1 .before .before in
+    let a = start .args in
+    let e = birth-said (a .g) (a .t .now) (a .link) (at-if1 .if1 .left) (at-if2 .if2 .left) (c .before .wide .ensures) in
+    let k : a .link - 1 < 2048 = omega (arith, start .pre .0 .inside .blocks-most) in
+    let p = stamp-one (suc (a .s)) (a .gone .now) (a .link - 1) (a .s + 1) (add-one (a .s)) (young-is (viewOf (a .g) (a .t .now)) (a .s) (a .link) (at-if1 .if1 .left) (omega (arith, c .if3 .left, start .pre .2))) (omega (arith, start .pre .3)) in
+    (p .0, (p .1, (omega arith, length-set (a .gone .now) (a .link - 1) (a .s + 1) ∙ start .pre .3)))
 
 pub mark-gone-spec : {M : Type 1} → statement M
 mark-gone-spec =

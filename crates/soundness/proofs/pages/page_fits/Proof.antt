@@ -75,13 +75,20 @@ element-write-own c = search needs
 
 returns-6 : tie.Need-returns-6
 unfolding viewOf
-returns-6 c = let a = c .before .before .before .before .before .before .before .before .before .before .before .before .before .args in
-    let e = birth-said (a .g) (a .t .now) (a .link) (c .before .before .before .before .before .before .before .before .before .before .before .if1 .left) (c .before .before .before .before .before .before .before .before .before .if2 .left) (c .before .before .before .before .before .before .wide .ensures) in
-    let f = ap (λ (k : Kin). k .older) (c .before .before .before .before .before .before .before .before .before .before .before .before .before .pre .1) in
-    let h = ap (λ (k : Kin). k .number) (c .before .before .before .before .before .before .before .before .before .before .before .before .before .pre .1) in
-    let k : a .link - 1 < 2048 = omega (arith, c .before .before .before .before .before .before .before .before .before .before .before .before .before .pre .0 .inside .blocks-most) in
-    let p = own-fits (viewOf (a .g) (a .t .now)) (a .s) (a .own .now) (a .link) (c .before .before .before .before .before .before .before .before .before .before .before .if1 .left) (c .before .before .before .before .before .before .before .before .before .if2 .left) (omega (arith, c .before .before .before .before .if3 .left)) (omega (arith, c .before .before .if4 .left)) (c .if5 .left) (omega (arith, c .before .before .before .before .before .before .before .before .before .before .before .before .before .pre .2)) in
-    (p .0, (λ e. p .1, length-set (a .own .now) (a .link - 1) 1 ∙ c .before .before .before .before .before .before .before .before .before .before .before .before .before .pre .2))
+returns-6 c =
+    let at-if4 = c .before .before in
+    let at-if3 = at-if4 .before .before in
+    let at-wide = at-if3 .before .before in
+    let at-if2 = at-wide .before .before .before in
+    let at-if1 = at-if2 .before .before in
+    let start = at-if1 .before .before in
+    let a = start .args in
+    let e = birth-said (a .g) (a .t .now) (a .link) (at-if1 .if1 .left) (at-if2 .if2 .left) (at-wide .wide .ensures) in
+    let f = ap (λ (k : Kin). k .older) (start .pre .1) in
+    let h = ap (λ (k : Kin). k .number) (start .pre .1) in
+    let k : a .link - 1 < 2048 = omega (arith, start .pre .0 .inside .blocks-most) in
+    let p = own-fits (viewOf (a .g) (a .t .now)) (a .s) (a .own .now) (a .link) (at-if1 .if1 .left) (at-if2 .if2 .left) (omega (arith, at-if3 .if3 .left)) (omega (arith, at-if4 .if4 .left)) (c .if5 .left) (omega (arith, start .pre .2)) in
+    (p .0, (λ e. p .1, length-set (a .own .now) (a .link - 1) 1 ∙ start .pre .2))
 
 pub page-fits-spec : {M : Type 1} → statement M
 page-fits-spec =

@@ -47,11 +47,18 @@ add-t22 : tie.Need-add-t22
 add-t22 c = search needs
 
 returns-2 : tie.Need-returns-2
-returns-2 c = let d = c .before .before .before .before .before .before .before .before .before .before in
+returns-2 c =
+    let at-page-behind = c .before .before in
+    let at-if2 = at-page-behind .before in
+    let at-if1 = at-if2 .before in
+    let at-page-fits = at-if1 .before in
+    let at-wide = at-page-fits .before .before in
+    let d = at-wide .before .before .before in
     let a = d .args in
-    let p = c .before .before .before .before .before .page-fits .ensures in
+    let p = at-page-fits .page-fits .ensures in
     let m = c .mark-gone .ensures in
-    page-next (a .g) (a .t .now) (a .s) (d .pre .4) (a .x) (a .count) (c .before .before .before .before .before .before .before .wide .result) (a .own .now) (a .gone .now) (c .before .before .before .before .before .page-fits .last .1 .1 .0) (d .pre .1) (d .pre .2) (d .pre .3) (d .pre .5) (c .before .before .before .before .before .before .before .wide .ensures) (p .0) (p .1 .0) (p .1 .1) (c .mark-gone .last .1 .1 .0) (m .1 .1 .1) (c .before .before .before .before .if1 .left) (c .before .before .before .if2 .taken) (c .before .before .page-behind .ensures) (m .0) (m .1 .0) (m .1 .1 .0)
+    let q = d .pre in
+    page-next (a .g) (a .t .now) (a .s) (q .4) (a .x) (a .count) (at-wide .wide .result) (a .own .now) (a .gone .now) (at-page-fits .page-fits .last .1 .1 .0) (q .1) (q .2) (q .3) (q .5) (at-wide .wide .ensures) (p .0) (p .1 .0) (p .1 .1) (c .mark-gone .last .1 .1 .0) (m .1 .1 .1) (at-if1 .if1 .left) (at-if2 .if2 .taken) (at-page-behind .page-behind .ensures) (m .0) (m .1 .0) (m .1 .1 .0)
 
 returns-3 : tie.Need-returns-3
 returns-3 c = let d = c .before .before .before .before .before .before .before in

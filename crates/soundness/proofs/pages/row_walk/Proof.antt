@@ -53,9 +53,14 @@ loop-less c = omega (arith, c .before .before .before .before .before .before .s
 
 loop-again : tie.Need-loop-again Inv-loop μ-loop
 unfolding viewOf
-loop-again c = let d = c .before .before .before .before .before .before .before .before .before .before .before .before .before in
+loop-again c =
+    let at-word-walk = c .before .before .before in
+    let at-stretch = at-word-walk .before .before .before in
+    let at-if1 = at-stretch .before .before in
+    let at-loop = at-if1 .before .before in
+    let d = at-loop .before .before .before in
     let a = d .args in
-    row-goes (viewOf (a .g) (a .t .now)) (a .s) (a .own .now) (a .gone .now) (c .before .before .before .before .before .before .before .before .before .before .loop .inv) (c .before .before .before .word-walk .ensures) (c .before .walked .given .1) (omega (arith, c .before .before .before .before .before .before .stretch .ensures .0, c .before .before .before .before .before .before .before .before .if1 .taken))
+    row-goes (viewOf (a .g) (a .t .now)) (a .s) (a .own .now) (a .gone .now) (at-loop .loop .inv) (at-word-walk .word-walk .ensures) (c .before .walked .given .1) (omega (arith, at-stretch .stretch .ensures .0, at-if1 .if1 .taken))
 
 returns-2 : tie.Need-returns-2 Inv-loop μ-loop
 unfolding viewOf

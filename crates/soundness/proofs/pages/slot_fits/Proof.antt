@@ -53,12 +53,22 @@ list-fits-requires c κs = let d = c .before .before .before .before .before .be
 
 returns-3 : tie.Need-returns-3
 unfolding viewOf
-returns-3 c = let d = c .before .before .before .before .before .before .before .before .before .before .before in
+returns-3 c =
+    let at-walked = c .before .before .before in
+    let at-row-walk = at-walked .before .before in
+    let at-if1 = at-row-walk .before .before .before in
+    let d = at-if1 .before .before .before in
     let a = d .args in
-    let w = c .before .before .before .before .before .row-walk .ensures in
+    let w = at-row-walk .row-walk .ensures in
     let f = c .list-fits .ensures in
-    let o = live (a .g) (a .t .now) (a .s) (d .pre .1) (c .before .before .before .before .before .before .before .before .if1 .left) in
-    (slot-lists (viewOf (a .g) (a .t .now)) (a .s) (a .own .now) (a .gone .now) o w (c .before .before .before .walked .given .1) (d .pre .4) (f .0), (λ e. slot-marks (viewOf (a .g) (a .t .now)) (a .s) (a .own .now) (a .gone .now) o w (c .before .before .before .walked .given .1), (w .own-size, f .1 .0, λ e. slot-stamps (viewOf (a .g) (a .t .now)) (a .s) (a .own .now) (a .gone .now) o w (c .before .before .before .walked .given .1) (c .list-fits .last .1 .1 .0) (d .pre .4) (f .1 .1))))
+    let o = live (a .g) (a .t .now) (a .s) (d .pre .1) (at-if1 .if1 .left) in
+    let v = viewOf (a .g) (a .t .now) in (
+      slot-lists v (a .s) (a .own .now) (a .gone .now) o w (at-walked .walked .given .1) (d .pre .4) (f .0),
+      (
+        λ e. slot-marks v (a .s) (a .own .now) (a .gone .now) o w (at-walked .walked .given .1),
+        (w .own-size, f .1 .0, λ e. slot-stamps v (a .s) (a .own .now) (a .gone .now) o w (at-walked .walked .given .1) (c .list-fits .last .1 .1 .0) (d .pre .4) (f .1 .1)),
+      ),
+    )
 
 pub slot-fits-spec : {M : Type 1} → statement M
 slot-fits-spec =

@@ -91,10 +91,15 @@ same-length-9 c = search needs
 
 returns-4 : tie.Need-returns-4
 returns-4 c =
-    let m = c .before .before .before .before .before .before .before .before .before .before .before .before .before .before .before .before .before .before .before .before in
+    let at-perform = c .before .before .before .before .before .before in
+    let at-if2 = at-perform .before .before .before .before in
+    let at-is-sound = at-if2 .before in
+    let at-if1 = at-is-sound .before .before .before in
+    let at-is-short = at-if1 .before in
+    let m = at-is-short .before .before .before .before .before in
     let a = m .before .before .before .before .before .before .args in
     let M = lent (a .tables .now) (a .log .now) (a .out .now) in
-    call-done M (a .c) (is-made m) (c .before .before .before .before .before .before .before .before .before .before .before .before .before .before .before .is-short .ensures) (c .before .before .before .before .before .before .before .before .before .before .before .before .before .before .if1 .left) (c .before .before .before .before .before .before .before .before .before .before .before .is-sound .ensures) (c .before .before .before .before .before .before .before .before .before .before .if2 .left) _ _ _ _ (c .before .before .before .before .before .before .perform .ensures)
+    call-done M (a .c) (is-made m) (at-is-short .is-short .ensures) (at-if1 .if1 .left) (at-is-sound .is-sound .ensures) (at-if2 .if2 .left) _ _ _ _ (at-perform .perform .ensures)
 
 pub call-spec : {M : Type 1} → statement M
 call-spec =
