@@ -13,4 +13,6 @@ pub mod Skips
 pub mod Firsts
 pub mod Runs
 pub mod Births
+pub mod Summary
+pub mod Passes
 pub mod Agree

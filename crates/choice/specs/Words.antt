@@ -1,5 +1,6 @@
 -- The parts of the lent tables that the search reads: the free words, a bit a block, and the arenas' marks.
-use mathlib.Core.Bool.{Bool, true, cond, _&&_}
+use mathlib.Core.Path.{_≡_}
+use mathlib.Core.Bool.{Bool, true, false, cond, _&&_}
 use mathlib.Core.List.{List}
 use Prim.Native.Nat.{ℕ, zero, suc, _+_, _-_, _*_, _/_, _%_, _^_, _<_, _≤_, min}
 use lib.Dec.{eqb}
@@ -34,6 +35,10 @@ wordOf p i (suc n) = wordOf p i n + cond (p (i + n)) (2 ^ n) 0
 unfoldable pub wordsAgree : List ℕ → (ℕ → Bool) → ℕ → ℕ → Bool
 wordsAgree words p n zero = true
 wordsAgree words p n (suc k) = wordsAgree words p n k && eqb (getD words k 0) (wordOf p (32 * k) (min 32 (n - 32 * k)))
+
+-- bit k of a number is 1 where word k, of 64, is not 0; it may be 1 where it is
+abbrev pub Marked : List ℕ → ℕ → Type 0
+Marked words some = (k : ℕ) → k < 64 → bit some k ≡ false → getD words k 0 ≡ 0
 
 -- what the search asks of its caller: ranges
 pub record Searchable (words marks : List ℕ) (arenas per counter kind : ℕ) : Type 0 where

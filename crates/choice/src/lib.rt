@@ -1,9 +1,9 @@
 // The choice of a free block for a write, and what an accepted write moves: a mark and the arena counter.
 ghost use mathlib.Core.Path.{_≡_};
 ghost use Prim.Native.Nat.{ℕ, _+_, _-_, _*_, _/_, _%_, _^_, _<_, _≤_, min};
-ghost use mathlib.Core.Bool.{true, not};
+ghost use mathlib.Core.Bool.{true, false, not};
 ghost use lib.ListN.{length, getD};
-ghost use Rattle.choice.specs.Words.{freeIn, markIn, firstOf, bornFree, wordOf, wordsAgree, Searchable};
+ghost use Rattle.choice.specs.Words.{freeIn, markIn, firstOf, bornFree, wordOf, wordsAgree, Marked, Searchable};
 ghost use Rattle.choice.specs.First.{Full};
 ghost use Rattle.choice.specs.Search.{chosen};
 ghost use Rattle.choice.specs.Turn.{next, turned};
@@ -133,26 +133,156 @@ pub fn first_kept(words: &[u32], lo: usize, hi: usize) -> usize
     least(32 * k + (u32::trailing_zeros(!words[k]) as usize), hi)
 }
 
-// The last arena behind `arena` up to which no arena has a free block; `arena` itself, where the next one has one or there is none.
-fn last_full(words: &[u32], arenas: usize, per: usize, arena: usize) -> usize
-    requires { ⌜ (arena < arenas) × (arenas ≤ 16) × (0 < per) × (per ≤ 1024) × (arenas * per ≤ 32 * length (now words)) ⌝ }
-    ensures range { λ r. ⌜ (arena ≤ r) × (r < arenas) ⌝ }
-    ensures full { λ r. ⌜ ((a : ℕ) → arena < a → a ≤ r → Full (freeIn (now (words .entry))) per a) ⌝ }
+// A number below two times n, round to 0 from n on.
+fn round_of(n: usize, i: usize) -> usize
+    requires { ⌜ i < n + n ⌝ }
+    ensures is { λ r. ⌜ r ≡ i % n ⌝ }
+    ensures below { λ r. ⌜ r < n ⌝ }
 {
-    let mut last = arena;
-    let mut end = arena * per + per;
-    let free = first_given(words, end, arenas * per);
-    while end + per <= free {
-        last += 1;
-        end += per;
-    }
-    last
+    if i < n { i } else { i - n }
 }
 
-// The first free block: from the arena of the counter and the kind on, round; in each arena from its mark on, round.
-// `words` are the free words of the tables, a bit a block; `marks` are the arenas' marks. Each turn of the inner loop goes to
-// the first free block before the end of the arena, or round. Where an arena has none, those behind it that have none are
-// passed over at once.
+// Which of 64 words are not 0, as bits. Where there are not 64, any may be.
+fn some_of(words: &[u32]) -> u64
+    ensures { λ r. ⌜ Marked (now (words .entry)) r ⌝ }
+{
+    if words.len() != 64 {
+        return 0xffff_ffff_ffff_ffff;
+    }
+    let low = word_of(words, 0) as u64;
+    let high = word_of(words, 32) as u64;
+    !(low | (high << 32))
+}
+
+// A block of the words behind word k, up to which none of them may be given: the first that may be, or 2,048.
+fn first_behind(words: &[u32], some: u64, k: usize) -> usize
+    requires { ⌜ (k < 64) × (length (now words) ≡ 64) × Marked (now words) some ⌝ }
+    ensures range { λ r. ⌜ (32 * k + 32 ≤ r) × (r ≤ 2048) ⌝ }
+    ensures none { λ r. ⌜ ((b : ℕ) → 32 * k + 32 ≤ b → b < r → freeIn (now (words .entry)) b ≡ false) ⌝ }
+{
+    let later = (some >> (k as u32)) >> 1;
+    let j = (k + 1 + (u64::trailing_zeros(later) as usize)) & 63;
+    let there = 32 * j + (u32::trailing_zeros(words[j]) as usize);
+    if later != 0 { there } else { 2048 }
+}
+
+// A block from lo on, up to which none may be given: the first that may be, or 2,048; lo itself where there are not 64 words. Both of
+// its words are read before it is known which counts: no branch is then to be foretold.
+fn first_from(words: &[u32], some: u64, lo: usize) -> usize
+    requires { ⌜ (lo < 32 * length (now words)) × (lo ≤ 16384) × Marked (now words) some ⌝ }
+    ensures range { λ r. ⌜ (lo ≤ r) × (r ≤ lo + 2048) ⌝ }
+    ensures none { λ r. ⌜ ((b : ℕ) → lo ≤ b → b < r → freeIn (now (words .entry)) b ≡ false) ⌝ }
+{
+    if words.len() != 64 {
+        return lo;
+    }
+    let k = lo >> 5;
+    let rest = rest_of(words[k], lo);
+    let near = lo + (u32::trailing_zeros(rest) as usize);
+    let far = first_behind(words, some, k);
+    if rest != 0 { near } else { far }
+}
+
+// The same round: from lo on and below `all`, or else from 0 on.
+fn first_round(words: &[u32], some: u64, lo: usize, all: usize) -> usize
+    requires { ⌜ (lo < all) × (all ≤ 16384) × (all ≤ 32 * length (now words)) × Marked (now words) some ⌝ }
+    ensures on { λ r. ⌜ ((b : ℕ) → lo ≤ b → b < all → b < r → freeIn (now (words .entry)) b ≡ false) ⌝ }
+    ensures round { λ r. ⌜ (r < lo → (b : ℕ) → lo ≤ b → b < all → freeIn (now (words .entry)) b ≡ false) ⌝ }
+    ensures front { λ r. ⌜ (r < lo → (b : ℕ) → b < r → freeIn (now (words .entry)) b ≡ false) ⌝ }
+    ensures none { λ r. ⌜ (all ≤ r → (b : ℕ) → b < all → freeIn (now (words .entry)) b ≡ false) ⌝ }
+{
+    let here = first_from(words, some, lo);
+    let front = first_from(words, some, 0);
+    if here < all { here } else { front }
+}
+
+// The arena of a block, by halves.
+fn arena_of(b: usize, per: usize) -> usize
+    requires { ⌜ (b < 16 * per) × (per ≤ 1024) ⌝ }
+    ensures { λ r. ⌜ (r * per ≤ b) × (b < r * per + per) ⌝ }
+{
+    let mut arena: usize = 0;
+    let mut start: usize = 0;
+    let mut width: usize = 16;
+    while 1 < width {
+        width = (width + 1) >> 1;
+        if start + width * per <= b {
+            arena += width;
+            start += width * per;
+        }
+    }
+    arena
+}
+
+// How many arenas from `arena` on, round, are passed over: none of them has a free block.
+fn arenas_passed(words: &[u32], some: u64, arenas: usize, per: usize, arena: usize) -> usize
+    requires { ⌜ (arena < arenas) × (arenas ≤ 16) × (0 < per) × (per ≤ 1024) × (arenas * per ≤ 32 * length (now words)) × Marked (now words) some ⌝ }
+    ensures range { λ r. ⌜ r ≤ arenas ⌝ }
+    ensures full { λ r. ⌜ ((i : ℕ) → i < r → Full (freeIn (now (words .entry))) per ((arena + i) % arenas)) ⌝ }
+{
+    let free = first_round(words, some, arena * per, arenas * per);
+    if arenas * per <= free {
+        return arenas;
+    }
+    let a = arena_of(free, per);
+    if a < arena {
+        a + arenas - arena
+    } else {
+        a - arena
+    }
+}
+
+// How many blocks of the arena that begins at `start` are passed over, from its mark on and round: none of them is free.
+fn blocks_passed(words: &[u32], some: u64, start: usize, per: usize, mark: usize) -> usize
+    requires { ⌜ (mark < per) × (start + per ≤ 16384) × (start + per ≤ 32 * length (now words)) × Marked (now words) some ⌝ }
+    ensures range { λ r. ⌜ (r ≤ per) × (mark + r < per + per) ⌝ }
+    ensures behind { λ r. ⌜ ((b : ℕ) → start + mark ≤ b → b < start + per → b < start + mark + r → freeIn (now (words .entry)) b ≡ false) ⌝ }
+    ensures front { λ r. ⌜ ((b : ℕ) → start ≤ b → b + per < start + mark + r → freeIn (now (words .entry)) b ≡ false) ⌝ }
+{
+    let behind = first_from(words, some, start + mark) - start;
+    let front = least(first_from(words, some, start) - start, mark);
+    if behind < per {
+        behind - mark
+    } else {
+        per - mark + front
+    }
+}
+
+// The first free block from arena `first` on, round; in each arena from its mark on, round. `words` are the free words of the tables, a
+// bit a block; `marks` are the arenas' marks. Each turn of the inner loop goes to the first free block before the end of the arena, or
+// round. Before each loop, by the words that are not 0, all that holds no free block is passed over at once.
+fn choose_far(words: &[u32], marks: &[u32], arenas: usize, per: usize, first: usize) -> Found
+    requires { ⌜ Searchable (now words) (now marks) arenas per first 0 ⌝ }
+    ensures { λ r. ⌜ r ≡ chosen (freeIn (now (words .entry))) (markIn (now (marks .entry))) arenas per first ⌝ }
+{
+    let some = some_of(words);
+    let mut tried = arenas_passed(words, some, arenas, per, first);
+    let mut arena = round_of(arenas, first + tried);
+    let found = 'search: loop {
+        if arenas <= tried {
+            break 'search Found::Nothing;
+        }
+        let start = arena * per;
+        let mark = marks[arena] as usize;
+        let mut seen = blocks_passed(words, some, start, per, mark);
+        let mut at = round_of(per, mark + seen);
+        while seen < per {
+            let most = least(per - at, per - seen);
+            let block = start + at;
+            let free = first_given(words, block, block + most);
+            if free < block + most {
+                break 'search Found::At(arena, at + (free - block));
+            }
+            at = next_of(per, at + most - 1);
+            seen += most;
+        }
+        tried += 1;
+        arena = next_of(arenas, arena);
+    };
+    found
+}
+
+// The first free block: from the arena of the counter and the kind on. What is left of the word of that arena's mark mostly has it.
 pub fn choose(
     words: &[u32],
     marks: &[u32],
@@ -164,30 +294,17 @@ pub fn choose(
     requires { ⌜ Searchable (now words) (now marks) arenas per counter kind ⌝ }
     ensures { λ r. ⌜ r ≡ chosen (freeIn (now (words .entry))) (markIn (now (marks .entry))) arenas per (counter + kind) ⌝ }
 {
-    let mut arena = (counter + kind) % arenas;
-    let mut tried: usize = 0;
-    let found = 'search: loop {
-        if arenas <= tried {
-            break 'search Found::Nothing;
+    let first = (counter + kind) % arenas;
+    let mark = marks[first] as usize;
+    let block = first * per + mark;
+    let rest = rest_of(words[block >> 5], block);
+    if rest != 0 {
+        let o = mark + (u32::trailing_zeros(rest) as usize);
+        if o < per {
+            return Found::At(first, o);
         }
-        let start = arena * per;
-        let mut at = marks[arena] as usize;
-        let mut seen: usize = 0;
-        while seen < per {
-            let most = least(per - at, per - seen);
-            let block = start + at;
-            let free = first_given(words, block, block + most);
-            if free < block + most {
-                break 'search Found::At(arena, at + (free - block));
-            }
-            at = next_of(per, at + most - 1);
-            seen += most;
-        }
-        let last = last_full(words, arenas, per, arena);
-        tried += last - arena + 1;
-        arena = next_of(arenas, last);
-    };
-    found
+    }
+    choose_far(words, marks, arenas, per, first)
 }
 
 // The free word of the n blocks whose births stand from `at` on: for the last word, where the blocks end within it.
