@@ -142,7 +142,7 @@ fn round_of(n: usize, i: usize) -> usize
     if i < n { i } else { i - n }
 }
 
-// Which of 64 words are not 0, as bits. Where there are not 64, any may be.
+// Which of 64 words are not 0, as bits: one pass, compiled to wide steps. Where there are not 64, any may be.
 fn some_of(words: &[u32]) -> u64
     ensures { λ r. ⌜ Marked (now (words .entry)) r ⌝ }
 {
@@ -166,8 +166,8 @@ fn first_behind(words: &[u32], some: u64, k: usize) -> usize
     if later != 0 { there } else { 2048 }
 }
 
-// A block from lo on, up to which none may be given: the first that may be, or 2,048; lo itself where there are not 64 words. Both of
-// its words are read before it is known which counts: no branch is then to be foretold.
+// A block from lo on, up to which none may be given: the first that may be, or 2,048; lo itself where there are not 64 words. Both words
+// are read before it is known which counts: in a nearly full store a branch here would often be foretold wrong.
 fn first_from(words: &[u32], some: u64, lo: usize) -> usize
     requires { ⌜ (lo < 32 * length (now words)) × (lo ≤ 16384) × Marked (now words) some ⌝ }
     ensures range { λ r. ⌜ (lo ≤ r) × (r ≤ lo + 2048) ⌝ }
@@ -196,7 +196,7 @@ fn first_round(words: &[u32], some: u64, lo: usize, all: usize) -> usize
     if here < all { here } else { front }
 }
 
-// The arena of a block, by halves.
+// The arena of a block, found by halves: neither a division nor a branch.
 fn arena_of(b: usize, per: usize) -> usize
     requires { ⌜ (b < 16 * per) × (per ≤ 1024) ⌝ }
     ensures { λ r. ⌜ (r * per ≤ b) × (b < r * per + per) ⌝ }

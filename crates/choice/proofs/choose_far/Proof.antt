@@ -55,17 +55,19 @@ search-holds c =
     let r = c .round-of .ensures in
     (e .0, r .1, r .0, arenas-passed (freeIn (s .words .now)) (markIn (s .marks .now)) (s .arenas) (s .per) (c .before .before .before .before .before .pre .marks-low) (s .first) (p .result) (e .0) (e .1))
 
+abbrev begun : tie.Else1 Inv-loop μ-loop Inv-search μ-search → tie.Start Inv-loop μ-loop Inv-search μ-search
+begun c = c .before .before .before .before .before .before .before
+
 -- the arena's blocks are some of few
-ends : (c : tie.Else1 Inv-loop μ-loop Inv-search μ-search)
-    → (c .before .search .arena * c .before .before .before .before .before .before .before .args .per + c .before .before .before .before .before .before .before .args .per ≤ c .before .before .before .before .before .before .before .args .arenas * c .before .before .before .before .before .before .before .args .per)
-    × (c .before .before .before .before .before .before .before .args .arenas * c .before .before .before .before .before .before .before .args .per ≤ 16384)
+ends : (c : tie.Else1 Inv-loop μ-loop Inv-search μ-search) → let s = begun c .args in
+    (c .before .search .arena * s .per + s .per ≤ s .arenas * s .per) × (s .arenas * s .per ≤ 16384)
 ends c =
-    let pre = c .before .before .before .before .before .before .before .pre in
+    let pre = begun c .pre in
     few _ _ (c .before .search .arena) (pre .arenas-most) (pre .per-most) (c .before .search .inv .1)
 
 -- and its mark is one of them
-marked : (c : tie.Else1 Inv-loop μ-loop Inv-search μ-search) → getD (c .before .before .before .before .before .before .before .args .marks .now) (c .before .search .arena) 0 < c .before .before .before .before .before .before .before .args .per
-marked c = c .before .before .before .before .before .before .before .pre .marks-low (c .before .search .arena) (c .before .search .inv .1)
+marked : (c : tie.Else1 Inv-loop μ-loop Inv-search μ-search) → getD (begun c .args .marks .now) (c .before .search .arena) 0 < begun c .args .per
+marked c = begun c .pre .marks-low (c .before .search .arena) (c .before .search .inv .1)
 
 mul-start : tie.Need-mul-start Inv-loop μ-loop Inv-search μ-search
 mul-start c = omega (arith, ends c)
@@ -80,7 +82,10 @@ cast-mark : tie.Need-cast-mark Inv-loop μ-loop Inv-search μ-search
 cast-mark c = wider _ (c .shared-slice-known3 .given _)
 
 blocks-passed-requires : tie.Need-blocks-passed-requires Inv-loop μ-loop Inv-search μ-search
-blocks-passed-requires c κs = (c .before .before .before .before .before .before .before .before .pre .marks-low _ (omega arith), omega (arith, ends (c .before)), omega (arith, ends (c .before)), c .before .before .before .before .before .some-of .ensures)
+blocks-passed-requires c κs =
+    let o = c .before in
+    let e = ends o in
+    (begun o .pre .marks-low _ (omega arith), omega arith, omega arith, o .before .before .before .before .some-of .ensures)
 
 add-round-of-2 : tie.Need-add-round-of-2 Inv-loop μ-loop Inv-search μ-search
 add-round-of-2 c = omega arith
@@ -93,7 +98,7 @@ unfolding markIn
 loop-holds c =
     let o = c .before .before .before in
     let i = o .before .search .inv in
-    let s = o .before .before .before .before .before .before .before .args in
+    let s = begun o .args in
     let n = c .before .blocks-passed in
     let e = n .ensures in
     let free = freeIn (s .words .now) in
@@ -130,7 +135,7 @@ sub-t26 : tie.Need-sub-t26 Inv-loop μ-loop Inv-search μ-search
 sub-t26 c =
     let d = c .before .before .before .before in
     let o = d .before .before .before .before in
-    let s = o .before .before .before .before .before .before .before .args in
+    let s = begun o .args in
     jump-leads (freeIn (s .words .now)) (o .before .search .arena * s .per + d .loop .at) (c .before .before .least .result) (c .before .first-given .ensures) .from
 
 add-t27 : tie.Need-add-t27 Inv-loop μ-loop Inv-search μ-search
@@ -156,7 +161,7 @@ loop-again c =
     let e = c .before .before in
     let d = e .before .before .before in
     let o = d .before .before .before .before in
-    let s = o .before .before .before .before .before .before .before .args in
+    let s = begun o .args in
     let h = o .before .search in
     let free = freeIn (s .words .now) in
     let most = e .before .least .result in (
@@ -181,7 +186,7 @@ search-again c =
     let w = c .before .before in
     let o = w .before .before .before .before in
     let h = o .before .search in
-    let s = o .before .before .before .before .before .before .before .args in (
+    let s = begun o .args in (
       omega arith,
       c .next-of2 .ensures .1,
       c .next-of2 .ensures .0 ∙ next-arena (s .first) (s .arenas) (h .tried) (h .arena) (omega arith) (h .inv .2),
@@ -199,7 +204,7 @@ returns-2 c =
     let e = c .before in
     let d = e .before .before .before in
     let o = d .before .before .before .before in
-    let s = o .before .before .before .before .before .before .before .args in
+    let s = begun o .args in
     let h = o .before .search in
     let free = freeIn (s .words .now) in
     let most = e .before .least .result in
