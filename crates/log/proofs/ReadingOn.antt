@@ -1,0 +1,84 @@
+-- Reading on from a byte position: a word more, words that allocate or free one block, and what is behind a bad word.
+use mathlib.Core.Path.{_≡_, refl, sym, ap, subst, _∙_}
+use mathlib.Core.Bool.{Bool, true, false, not}
+use mathlib.Core.List.{List, [], _∷_}
+use Prim.Native.Nat.{ℕ, _+_, _-_, _*_, _/_, _%_, _^_, _≤_, _<_}
+use native.Mathlib.Omega.{arith}
+use lib.ListN.{length, getD, set, drop}
+use Rattle.answer.proofs.Cases.{cases, same?}
+use Rattle.log.specs.Word.{wordAt, words}
+use Rattle.log.specs.Marks.{markOf, Table}
+use Rattle.log.specs.Read.{State, RunInside, changed, firstWord, byProgress, readWord, readWords, ReadOn}
+use Rattle.log.specs.declared.read.Progress.{Progress}
+use Rattle.log.specs.declared.read.Progress.the-variants.{Ready, Bad}
+use Rattle.log.proofs.Reading.{words-step}
+use Rattle.log.proofs.MarksFacts.{marked}
+use Rattle.log.proofs.Steps.{oneWord, one-word}
+use Rattle.log.proofs.RoundTrip.{Good, good-word}
+
+-- ── a word of any kind ──
+
+-- the word at a position is read
+read-next : (arenas per : ℕ) (s : State) (log : List ℕ) (at : ℕ) → at + 8 ≤ length log
+    → readWords arenas per s (words (drop at log)) ≡ readWords arenas per (readWord arenas per s (wordAt log at)) (words (drop (at + 8) log))
+read-next arenas per s log at h = ap (readWords arenas per s) (words-step log at h)
+
+-- and leaves a table of marks, and what is left to read
+pub word-read : (arenas per : ℕ) → 0 < per → (log : List ℕ) (at : ℕ) → at + 8 ≤ length log → (p q : Progress) (m k : List ℕ)
+    → RunInside (arenas * per) p → Table (arenas * per) m → _≡_ {A = State} (q, k) (readWord arenas per (p, m) (wordAt log at))
+    → RunInside (arenas * per) q × Table (arenas * per) k
+    × (readWords arenas per (q, k) (words (drop (at + 8) log)) ≡ readWords arenas per (p, m) (words (drop at log)))
+word-read arenas per o log at h p q m k r t e =
+    let g = subst (Good arenas per o) (sym e) (good-word arenas per o p m (wordAt log at) (r, t)) in
+    (g .0, g .1, ap (λ (s : State). readWords arenas per s (words (drop (at + 8) log))) e ∙ sym (read-next arenas per (p, m) log at h))
+
+-- a bad word is behind
+pub read-bad : (arenas per : ℕ) (m ws : List ℕ) → readWords arenas per (Bad, m) ws ≡ (Bad, m)
+unfolding byProgress
+read-bad arenas per m [] = refl
+read-bad arenas per m (w ∷ ws) = read-bad arenas per m ws
+
+-- ── a word that allocates or frees one block ──
+
+-- the word of a single block whose code is the block's mark and 1 turns that mark
+one-turned : (n : ℕ) (m : List ℕ) (w b : ℕ) (held : Bool) → w ≡ oneWord held b → b < n → getD m b 0 ≡ markOf (not held)
+    → firstWord n m w ≡ (Ready, set m b (markOf held))
+one-turned n m w b held e h z =
+    rw e (one-word n m b held h ∙ ap changed (marked m b 1 held (λ i k. let d : b + i ≡ b = omega arith in rw d z)))
+
+-- e is the word less 1
+pub single-word : (n : ℕ) (m : List ℕ) (w e : ℕ) → (e + 1) % 2 ^ 64 ≡ w → n ≤ 2048 → e / 16384 < n → e % 16384 ≡ getD m (e / 16384) 0
+    → getD m (e / 16384) 0 ≤ 1 → firstWord n m w ≡ (Ready, set m (e / 16384) (1 - e % 16384))
+single-word n m w e f l h d k =
+    let b = e / 16384 in
+    cases (same? (getD m b 0) 0)
+    (λ z. let x : 1 - e % 16384 ≡ 1 = omega arith in rw x (one-turned n m w b true (omega arith) h z))
+    (λ z. let x : 1 - e % 16384 ≡ 0 = omega arith in rw x (one-turned n m w b false (omega arith) h (omega arith)))
+
+-- ── some words ──
+
+module _ (arenas per : ℕ) (log : List ℕ) where
+  pub on-none : {m k : List ℕ} (at : ℕ) → at ≤ length log → Table (arenas * per) k → k ≡ m → ReadOn arenas per log m at k at
+  on-none at h t e = record { least = omega arith; most = h; whole = refl; table = t; same = rw e }
+
+  pub on-one : {m k : List ℕ} {w : ℕ} (at : ℕ) → at + 8 ≤ length log → Table (arenas * per) k → w ≡ wordAt log at
+      → firstWord (arenas * per) m w ≡ (Ready, k) → ReadOn arenas per log m at k (at + 8)
+  unfolding byProgress
+  on-one {m} {k} at h t f e =
+      record {
+        least = omega arith;
+        most = h;
+        whole = omega arith;
+        table = t;
+        same = sym (read-next arenas per (Ready, m) log at h ∙ ap (λ (s : State). readWords arenas per s (words (drop (at + 8) log))) (rw f at e));
+      }
+
+  pub on-more : {m k l : List ℕ} {a b c : ℕ} → ReadOn arenas per log m a k b → ReadOn arenas per log k b l c → ReadOn arenas per log m a l c
+  on-more r q =
+      record {
+        least = omega (arith, r .least, q .least);
+        most = q .most;
+        whole = q .whole ∙ r .whole;
+        table = q .table;
+        same = q .same ∙ r .same;
+      }
