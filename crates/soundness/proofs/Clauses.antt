@@ -17,7 +17,7 @@ use Rattle.model.specs.Layout.{numCell, prevCell, birthCell, viewOf}
 use Rattle.model.specs.Check.{imp, same, prev?, base?, two?}
 use Rattle.tables.proofs.Fields
 use Rattle.soundness.specs.Pairs.{linkedTo?}
-use Rattle.soundness.proofs.Loops.{all-same}
+use Rattle.soundness.proofs.Loops.{all-at, all-same}
 
 module _ (K : View) (s : ℕ) where
   -- ── the record behind a link ──
@@ -103,3 +103,24 @@ module _ (g : Geometry) (t : List ℕ) where
       (not (not (eqb (getD m b 0) 0)) && not (not (eqb (getD t (birthCell (g .records) b) 0) 0))) ≡ same (heldIn m b) (held (viewOf g t) b)
   unfolding heldIn held
   same-is m b h = rw (Fields.birth-is g t b h)
+
+-- block b of two tables of marks
+pub marks-are : (m k : List ℕ) (b : ℕ) →
+    (not (eqb (getD m b 0) 0) && not (eqb (getD k b 0) 0)) || (not (not (eqb (getD m b 0) 0)) && not (not (eqb (getD k b 0) 0))) ≡ same (heldIn m b) (heldIn k b)
+unfolding heldIn
+marks-are m k b = refl
+
+-- two marks that agree are one, and a table that agrees with the births stands for them
+same-one : (a b : Bool) → same a b ≡ true → a ≡ b
+same-one true true e = refl
+same-one true false e = sym e
+same-one false true e = e
+same-one false false e = refl
+
+pub own-are : (g : Geometry) (t m : List ℕ) → all (blocks g) (λ b. same (heldIn m b) (held (viewOf g t) b)) ≡ true →
+    (b : ℕ) → b < blocks g → heldIn m b ≡ held (viewOf g t) b
+own-are g t m e b h = same-one (heldIn m b) (held (viewOf g t) b) (all-at (blocks g) b (λ c. same (heldIn m c) (held (viewOf g t) c)) h e)
+
+pub births-are : (g : Geometry) (t m k : List ℕ) → ((b : ℕ) → b < blocks g → heldIn k b ≡ held (viewOf g t) b) →
+    all (blocks g) (λ b. same (heldIn m b) (heldIn k b)) ≡ all (blocks g) (λ b. same (heldIn m b) (held (viewOf g t) b))
+births-are g t m k f = all-same (blocks g) _ _ (λ b h. ap (same (heldIn m b)) (f b h))

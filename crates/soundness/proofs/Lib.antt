@@ -9,6 +9,7 @@ pub mod Short
 pub mod PagesLinks
 pub mod PagesMarks
 pub mod PagesWalk
+pub mod PagesBits
 pub mod PagesStep
 pub mod ListsStamps
 pub mod PagesSlots

@@ -28,6 +28,9 @@ all-fails (suc n) i f l e =
     (λ d. let e′ : f n ≡ false = subst (λ (k : ℕ). f k ≡ false) d e in rw (e′, all))
     (λ d. cases (either (f n)) (λ y. rw (y, all) (all-fails n i f (omega arith) e)) (λ z. rw (z, all)))
 
+pub all-at : (n i : ℕ) (f : ℕ → Bool) → i < n → all n f ≡ true → f i ≡ true
+all-at n i f l e = cases (either (f i)) (λ y. y) (λ z. absurd (false≢true (all-fails n i f l z ∙ e)))
+
 pub all-end : (n i : ℕ) (f : ℕ → Bool) → i ≤ n → n ≤ i → all i f ≡ true → true ≡ all n f
 all-end n i f l h a = let e : i ≡ n = omega arith in sym (rw e at a)
 

@@ -2,7 +2,7 @@
 use mathlib.Core.Path.{_≡_, refl, sym, _∙_, fun-ext}
 use mathlib.Core.Bool.{Bool, true, false, _&&_}
 use mathlib.Core.List.{List, [], _∷_}
-use Prim.Native.Nat.{ℕ, zero, suc, _-_, _≤_, _<_}
+use Prim.Native.Nat.{ℕ, zero, suc, _+_, _-_, _%_, _^_, _≤_, _<_}
 use native.Mathlib.Omega.{arith}
 use lib.Dec.{eqb, ltb, leb}
 use lib.ListN.{length, getD, set}
@@ -113,19 +113,26 @@ module _ (K : View) (s : ℕ) where
   young-none zero e = refl
   young-none (suc b) e = absurd (let z : ⊥ = omega arith in z)
 
-  pub young-old : (l : ℕ) → (l ≡ 0 → ⊥) → K .birth (l - 1) ≤ baseNum K s → younger K s l ≡ []
-  unfolding younger
-  young-old zero n h = absurd (n refl)
-  young-old (suc b) n h =
-      let z : suc b - 1 ≡ b = omega arith in
-      rw (le-ltb (baseNum K s) (K .birth b) (rw z at h))
+-- the link to block b, where b is the link less 1, round: a link to no block, and one to a block of the store
+pub young-outside : (g : Geometry) (t : List ℕ) (s l : ℕ) {b : ℕ} → (b + 1) % 2 ^ 64 ≡ l → b < 2 ^ 64 → blocks g ≤ b → younger (viewOf g t) s l ≡ []
+young-outside g t s l {b} e k h =
+    cases (same? l 0) (λ z. young-none (viewOf g t) s l z) (λ z. young-beyond g t s l (omega arith))
 
-  pub young-is : (l : ℕ) → (l ≡ 0 → ⊥) → baseNum K s < K .birth (l - 1) → younger K s l ≡ (l - 1) ∷ []
+module _ (g : Geometry) (t : List ℕ) (s l : ℕ) {b birth : ℕ} (e : (b + 1) % 2 ^ 64 ≡ l) (h : b < blocks g) (few : blocks g ≤ 2048)
+    (f : birth ≡ getD t (birthCell (g .records) b) 0) where
+  next : l ≡ suc b
+  next = omega arith
+
+  born : birth ≡ viewOf g t .birth b
+  born = f ∙ sym (birth-is g t b h)
+
+  pub young-not : birth ≤ baseNum (viewOf g t) s → younger (viewOf g t) s l ≡ []
   unfolding younger
-  young-is zero n h = absurd (n refl)
-  young-is (suc b) n h =
-      let z : suc b - 1 ≡ b = omega arith in
-      rw (z, lt-ltb (baseNum K s) (K .birth b) (rw z at h))
+  young-not k = rw (next, le-ltb (baseNum (viewOf g t) s) (viewOf g t .birth b) (rw born at k))
+
+  pub young-yes : baseNum (viewOf g t) s < birth → younger (viewOf g t) s l ≡ b ∷ []
+  unfolding younger
+  young-yes k = rw (next, lt-ltb (baseNum (viewOf g t) s) (viewOf g t .birth b) (rw born at k))
 
 -- nothing is stamped, one block is
 module _ (v : ℕ) (m : List ℕ) {l : List ℕ} where

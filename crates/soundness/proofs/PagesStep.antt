@@ -2,15 +2,21 @@
 use mathlib.Core.Path.{_≡_, refl, sym, ap, _∙_}
 use mathlib.Core.Bool.{Bool, true, false, not, _&&_}
 use mathlib.Core.List.{List, []}
-use Prim.Native.Nat.{ℕ, suc, _+_, _-_, _/_, _^_, _≤_, _<_}
-use native.Mathlib.Nat.{div-one}
+use Prim.Native.Nat.{ℕ, suc, _+_, _-_, _*_, _^_, _≤_, _<_, min}
+use native.Mathlib.Nat.{lt-of-lt-of-le, lt-of-le-of-lt}
 use native.Mathlib.Omega.{arith}
+use lib.Bits.{bitAnd, and-le-l}
 use lib.Count.{trailingZeros}
 use lib.Dec.{ltb}
-use lib.ListN.{length, getD}
+use lib.ListN.{length, getD, set}
+use lib.Pow.{pow-mono}
+use lib.Seq.{getD-set-same, getD-set-other}
 use borrow.Author.Tests.{ltb-true, ltb-false, not-true, not-false}
-use Rattle.answer.proofs.Cases.{cases, lt?}
-use Rattle.choice.specs.Words.{wordOf}
+use Rattle.answer.proofs.Cases.{cases, same?, lt?}
+use Rattle.choice.specs.Words.{bit, wordOf}
+use Rattle.choice.proofs.Bit.{bit-high, no-bit, tz-below, tz-at}
+use Rattle.choice.proofs.Births.{word-bit, word-lt}
+use Rattle.choice.proofs.Finds.{true-false}
 use Rattle.geometry.specs.declared.Geometry.{Geometry}
 use Rattle.model.specs.Lists.{onPage}
 use Rattle.model.specs.View.{View, parent, pageOf}
@@ -19,11 +25,11 @@ use Rattle.model.specs.Layout.{pageCell, viewOf}
 use Rattle.model.specs.Stamps.{stamped}
 use Rattle.tables.specs.Rows.{differs}
 use Rattle.tables.proofs.Fields.{page-is}
-use Rattle.tables.proofs.PagesWord.{bits-none, bits-inside, bits-below, bits-at, bits-next}
 use Rattle.soundness.specs.declared.pages.Kin.{Kin}
 use Rattle.soundness.specs.declared.pages.Walk.{Walk}
 use Rattle.soundness.specs.declared.pages.Walk.the-variants.{Fits, Fails}
-use Rattle.soundness.specs.Pages.{reached, kinOf, younger, seen, leftAt, Rest, restOf, Walked}
+use Rattle.soundness.specs.Pages.{reached, kinOf, younger, seen, leftAt, Rest, restOf, Walked, RowWords}
+use Rattle.soundness.proofs.PagesBits.{off-at, off-below, off-above}
 use Rattle.soundness.proofs.PagesLinks.{reached-in, reached-out, page-reached}
 use Rattle.soundness.proofs.PagesWalk.{left-apart, left-first, rest-fails, rest-next, rest-skip}
 
@@ -109,74 +115,142 @@ module _ (g : Geometry) (t : List ℕ) (s : ℕ) {kin : Kin} (ek : kin ≡ kinOf
 
 -- ── a word of pages ──
 
--- of the n pages of s from x on those before y are walked: `rest` is what is left of their word, and what is left of the pages comes to the same
-pub record Walking (K : View) (s l x n : ℕ) (own₀ gone₀ : List ℕ) (count : ℕ) (own gone : List ℕ) (rest y found : ℕ) : Type 0 where
+-- of the n pages of s from x on those before y are walked: `rest` has the bits of the others, and what is left of the pages comes to the same
+pub record Walking (K : View) (s l x n : ℕ) (own₀ gone₀ : List ℕ) (count : ℕ) (own gone : List ℕ) (rest found : ℕ) : Type 0 where
+  pub y : ℕ
   pub from : x ≤ y
   pub to : y ≤ x + n
-  pub left : rest ≡ wordOf (differs K s l) x n / 2 ^ (y - x)
+  pub wide : rest < 2 ^ n
+  pub used : (j : ℕ) → x + j < y → bit rest j ≡ false
+  pub left : (j : ℕ) → y ≤ x + j → j < n → bit rest j ≡ differs K s l (x + j)
   pub few : found ≤ y
   pub own-size : length own ≡ 2048
   pub gone-size : length gone ≡ 2048
   pub same : restOf K s own gone found y ≡ restOf K s own₀ gone₀ count x
 
 module _ (g : Geometry) (t : List ℕ) (s : ℕ) {kin : Kin} (ek : kin ≡ kinOf (viewOf g t) s) where
-  differs-is : (y : ℕ) → differs (viewOf g t) s (kin .pred) y ≡ not (like? (viewOf g t) s y)
+  abbrev apart? : ℕ → Bool
+  apart? = differs (viewOf g t) s (kin .pred)
+
+  differs-is : (y : ℕ) → apart? y ≡ not (like? (viewOf g t) s y)
   unfolding differs like?
   differs-is y = rw (pred-page g t s ek y)
 
-  as-pred : (y : ℕ) → differs (viewOf g t) s (kin .pred) y ≡ false → like? (viewOf g t) s y ≡ true
+  as-pred : (y : ℕ) → apart? y ≡ false → like? (viewOf g t) s y ≡ true
   as-pred y e = not-false (like? (viewOf g t) s y) (sym (differs-is y) ∙ e)
 
-  not-pred : (y : ℕ) → differs (viewOf g t) s (kin .pred) y ≡ true → like? (viewOf g t) s y ≡ false
+  not-pred : (y : ℕ) → apart? y ≡ true → like? (viewOf g t) s y ≡ false
   not-pred y e = not-true (like? (viewOf g t) s y) (sym (differs-is y) ∙ e)
 
   module _ (x n : ℕ) (own₀ gone₀ : List ℕ) (count : ℕ) (hn : n ≤ 32) (hx : x + n ≤ g .pages) where
-    pub word-starts : {rest : ℕ} → rest ≡ wordOf (differs (viewOf g t) s (kin .pred)) x n → count ≤ x → length own₀ ≡ 2048 → length gone₀ ≡ 2048 →
-        Walking (viewOf g t) s (kin .pred) x n own₀ gone₀ count own₀ gone₀ rest x count
+    pub word-starts : {rest : ℕ} → rest ≡ wordOf apart? x n → count ≤ x → length own₀ ≡ 2048 → length gone₀ ≡ 2048 →
+        Walking (viewOf g t) s (kin .pred) x n own₀ gone₀ count own₀ gone₀ rest count
     word-starts e l os gs =
-        let z : x - x ≡ 0 = omega arith in
-        record { from = omega arith; to = omega arith; left = rw z (e ∙ sym (div-one _)); few = l; own-size = os; gone-size = gs; same = refl }
+        record {
+          y = x;
+          from = omega arith;
+          to = omega arith;
+          wide = rw e (word-lt apart? x n);
+          used = λ j h. absurd (let z : ⊥ = omega arith in z);
+          left = λ j h k. rw e (word-bit apart? x n j k);
+          few = l;
+          own-size = os;
+          gone-size = gs;
+          same = refl;
+        }
 
-    module _ {own gone : List ℕ} {rest y found : ℕ} (W : Walking (viewOf g t) s (kin .pred) x n own₀ gone₀ count own gone rest y found) where
-      skip : (k : ℕ) → y + k ≤ x + n → ((j : ℕ) → j < k → differs (viewOf g t) s (kin .pred) (y + j) ≡ false) →
-          restOf (viewOf g t) s own gone found (y + k) ≡ restOf (viewOf g t) s own₀ gone₀ count x
+    module _ {own gone : List ℕ} {rest found : ℕ} (W : Walking (viewOf g t) s (kin .pred) x n own₀ gone₀ count own gone rest found) where
+      -- the pages from y on that are not in the word
+      skip : (k : ℕ) → W .y + k ≤ x + n → ((j : ℕ) → j < k → bit rest (W .y - x + j) ≡ false) →
+          restOf (viewOf g t) s own gone found (W .y + k) ≡ restOf (viewOf g t) s own₀ gone₀ count x
       unfolding viewOf
-      skip k l a = rest-skip (viewOf g t) s (seen own) (seen gone) found y k (omega arith) (λ j i. as-pred (y + j) (a j i)) ∙ W .same
+      skip k l a =
+          rest-skip (viewOf g t) s (seen own) (seen gone) found (W .y) k (omega arith)
+          (λ j i.
+          let z : x + (W .y - x + j) ≡ W .y + j = omega (arith, W .from) in
+          as-pred (W .y + j) (ap apart? (sym z) ∙ sym (W .left (W .y - x + j) (omega (arith, W .from)) (omega (arith, W .from))) ∙ a j i))
+          ∙ W .same
 
       -- no page is left that differs
       pub word-ends : rest ≡ 0 → Walked (viewOf g t) s own₀ gone₀ count x (Fits found) own gone (x + n)
       word-ends z =
-          let e : y + (x + n - y) ≡ x + n = omega arith in
-          let r = skip (x + n - y) (omega arith) (λ j h. bits-none (differs (viewOf g t) s (kin .pred)) x n y hn (W .from) (W .left) z j (omega arith)) in
-          walked-yes (W .own-size) (W .gone-size) found (omega arith) (rw e at r)
+          let e : W .y + (x + n - W .y) ≡ x + n = omega (arith, W .to) in
+          let r = skip (x + n - W .y) (omega (arith, W .to)) (λ j h. rw z (no-bit (W .y - x + j))) in
+          walked-yes (W .own-size) (W .gone-size) found (omega (arith, W .few, W .to)) (rw e at r)
 
       module _ (some : rest ≡ 0 → ⊥) where
-        pub word-inside : y + trailingZeros 32 rest < x + n
-        word-inside = bits-inside (differs (viewOf g t) s (kin .pred)) x n y hn (W .from) (W .left) some
+        more : 0 < rest
+        more = pos rest some
+          where
+            pos : (k : ℕ) → (k ≡ 0 → ⊥) → 0 < k
+            pos k m = omega arith
 
-        pub word-differs : like? (viewOf g t) s (y + trailingZeros 32 rest) ≡ false
-        word-differs = not-pred (y + trailingZeros 32 rest) (bits-at (differs (viewOf g t) s (kin .pred)) x n y hn (W .from) (W .left) some)
+        fits : rest < 2 ^ 32
+        fits = lt-of-lt-of-le (W .wide) (pow-mono hn)
 
-        skipped : restOf (viewOf g t) s own gone found (y + trailingZeros 32 rest) ≡ restOf (viewOf g t) s own₀ gone₀ count x
-        skipped = skip (trailingZeros 32 rest) (omega (arith, word-inside)) (bits-below (differs (viewOf g t) s (kin .pred)) x n y hn (W .from) (W .left) some)
+        lowest : bit rest (trailingZeros 32 rest) ≡ true
+        lowest = tz-at 32 rest more fits .1
 
-        module _ {r : Walk} {own′ gone′ : List ℕ} (done : Walked (viewOf g t) s own gone found (y + trailingZeros 32 rest) r own′ gone′ (y + trailingZeros 32 rest + 1)) where
+        pub word-inside : x + trailingZeros 32 rest < x + n
+        word-inside =
+            cases (lt? (trailingZeros 32 rest) n)
+            (λ h. omega arith)
+            (λ h. absurd (true-false lowest (bit-high n rest (trailingZeros 32 rest) (W .wide) h)))
+
+        not-used : W .y ≤ x + trailingZeros 32 rest
+        not-used =
+            cases (lt? (x + trailingZeros 32 rest) (W .y))
+            (λ h. absurd (true-false lowest (W .used (trailingZeros 32 rest) h)))
+            (λ h. h)
+
+        pub word-few : found ≤ x + trailingZeros 32 rest
+        word-few = omega (arith, W .few, not-used)
+
+        pub word-differs : like? (viewOf g t) s (x + trailingZeros 32 rest) ≡ false
+        word-differs = not-pred (x + trailingZeros 32 rest) (sym (W .left (trailingZeros 32 rest) not-used (omega (arith, word-inside))) ∙ lowest)
+
+        skipped : restOf (viewOf g t) s own gone found (x + trailingZeros 32 rest) ≡ restOf (viewOf g t) s own₀ gone₀ count x
+        skipped =
+            let k = x + trailingZeros 32 rest - W .y in
+            let e : W .y + k ≡ x + trailingZeros 32 rest = omega (arith, not-used) in
+            let r = skip k (omega (arith, not-used, word-inside)) (λ j h. tz-below 32 rest (W .y - x + j) (omega (arith, W .from, not-used))) in
+            rw e at r
+
+        module _ {r : Walk} {own′ gone′ : List ℕ} (done : Walked (viewOf g t) s own gone found (x + trailingZeros 32 rest) r own′ gone′ (x + trailingZeros 32 rest + 1)) where
           pub word-stops : r ≡ Fails → Walked (viewOf g t) s own₀ gone₀ count x Fails own′ gone′ (x + n)
           word-stops e = walked-no (done .own-size) (done .gone-size) (sym (ap (λ (q : Rest). q .fits) skipped) ∙ done .fails e)
 
-          pub word-goes : {k : ℕ} → r ≡ Fits k →
-              Walking (viewOf g t) s (kin .pred) x n own₀ gone₀ count own′ gone′ (rest / 2 ^ trailingZeros 32 rest / 2 ^ 1) (y + trailingZeros 32 rest + 1) k
-          word-goes {k} e = record {
-            from = omega arith;
-            to = omega (arith, word-inside);
-            left = bits-next (differs (viewOf g t) s (kin .pred)) x n y hn (W .from) (W .left) (trailingZeros 32 rest);
-            few = done .few k e;
-            own-size = done .own-size;
-            gone-size = done .gone-size;
-            same = done .fits k e ∙ skipped;
-          }
+          pub word-goes : {k : ℕ} → r ≡ Fits k → Walking (viewOf g t) s (kin .pred) x n own₀ gone₀ count own′ gone′ (bitAnd rest (rest - 1)) k
+          word-goes {k} e =
+              record {
+                y = x + trailingZeros 32 rest + 1;
+                from = omega arith;
+                to = omega (arith, word-inside);
+                wide = lt-of-le-of-lt (and-le-l rest (rest - 1)) (W .wide);
+                used = λ j h. cases (same? j (trailingZeros 32 rest))
+                    (λ d. rw d (off-at 32 rest more fits))
+                    (λ d. off-below 32 rest more fits j (omega arith));
+                left = λ j h i. off-above 32 rest more fits j (omega arith) ∙ W .left j (omega (arith, not-used)) i;
+                few = done .few k e;
+                own-size = done .own-size;
+                gone-size = done .gone-size;
+                same = done .fits k e ∙ skipped;
+              }
 
 -- ── a row of pages ──
+
+-- a word more of a row's stands
+pub words-more : (words : List ℕ) (k v : ℕ) (f : ℕ → ℕ) → k < length words → ((j : ℕ) → j < k → getD words j 0 ≡ f j) → v ≡ f k →
+    (j : ℕ) → j < k + 1 → getD (set words k v) j 0 ≡ f j
+words-more words k v f h a e j l =
+    cases (same? j k)
+    (λ d. rw d (getD-set-same words k v 0 h ∙ e))
+    (λ d. getD-set-other words k j v 0 d ∙ a j (omega arith))
+
+pub row-word : (g : Geometry) (t : List ℕ) (s l : ℕ) {words : List ℕ} (k : ℕ) {n : ℕ} → RowWords (viewOf g t) s l words → 32 * k < g .pages →
+    n ≡ min 32 (g .pages - 32 * k) → getD words k 0 ≡ wordOf (differs (viewOf g t) s l) (32 * k) n
+unfolding viewOf
+row-word g t s l k R h e = rw e (R .word k h)
 
 -- the pages of s before x are walked
 pub record Rowing (K : View) (s : ℕ) (own₀ gone₀ own gone : List ℕ) (found x : ℕ) : Type 0 where

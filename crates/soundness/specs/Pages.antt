@@ -2,14 +2,16 @@
 use mathlib.Core.Path.{_≡_}
 use mathlib.Core.Bool.{Bool, true, false, cond, _&&_}
 use mathlib.Core.List.{List, [], _∷_}
-use Prim.Native.Nat.{ℕ, zero, suc, _+_, _-_, _≤_}
+use Prim.Native.Nat.{ℕ, zero, suc, _+_, _-_, _*_, _≤_, _<_, min}
 use lib.Dec.{ltb, leb}
 use lib.ListN.{length, getD}
+use Rattle.choice.specs.Words.{wordOf}
 use Rattle.model.specs.Table.{all}
 use Rattle.model.specs.Lists.{rows}
 use Rattle.model.specs.View.{View, parent, predNum, baseNum, pageOf}
 use Rattle.model.specs.Check.{marksOf, once?, page?, ownAt, goneAt, list?, empty?}
 use Rattle.model.specs.Stamps.{stamped}
+use Rattle.tables.specs.Rows.{differs}
 use Rattle.soundness.specs.declared.pages.Kin.{Kin}
 use Rattle.soundness.specs.declared.pages.Walk.{Walk}
 use Rattle.soundness.specs.declared.pages.Walk.the-variants.{Fits, Fails}
@@ -76,6 +78,11 @@ pub record Walked (K : View) (s : ℕ) (own₀ gone₀ : List ℕ) (n x : ℕ) (
   pub fails : r ≡ Fails → restOf K s own₀ gone₀ n x .fits ≡ false
   pub few : (k : ℕ) → r ≡ Fits k → k ≤ y
   pub fits : (k : ℕ) → r ≡ Fits k → restOf K s own gone k y ≡ restOf K s own₀ gone₀ n x
+
+-- the words of a row: 32 pages of s each, where they differ from those of the record behind the link l
+pub record RowWords (K : View) (s l : ℕ) (words : List ℕ) : Type 0 where
+  pub size : length words ≡ 8
+  pub word : (k : ℕ) → 32 * k < K .pages → getD words k 0 ≡ wordOf (differs K s l) (32 * k) (min 32 (K .pages - 32 * k))
 
 -- the test of a slot
 unfoldable pub slotFits : View → ℕ → Bool

@@ -1,6 +1,6 @@
 // Which blocks are held: the births agree with marks, with the free words, and with what the log reads to.
 ghost use mathlib.Core.Path.{_≡_};
-ghost use Prim.Native.Nat.{_≤_};
+ghost use Prim.Native.Nat.{ℕ, _≤_, _<_};
 ghost use lib.ListN.{getD};
 ghost use Rattle.geometry.specs.Limits.{blocks};
 ghost use Rattle.log.specs.Marks.{heldIn};
@@ -44,9 +44,25 @@ pub fn words_fit(g: Geometry, t: &[u32]) -> bool
     words_agree(&t[FREE..FREE + 64], &t[births..], g.arenas * g.per)
 }
 
-// The log reads to the held blocks.
-pub fn log_holds(g: Geometry, t: &[u32], log: &[u8]) -> bool
-    requires { ⌜ Roomy g (now t) × LogLong g (now log) × (getD (now t) 9 0 ≤ g .words) ⌝ }
+// Two tables of marks agree on n blocks. It looks at all of them, several in one instruction.
+fn marks_agree(marks: &[u8; 2048], others: &[u8; 2048], n: usize) -> bool
+    requires { ⌜ n ≤ 2048 ⌝ }
+    ensures { λ r. ⌜ r ≡ all n (λ b. same (heldIn (now (marks .entry)) b) (heldIn (now (others .entry)) b)) ⌝ }
+{
+    let mut agree = true;
+    let mut b: usize = 0;
+    while b < n {
+        let marked = marks[b] != 0;
+        let other = others[b] != 0;
+        agree = agree & ((marked & other) | (!marked & !other));
+        b += 1;
+    }
+    agree
+}
+
+// The log reads to the held blocks, which are those with a mark in `own`.
+pub fn log_holds(g: Geometry, t: &[u32], log: &[u8], own: &[u8; 2048]) -> bool
+    requires { ⌜ Roomy g (now t) × LogLong g (now log) × (getD (now t) 9 0 ≤ g .words) × ((b : ℕ) → b < blocks g → heldIn (now own) b ≡ held (viewOf g (now t)) b) ⌝ }
     ensures { λ r. ⌜ r ≡ logHolds? g (stateOf g (now (t .entry))) (now (log .entry)) ⌝ }
 {
     let used = header_number(g, t, USED);
@@ -56,5 +72,5 @@ pub fn log_holds(g: Geometry, t: &[u32], log: &[u8]) -> bool
         return false;
     }
     let marks = held.marks;
-    births_agree(g, t, &marks)
+    marks_agree(&marks, own, g.arenas * g.per)
 }

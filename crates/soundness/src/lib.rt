@@ -43,5 +43,5 @@ pub fn is_sound(g: Geometry, t: &[u32], log: &[u8]) -> bool
     if !words_fit(g, t) {
         return false;
     }
-    log_holds(g, t, log)
+    log_holds(g, t, log, &own)
 }

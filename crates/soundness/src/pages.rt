@@ -1,7 +1,7 @@
 // The pages of a record against its pred's: a page that differs has a block of the record's own; what was there before it may be gone.
 ghost use mathlib.Core.Path.{_≡_};
 ghost use mathlib.Core.Bool.{true, false, cond, _&&_};
-ghost use Prim.Native.Nat.{ℕ, suc, _+_, _≤_, _<_};
+ghost use Prim.Native.Nat.{ℕ, suc, _+_, _-_, _*_, _≤_, _<_, min};
 ghost use lib.Dec.{ltb};
 ghost use lib.ListN.{length, getD};
 ghost use Rattle.model.specs.Table.{all, via};
@@ -10,10 +10,13 @@ ghost use Rattle.model.specs.View.{baseNum, pageOf};
 ghost use Rattle.model.specs.Check.{marksOf, once?, page?, like?, fits?, list?, empty?, allOwn, owns};
 ghost use Rattle.model.specs.Layout.{viewOf};
 ghost use Rattle.model.specs.Stamps.{stamped};
+ghost use Rattle.choice.specs.Words.{wordOf};
 ghost use Rattle.tables.specs.Ready.{Roomy};
-ghost use Rattle.soundness.specs.Pages.{reached, kinOf, younger, seen, Walked, slotFits};
+ghost use Rattle.tables.specs.Rows.{differs};
+ghost use Rattle.soundness.specs.Pages.{reached, kinOf, younger, seen, Walked, RowWords, slotFits};
 use crate::lists::list_fits;
 use geometry::Geometry;
+use std::num::wrapping_sub_usize;
 use tables::cells::BASE;
 use tables::cells::LENGTH;
 use tables::cells::NUMBER;
@@ -22,7 +25,6 @@ use tables::cells::PREV;
 use tables::cells::ROW;
 use tables::cells::ROWS;
 use tables::differ::differing;
-use tables::differ::stretch;
 use tables::find::wide;
 
 // What the walk over a record's pages asks of the record each time: its number, a link to its pred, the pred's number, whether a record is before
@@ -142,16 +144,14 @@ fn mark_gone(
     ensures stamped { λ r. ⌜ seen (now (gone .exit)) ≡ stamped (suc s) (seen (now (gone .entry))) (younger (viewOf g (now (t .entry))) s link) ⌝ }
     ensures size { λ r. ⌜ (r ≤ 1) × (length (now (gone .exit)) ≡ 2048) ⌝ }
 {
-    if link == 0 {
+    let b = wrapping_sub_usize(link, 1);
+    if g.arenas * g.per <= b {
         return 0;
     }
-    if g.arenas * g.per < link {
+    if wide(t[PAGES + ROWS * g.records + b]) <= root {
         return 0;
     }
-    if wide(t[PAGES + ROWS * g.records + (link - 1)]) <= root {
-        return 0;
-    }
-    gone[link - 1] = (s + 1) as u8;
+    gone[b] = (s + 1) as u8;
     1
 }
 
@@ -181,7 +181,7 @@ fn page_walk(
     Walk::Fits(count)
 }
 
-// The n pages of slot s from x on, by the bits of a word: from page y on `rest` is what is left of it.
+// The n pages of slot s from x on, by the bits of their word, the lowest first: each turn of the loop takes one off.
 fn word_walk(
     g: Geometry,
     t: &[u32],
@@ -191,44 +191,66 @@ fn word_walk(
     kin: Kin,
     x: usize,
     n: usize,
+    word: u32,
     count: usize,
 ) -> Walk
-    requires { ⌜ Roomy g (now t) × (s < g .records) × (n ≤ 32) × (x + n ≤ g .pages) × (count ≤ x) × (kin ≡ kinOf (viewOf g (now t)) s) × (length (now own) ≡ 2048) × (length (now gone) ≡ 2048) ⌝ }
+    requires { ⌜ Roomy g (now t) × (s < g .records) × (n ≤ 32) × (x + n ≤ g .pages) × (count ≤ x) × (kin ≡ kinOf (viewOf g (now t)) s) × (length (now own) ≡ 2048) × (length (now gone) ≡ 2048) × (word ≡ wordOf (differs (viewOf g (now t)) s (kin .pred)) x n) ⌝ }
     ensures { λ r. ⌜ Walked (viewOf g (now (t .entry))) s (now (own .entry)) (now (gone .entry)) count x r (now (own .exit)) (now (gone .exit)) (x + n) ⌝ }
 {
-    let mut rest = differing(g, t, s, kin.pred, x, n);
-    let mut y = x;
+    let mut rest = word;
     let mut found = count;
     while rest != 0 {
-        let step = u32::trailing_zeros(rest);
-        y += step as usize;
+        let y = x + (u32::trailing_zeros(rest) as usize);
         let walked = page_walk(g, t, own, gone, s, kin, y, found);
         let Walk::Fits(k) = walked else {
             return Walk::Fails;
         };
         found = k;
-        rest = (rest >> step) >> 1;
-        y += 1;
+        rest = rest & (rest - 1);
     }
     Walk::Fits(found)
 }
 
-// All pages of slot s.
+// How many pages word k of a row is for.
+fn width(g: Geometry, k: usize) -> usize
+    requires { ⌜ 32 * k < g .pages ⌝ }
+    ensures { λ r. ⌜ r ≡ min 32 (g .pages - 32 * k) ⌝ }
+{
+    let left = g.pages - 32 * k;
+    if left < 32 { left } else { 32 }
+}
+
+// Puts the words of a row: where the pages of slot s differ from those of the record behind the link.
+fn row_words(g: Geometry, t: &[u32], words: &mut [u32; 8], s: usize, link: usize)
+    requires { ⌜ Roomy g (now t) × (s < g .records) × (link ≤ g .records) × (length (now words) ≡ 8) ⌝ }
+    ensures { λ _. ⌜ RowWords (viewOf g (now (t .entry))) s link (now (words .exit)) ⌝ }
+{
+    let mut k: usize = 0;
+    while 32 * k < g.pages {
+        let n = width(g, k);
+        words[k] = differing(g, t, s, link, 32 * k, n);
+        k += 1;
+    }
+}
+
+// All pages of slot s. The words stand ready before the first page is looked at: no page waits for the word of the next.
 fn row_walk(g: Geometry, t: &[u32], own: &mut [u8; 2048], gone: &mut [u8; 2048], s: usize) -> Walk
     requires { ⌜ Roomy g (now t) × (s < g .records) × (length (now own) ≡ 2048) × (length (now gone) ≡ 2048) ⌝ }
     ensures { λ r. ⌜ Walked (viewOf g (now (t .entry))) s (now (own .entry)) (now (gone .entry)) 0 0 r (now (own .exit)) (now (gone .exit)) (g .pages) ⌝ }
 {
     let kin = kin_of(g, t, s);
+    let mut words = [0u32; 8];
+    row_words(g, t, &mut words, s, kin.pred);
     let mut found: usize = 0;
-    let mut x: usize = 0;
-    while x < g.pages {
-        let n = stretch(g.pages - x);
-        let walked = word_walk(g, t, own, gone, s, kin, x, n, found);
-        let Walk::Fits(k) = walked else {
+    let mut k: usize = 0;
+    while 32 * k < g.pages {
+        let n = width(g, k);
+        let walked = word_walk(g, t, own, gone, s, kin, 32 * k, n, words[k], found);
+        let Walk::Fits(more) = walked else {
             return Walk::Fails;
         };
-        found = k;
-        x += n;
+        found = more;
+        k += 1;
     }
     Walk::Fits(found)
 }

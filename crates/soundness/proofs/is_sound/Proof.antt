@@ -3,6 +3,7 @@ use Prim.Native.Nat.{ℕ}
 use lib.ListN.{replicate, length-replicate}
 use borrow.Author.Needs.{needs}
 use borrow.Author.Tests.{not-false}
+use Rattle.soundness.proofs.Clauses.{own-are}
 use Rattle.soundness.proofs.Loops.{failed, passed}
 use Rattle.soundness.proofs.Whole.{range-known, seen-none, sound-no-numbers, sound-no-range, sound-no-links, sound-no-pages, sound-no-births, sound-no-words, sound-yes}
 use Rattle.soundness.proofs.is_sound.Statement.{statement}
@@ -49,20 +50,33 @@ returns-6 c = sound-no-words _ _ _ (failed (c .before .words-fit .ensures) (c .i
 
 log-holds-requires : tie.Need-log-holds-requires
 log-holds-requires c κs =
-    let d = c .before .before .before .before .before .before .before .before .before .before .before .before .before .before .before .before in
-    (d .pre .0, d .pre .1, range-known _ _ (passed (c .before .before .before .before .before .before .before .before .before .before .before .ranges-fit .ensures) (c .before .before .before .before .before .before .before .before .before .before .if2 .left)))
+    let at-if5 = c .before .before .before in
+    let at-births = at-if5 .before in
+    let at-if2 = at-births .before .before .before .before .before .before .before in
+    let d = at-if2 .before .before .before .before .before .before in (
+      d .pre .0,
+      d .pre .1,
+      range-known _ _ (passed (at-if2 .before .ranges-fit .ensures) (at-if2 .if2 .left)),
+      own-are (d .args .g) (d .args .t .now) _ (passed (at-births .births-agree .ensures) (at-if5 .if5 .left)),
+    )
 
 returns-7 : tie.Need-returns-7
 returns-7 c =
-    let p = c .before .before .before .before .before .before .before .pages-fit in
-    let q = c .before .before .before .before .before .before .if4 .left in
+    let at-if6 = c .before .before in
+    let at-if5 = at-if6 .before .before in
+    let at-if4 = at-if5 .before .before .before in
+    let at-if3 = at-if4 .before .before .before in
+    let at-if2 = at-if3 .before .before in
+    let at-if1 = at-if2 .before .before in
+    let p = at-if4 .before .pages-fit in
+    let q = at-if4 .if4 .left in
     sound-yes _ _ _ (replicate 2048 0) (seen-none 2048) (p .last .1 .1 .0) (p .ensures .1 (not-false _ q))
-    (passed (c .before .before .before .before .before .before .before .before .before .before .before .before .before .before .numbers-fit .ensures) (c .before .before .before .before .before .before .before .before .before .before .before .before .before .if1 .left))
-    (passed (c .before .before .before .before .before .before .before .before .before .before .before .before .ranges-fit .ensures) (c .before .before .before .before .before .before .before .before .before .before .before .if2 .left))
-    (passed (c .before .before .before .before .before .before .before .before .before .before .records-fit .ensures) (c .before .before .before .before .before .before .before .before .before .if3 .left))
+    (passed (at-if1 .before .numbers-fit .ensures) (at-if1 .if1 .left))
+    (passed (at-if2 .before .ranges-fit .ensures) (at-if2 .if2 .left))
+    (passed (at-if3 .before .records-fit .ensures) (at-if3 .if3 .left))
     (passed (p .ensures .0) q)
-    (passed (c .before .before .before .before .births-agree .ensures) (c .before .before .before .if5 .left))
-    (passed (c .before .before .words-fit .ensures) (c .before .if6 .left))
+    (passed (at-if5 .before .births-agree .ensures) (at-if5 .if5 .left))
+    (passed (at-if6 .before .words-fit .ensures) (at-if6 .if6 .left))
     (c .log-holds .ensures)
 
 pub is-sound-spec : {M : Type 1} → statement M

@@ -1,9 +1,10 @@
 -- `log_holds`: two laws of `Whole`, of what was read of the log.
-use mathlib.Core.Path.{sym}
+use mathlib.Core.Path.{sym, _∙_}
 use Prim.Native.Nat.{_*_}
 use native.Mathlib.Omega.{arith}
 use lib.Seq.{length-take-le}
 use borrow.Author.Needs.{needs}
+use Rattle.soundness.proofs.Clauses.{births-are}
 use Rattle.soundness.proofs.Whole.{log-unread, log-read}
 use Rattle.soundness.proofs.held.log_holds.Statement.{statement}
 use Rattle.soundness.proofs.held.log_holds.Tie as tie
@@ -23,11 +24,20 @@ read-log-requires c κs = search needs
 returns : tie.Need-returns
 returns c = log-unread _ _ _ (c .before .before .before .before .header-number .ensures) (c .before .before .read-log .ensures) (c .if1 .taken)
 
-births-agree-requires : tie.Need-births-agree-requires
-births-agree-requires c κs = search needs
+mul-marks-agree : tie.Need-mul-marks-agree
+mul-marks-agree c = search needs
+
+marks-agree-requires : tie.Need-marks-agree-requires
+marks-agree-requires c κs = c .before .before .before .before .before .before .before .before .before .before .pre .0 .inside .blocks-most
 
 returns-2 : tie.Need-returns-2
-returns-2 c = log-read _ _ _ (c .before .before .before .before .before .before .before .header-number .ensures) (c .before .before .before .before .before .read-log .ensures) (c .before .before .before .if1 .left) (c .births-agree .ensures)
+returns-2 c =
+    let at-if1 = c .before .before .before .before in
+    let at-read-log = at-if1 .before .before in
+    let at-header-number = at-read-log .before .before in
+    let d = at-header-number .before .before .before in
+    log-read _ _ _ (at-header-number .header-number .ensures) (at-read-log .read-log .ensures) (at-if1 .if1 .left)
+    (c .marks-agree .ensures ∙ births-are (d .args .g) (d .args .t .now) _ (d .args .own .now) (d .pre .3))
 
 pub log-holds-spec : {M : Type 1} → statement M
 log-holds-spec =
@@ -38,5 +48,6 @@ log-holds-spec =
     slice-aggregate-read-log
     read-log-requires
     returns
-    births-agree-requires
+    mul-marks-agree
+    marks-agree-requires
     returns-2)
