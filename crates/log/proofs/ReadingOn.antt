@@ -2,8 +2,9 @@
 use mathlib.Core.Path.{_≡_, refl, sym, ap, subst, _∙_}
 use mathlib.Core.Bool.{Bool, true, false, not}
 use mathlib.Core.List.{List, [], _∷_}
-use Prim.Native.Nat.{ℕ, _+_, _-_, _*_, _/_, _%_, _^_, _≤_, _<_}
+use Prim.Native.Nat.{ℕ, zero, suc, _+_, _-_, _*_, _/_, _%_, _^_, _≤_, _<_}
 use native.Mathlib.Omega.{arith}
+use lib.Bits.{bitXor, xor-zero-l, xor-self}
 use lib.ListN.{length, getD, set, drop}
 use Rattle.answer.proofs.Cases.{cases, same?}
 use Rattle.log.specs.Word.{wordAt, words}
@@ -13,7 +14,7 @@ use Rattle.log.specs.declared.read.Progress.{Progress}
 use Rattle.log.specs.declared.read.Progress.the-variants.{Ready, Bad}
 use Rattle.log.proofs.Reading.{words-step}
 use Rattle.log.proofs.MarksFacts.{marked}
-use Rattle.log.proofs.Steps.{oneWord, one-word}
+use Rattle.log.proofs.Steps.{oneWord, one-word, barrier-word}
 use Rattle.log.proofs.RoundTrip.{Good, good-word}
 
 -- ── a word of any kind ──
@@ -46,6 +47,11 @@ one-turned : (n : ℕ) (m : List ℕ) (w b : ℕ) (held : Bool) → w ≡ oneWor
 one-turned n m w b held e h z =
     rw e (one-word n m b held h ∙ ap changed (marked m b 1 held (λ i k. let d : b + i ≡ b = omega arith in rw d z)))
 
+pub turned-mark : (v : ℕ) → v ≤ 1 → bitXor v 1 ≡ 1 - v
+turned-mark zero h = xor-zero-l 1
+turned-mark (suc zero) h = xor-self 1
+turned-mark (suc (suc v)) h = absurd (let z : ⊥ = omega arith in z)
+
 -- e is the word less 1
 pub single-word : (n : ℕ) (m : List ℕ) (w e : ℕ) → (e + 1) % 2 ^ 64 ≡ w → n ≤ 2048 → e / 16384 < n → e % 16384 ≡ getD m (e / 16384) 0
     → getD m (e / 16384) 0 ≤ 1 → firstWord n m w ≡ (Ready, set m (e / 16384) (1 - e % 16384))
@@ -72,6 +78,9 @@ module _ (arenas per : ℕ) (log : List ℕ) where
         table = t;
         same = sym (read-next arenas per (Ready, m) log at h ∙ ap (λ (s : State). readWords arenas per s (words (drop (at + 8) log))) (rw f at e));
       }
+
+  pub on-barrier : {m : List ℕ} {w : ℕ} (at : ℕ) → at + 8 ≤ length log → Table (arenas * per) m → w ≡ wordAt log at → w ≡ 3 → ReadOn arenas per log m at m (at + 8)
+  on-barrier {m} at h t f e = on-one at h t f (rw e (barrier-word (arenas * per) m))
 
   pub on-more : {m k l : List ℕ} {a b c : ℕ} → ReadOn arenas per log m a k b → ReadOn arenas per log k b l c → ReadOn arenas per log m a l c
   on-more r q =

@@ -31,7 +31,8 @@ enum-told c = search needs
 read-singles-requires : tie.Need-read-singles-requires Inv-loop μ-loop
 read-singles-requires c κs =
     let d = c .before .before .before .before in
-    (d .before .before .pre .1, d .loop .inv .0, d .loop .inv .3)
+    let q = d .before .before .pre in
+    (q .1, d .loop .inv .0, d .loop .inv .1, q .2, d .loop .inv .3)
 
 get-word-requires : tie.Need-get-word-requires Inv-loop μ-loop
 get-word-requires c κs = omega (arith, c .before .before .read-singles .ensures .whole)
