@@ -21,7 +21,8 @@ kin-of-requires c κs = search needs
 row-words-requires : tie.Need-row-words-requires Inv-loop μ-loop
 row-words-requires c κs =
     let d = c .before .before .before in
-    (d .pre .0, d .pre .1, pred-range (d .args .g) (d .args .t .now) (d .args .s) (c .before .kin-of .ensures), length-replicate {A = ℕ} 8 0)
+    let link = pred-range (d .args .g) (d .args .t .now) (d .args .s) (c .before .kin-of .ensures) in
+    (d .pre .0, d .pre .1, omega (arith, link, d .pre .1), length-replicate {A = ℕ} 8 0)
 
 loop-holds : tie.Need-loop-holds Inv-loop μ-loop
 loop-holds c =
