@@ -9,10 +9,10 @@ use Rattle.tables.proofs.find.links_of.Statement.{statement}
 use Rattle.tables.proofs.find.links_of.Tie as tie
 
 abbrev Inv-loop : tie.InvT-loop
-Inv-loop t g v found₀ link₀ s₀ found link s = (s ≤ g .records) × (link ≡ s + 1) × (found ≡ gathered (columnHas t 192 v) s)
+Inv-loop t slots v found₀ link₀ s₀ found link s = (s ≤ slots) × (link ≡ s + 1) × (found ≡ gathered (columnHas t 192 v) s)
 
 abbrev μ-loop : tie.MeasureT-loop
-μ-loop t g v found₀ link₀ s₀ found link s = g .records - s
+μ-loop t slots v found₀ link₀ s₀ found link s = slots - s
 
 loop-holds : tie.Need-loop-holds Inv-loop μ-loop
 loop-holds c = (omega arith, omega arith, Seeks.gather-none _)
@@ -40,11 +40,11 @@ loop-less c = search needs
 
 loop-again : tie.Need-loop-again Inv-loop μ-loop
 loop-again c =
-    let d = c .before .before .before .before in
-    (omega arith, omega arith, Seeks.gather-number _ _ _ _ _ _ (d .before .before .pre .1) (d .loop .inv .1) (d .loop .inv .2) (c .link-at .ensures))
+    let d = c .before .before .before in
+    (omega arith, omega arith, Seeks.gather-number _ _ _ _ _ _ (d .before .before .pre .2) (d .loop .inv .1) (d .loop .inv .2) (c .link-at .ensures))
 
 returns : tie.Need-returns Inv-loop μ-loop
-returns c = Seeks.gather-all _ _ _ _ (c .before .before .loop .inv .0) (c .if1 .left) (c .before .before .loop .inv .2)
+returns c = Seeks.gather-all _ _ _ _ (c .before .loop .inv .0) (c .loop-test .left) (c .before .loop .inv .2)
 
 pub links-of-spec : {M : Type 1} → statement M
 links-of-spec =
