@@ -2,18 +2,14 @@
 use mathlib.Core.Path.{_≡_}
 use mathlib.Core.List.{List, []}
 use Prim.Native.Nat.{ℕ, suc, _*_}
-use lib.ListN.{getD, set}
+use lib.ListN.{set}
 use Rattle.answer.specs.Reply.{Reply, accepted, refused}
 use Rattle.geometry.specs.declared.Geometry.{Geometry}
 use Rattle.ledger.specs.LogMeans.{Given, Within}
-use Rattle.model.specs.Memory.{Memory, reply, after}
+use Rattle.model.specs.Memory.{Memory, wordsUsed, reply, after}
 use Rattle.ledger.specs.MemoryMeans.{tableSize}
 use Rattle.model.specs.declared.Call.{Call}
-use Rattle.model.specs.declared.Call.the-variants.{Begin, Write, Erase, Seal, Fork, Delete, Read, Barrier, Compress, FreeList}
-
--- how many words of its log a store has used: number 9 of the tables
-abbrev pub wordsUsed : Memory → ℕ
-wordsUsed M = getD (M .tables) 9 0
+use Rattle.model.specs.declared.Call.the-variants.{Begin, Write, Erase, Seal, Fork, Delete, Read, Barrier, Compress, FreeList, Estimate}
 
 -- the log: nothing but the words behind those that were used, up to those that are used now
 abbrev pub Appended : Memory → Memory → Type 0
@@ -31,6 +27,7 @@ TouchedBy (Delete r) M left = Appended M left
 -- these look only
 TouchedBy (Read r x) M left = (left .log ≡ M .log) × (left .tables ≡ M .tables)
 TouchedBy FreeList M left = (left .log ≡ M .log) × (left .tables ≡ M .tables)
+TouchedBy (Estimate r) M left = (left .log ≡ M .log) × (left .tables ≡ M .tables)
 -- of the tables, the count of the log words alone
 TouchedBy Barrier M left = Appended M left × (left .tables ≡ set (M .tables) 9 (suc (wordsUsed M)))
 -- the log anew from its start: the bytes beyond its words stay

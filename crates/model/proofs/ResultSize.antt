@@ -1,5 +1,6 @@
--- How many numbers an accepted call gives: at most two for each block, so a result buffer that is long enough has room for them.
-use mathlib.Core.Path.{_≡_, ap}
+-- How many numbers an accepted call gives: at most two for each block, or three, so a result buffer that is long enough has room for them.
+use mathlib.Core.Path.{_≡_, subst}
+use mathlib.Core.Logic.{_⊎_, inl, inr}
 use mathlib.Core.Bool.{Bool, true, false, cond}
 use mathlib.Core.List.{List, [], _∷_, _++_}
 use Prim.Native.Nat.{ℕ, zero, suc, _+_, _*_, _%_, _≤_, _<_}
@@ -8,6 +9,7 @@ use lib.Dec.{eqb, ltb}
 use lib.ListN.{length}
 use Rattle.answer.specs.Reply.{accepted}
 use Rattle.answer.specs.Refusal.{NoneHolds}
+use Rattle.answer.proofs.Cases.{cases}
 use Rattle.geometry.specs.declared.Geometry.{Geometry}
 use Rattle.geometry.specs.Limits.{Inside, blocks}
 use Rattle.log.specs.Runs.{Run, ending, runsFrom, runs}
@@ -20,7 +22,7 @@ use Rattle.model.specs.Calls.{slot, pairs, freeList, deleting, condition
 use Rattle.model.specs.Layout.{stateOf}
 use Rattle.model.specs.Memory.{Memory, reply}
 use Rattle.model.specs.declared.Call.{Call}
-use Rattle.model.specs.declared.Call.the-variants.{Begin, Write, Erase, Seal, Fork, Delete, Read, Barrier, Compress, FreeList}
+use Rattle.model.specs.declared.Call.the-variants.{Begin, Write, Erase, Seal, Fork, Delete, Read, Barrier, Compress, FreeList, Estimate}
 use Rattle.model.proofs.Tally.{tally-le}
 use Rattle.model.proofs.HeldFacts.{held-done}
 use Rattle.model.proofs.Fine.{Fine, asks-D}
@@ -78,6 +80,10 @@ runs-le per t b r (suc n) = go (t b) (eqb (b % per) 0) (runs-le per t (suc b) 0 
 
 -- ── every call ──
 
+-- at most two for each block, or no more than the three numbers of Q
+abbrev pub Few : Geometry → List ℕ → Type 0
+Few g l = (length l ≤ 2 * blocks g) ⊎ (length l ≤ 3)
+
 -- there is a block
 one-block : (a p : ℕ) → 1 ≤ a → 1 ≤ p → 1 ≤ a * p
 one-block zero p h k = omega arith
@@ -95,23 +101,25 @@ module _ (g : Geometry) (inside : Inside g) (T : State) (R : Fine g T) where
   some : 1 ≤ blocks g
   some = one-block (g .arenas) (g .per) (inside .arenas-least) (inside .per-least)
 
-  pub result-le : (c : Call) → NoneHolds (conditions g T c) → length (result g T c) ≤ 2 * blocks g
-  result-le Begin n = omega (arith, some)
-  result-le (Write r x k) n = omega (arith, erased-one (T .view) (slot T r) (T .view .page (slot T r) x), some)
-  result-le (Erase r x) n = omega (arith, erased-one (T .view) (slot T r) (T .view .page (slot T r) x), some)
-  result-le (Seal r) n = omega (arith, some)
-  result-le (Fork r) n = omega (arith, some)
-  result-le (Delete r) n = omega (arith, deleted-le r n)
-  result-le (Read r x) n = omega (arith, page-one (T .view .page (slot T r) x), some)
-  result-le Barrier n = omega arith
-  result-le Compress n = omega (arith, some)
-  result-le FreeList n = omega (arith, listed-le)
+  pub result-le : (c : Call) → NoneHolds (conditions g T c) → Few g (result g T c)
+  result-le Begin n = inl (omega (arith, some))
+  result-le (Write r x k) n = inl (omega (arith, erased-one (T .view) (slot T r) (T .view .page (slot T r) x), some))
+  result-le (Erase r x) n = inl (omega (arith, erased-one (T .view) (slot T r) (T .view .page (slot T r) x), some))
+  result-le (Seal r) n = inl (omega (arith, some))
+  result-le (Fork r) n = inl (omega (arith, some))
+  result-le (Delete r) n = inl (omega (arith, deleted-le r n))
+  result-le (Read r x) n = inl (omega (arith, page-one (T .view .page (slot T r) x), some))
+  result-le Barrier n = inl (omega arith)
+  result-le Compress n = inl (omega (arith, some))
+  result-le FreeList n = inl (omega (arith, listed-le))
+  result-le (Estimate r) n = inr (omega arith)
 
-pub accepted-le : (g : Geometry) (M : Memory) (c : Call) (l : List ℕ) → reply g M c ≡ accepted l → length l ≤ 2 * blocks g
+pub accepted-le : (g : Geometry) (M : Memory) (c : Call) (l : List ℕ) → reply g M c ≡ accepted l → Few g l
 accepted-le g M c l e =
     let (A, r) = accepted-is g M c l e in
-    omega (arith, ap length r, result-le g (A .inside) (stateOf g (M .tables)) (sound-fine g (M .tables) (M .log) (A .sound)) c (A .none))
+    subst (Few g) r (result-le g (A .inside) (stateOf g (M .tables)) (sound-fine g (M .tables) (M .log) (A .sound)) c (A .none))
 
 -- the result buffer of an accepted call is longer than the result
 pub accepted-short : (g : Geometry) (M : Memory) (c : Call) (l : List ℕ) → reply g M c ≡ accepted l → length l < length (M .out)
-accepted-short g M c l e = omega (arith, accepted-le g M c l e, accepted-is g M c l e .0 .long .out)
+accepted-short g M c l e =
+    let long = accepted-is g M c l e .0 .long .out in cases (accepted-le g M c l e) (λ h. omega (arith, h, long)) (λ h. omega (arith, h, long))
