@@ -1,5 +1,6 @@
-// D: a record leaves the store.
+// D: a record leaves the store. Q: what that would free.
 pub mod delete;
+pub mod estimate;
 pub mod last;
 pub mod next;
 pub mod sort;

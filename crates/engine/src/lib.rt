@@ -1,10 +1,11 @@
-// The ten calls on tables that are known to be sound. Internal: `store` is what users call.
+// The eleven calls on tables that are known to be sound. Internal: `store` is what users call.
 ghost use mathlib.Core.Path.{_≡_};
 ghost use Rattle.answer.specs.Reply.{replyOf};
 ghost use Rattle.tables.specs.Ready.{Ready, OutLong, LogLong};
 ghost use Rattle.tables.specs.Outcome.{replied, tablesLeft, logLeft, outLeft};
 use answer::Answer;
 use deleting::delete::delete;
+use deleting::estimate::estimate;
 use geometry::Geometry;
 use lines::begin;
 use lines::fork;
@@ -36,5 +37,6 @@ pub fn perform(g: Geometry, t: &mut [u32], log: &mut [u8], out: &mut [u32], c: C
         Call::Barrier => barrier(g, t, log),
         Call::Compress => compress_log(g, t, log, out),
         Call::FreeList => free_list(g, t, out),
+        Call::Estimate(n) => estimate(g, t, out, n),
     }
 }

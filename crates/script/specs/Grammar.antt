@@ -3,7 +3,7 @@
 use Prim.Native.Nat.{ℕ, _<_}
 use mathlib.Core.List.{List, [], _∷_, _++_}
 use Rattle.model.specs.declared.Call.{Call}
-use Rattle.model.specs.declared.Call.the-variants.{Begin, Write, Erase, Seal, Fork, Delete, Read, Barrier, Compress, FreeList}
+use Rattle.model.specs.declared.Call.the-variants.{Begin, Write, Erase, Seal, Fork, Delete, Read, Barrier, Compress, FreeList, Estimate}
 use Rattle.script.specs.declared.parse.Six.{Six}
 use Rattle.script.specs.declared.parse.Parsed.{Parsed}
 use Rattle.script.specs.declared.parse.Parsed.the-variants.{Store, Asks}
@@ -22,6 +22,7 @@ letter (Read r x) = 82
 letter Barrier = 89
 letter Compress = 67
 letter FreeList = 76
+letter (Estimate r) = 81
 
 -- a call's numbers
 abbrev pub numbers : Call → List ℕ
@@ -35,6 +36,7 @@ numbers (Read r x) = r ∷ x ∷ []
 numbers Barrier = []
 numbers Compress = []
 numbers FreeList = []
+numbers (Estimate r) = r ∷ []
 
 abbrev pub sixNumbers : Six → List ℕ
 sixNumbers s = s .arenas ∷ s .per ∷ s .pages ∷ s .records ∷ s .turn ∷ s .words ∷ []

@@ -7,7 +7,7 @@ use mathlib.Core.Option.{Option, none, some}
 use lib.ListN.{length, getD, drop}
 use lib.Dec.{eqb, leb, ltb}
 use Rattle.model.specs.declared.Call.{Call}
-use Rattle.model.specs.declared.Call.the-variants.{Begin, Write, Erase, Seal, Fork, Delete, Read, Barrier, Compress, FreeList}
+use Rattle.model.specs.declared.Call.the-variants.{Begin, Write, Erase, Seal, Fork, Delete, Read, Barrier, Compress, FreeList, Estimate}
 use Rattle.script.specs.declared.number.Number.{Number}
 use Rattle.script.specs.declared.parse.Six.{Six}
 use Rattle.script.specs.declared.parse.Parsed.{Parsed}
@@ -69,15 +69,15 @@ abbrev pub storeOf : Option (List ℕ) → Parsed
 storeOf none = Parsed.No
 storeOf (some ns) = Store (sixOf ns)
 
--- how many numbers follow a letter: B W E S F D R Y C L; 4 for no letter of a call
+-- how many numbers follow a letter: B W E S F D R Y C L Q; 4 for no letter of a call
 unfoldable pub countOf : ℕ → ℕ
 countOf b =
-    cond (eqb b 66) 0 (cond (eqb b 87) 3 (cond (eqb b 69) 2 (cond (eqb b 83) 1 (cond (eqb b 70) 1 (cond (eqb b 68) 1 (cond (eqb b 82) 2 (cond (eqb b 89) 0 (cond (eqb b 67) 0 (cond (eqb b 76) 0 4)))))))))
+    cond (eqb b 66) 0 (cond (eqb b 87) 3 (cond (eqb b 69) 2 (cond (eqb b 83) 1 (cond (eqb b 70) 1 (cond (eqb b 68) 1 (cond (eqb b 82) 2 (cond (eqb b 89) 0 (cond (eqb b 67) 0 (cond (eqb b 76) 0 (cond (eqb b 81) 1 4))))))))))
 
 -- the call of a letter and its numbers
 unfoldable pub callOf : ℕ → ℕ → ℕ → ℕ → Call
 callOf b x y z =
-    cond (eqb b 66) Begin (cond (eqb b 87) (Write x y z) (cond (eqb b 69) (Erase x y) (cond (eqb b 83) (Seal x) (cond (eqb b 70) (Fork x) (cond (eqb b 68) (Delete x) (cond (eqb b 82) (Read x y) (cond (eqb b 89) Barrier (cond (eqb b 67) Compress FreeList))))))))
+    cond (eqb b 66) Begin (cond (eqb b 87) (Write x y z) (cond (eqb b 69) (Erase x y) (cond (eqb b 83) (Seal x) (cond (eqb b 70) (Fork x) (cond (eqb b 68) (Delete x) (cond (eqb b 82) (Read x y) (cond (eqb b 89) Barrier (cond (eqb b 67) Compress (cond (eqb b 81) (Estimate x) FreeList)))))))))
 
 abbrev pub asksOf : ℕ → Option (List ℕ) → Parsed
 asksOf b none = Parsed.No

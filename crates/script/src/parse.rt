@@ -94,6 +94,7 @@ pub fn count_of(letter: u8) -> usize
         b'Y' => 0,
         b'C' => 0,
         b'L' => 0,
+        b'Q' => 1,
         _ => 4,
     }
 }
@@ -112,6 +113,7 @@ pub fn call_of(letter: u8, x: u32, y: u32, z: u32) -> Call
         b'R' => Call::Read(x, y),
         b'Y' => Call::Barrier,
         b'C' => Call::Compress,
+        b'Q' => Call::Estimate(x),
         _ => Call::FreeList,
     }
 }

@@ -172,6 +172,7 @@ fn near_at(text: &[u8], at: usize) -> Near
         b'Y' => no_number(text, at, b'Y'),
         b'C' => no_number(text, at, b'C'),
         b'L' => no_number(text, at, b'L'),
+        b'Q' => one_number(text, at, b'Q'),
         _ => Near::No,
     }
 }

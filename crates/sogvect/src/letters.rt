@@ -1,7 +1,7 @@
 // One function a letter: the store's call, with its answer as a code and a count.
 ghost use Rattle.geometry.specs.Limits.{geometryOf};
 ghost use Rattle.model.specs.Memory.{lent};
-ghost use Rattle.model.specs.declared.Call.the-variants.{Begin, Write, Erase, Seal, Fork, Delete, Read, Barrier, Compress, FreeList};
+ghost use Rattle.model.specs.declared.Call.the-variants.{Begin, Write, Erase, Seal, Fork, Delete, Read, Barrier, Compress, FreeList, Estimate};
 ghost use Rattle.sogvect.specs.Coded.{Answered};
 use crate::coded;
 use model::Call;
@@ -343,6 +343,41 @@ pub extern "C" fn sogvect_free_list(
         log,
         out,
         Call::FreeList,
+    );
+    coded(a, count)
+}
+
+// Q: what the deletion of record n would do. The result is the numbers of the blocks it would free, of the log words it would write, and of the
+// non-empty shards of the record that follows which were born after its pred.
+#[no_mangle]
+pub extern "C" fn sogvect_estimate(
+    arenas: usize,
+    per: usize,
+    pages: usize,
+    records: usize,
+    turn: usize,
+    words: usize,
+    tables: &mut [u32],
+    log: &mut [u8],
+    out: &mut [u32],
+    n: u32,
+    count: &mut usize,
+) -> u32
+    ensures { λ r. ⌜ Answered (geometryOf arenas per pages records turn words)
+        (lent (now (tables .entry)) (now (log .entry)) (now (out .entry))) (Estimate n)
+        (now (count .entry)) r (now (count .exit)) (lent (now (tables .exit)) (now (log .exit)) (now (out .exit))) ⌝ }
+{
+    let a = call(
+        arenas,
+        per,
+        pages,
+        records,
+        turn,
+        words,
+        tables,
+        log,
+        out,
+        Call::Estimate(n),
     );
     coded(a, count)
 }
