@@ -3,7 +3,7 @@ use mathlib.Core.Path.{_≡_, refl}
 use mathlib.Core.List.{[], _∷_}
 use mathlib.Core.Option.{none, some}
 use Rattle.answer.specs.Reply.{accepted, refused}
-use Rattle.model.specs.declared.Call.the-variants.{Write, Delete, FreeList}
+use Rattle.model.specs.declared.Call.the-variants.{Write, Delete, FreeList, Estimate}
 use Rattle.script.specs.declared.parse.Parsed.{Parsed}
 use Rattle.script.specs.declared.parse.Parsed.the-variants.{Store, Asks}
 use Rattle.script.specs.Decimal.{digits, decimal, spaced}
@@ -33,6 +33,11 @@ list-line : parsed (76 ∷ []) ≡ Asks FreeList
 unfolding parsed opens callLine countOf callOf numbersFrom numberFrom firstDigit digitsFrom
 list-line = refl
 
+-- `Q 7`
+estimate-line : parsed (81 ∷ 32 ∷ 55 ∷ []) ≡ Asks (Estimate 7)
+unfolding parsed opens callLine countOf callOf numbersFrom numberFrom firstDigit digitsFrom
+estimate-line = refl
+
 -- `D 09`, `L ` and the empty line are no calls
 leading-zero : parsed (68 ∷ 32 ∷ 48 ∷ 57 ∷ []) ≡ Parsed.No
 unfolding parsed opens callLine countOf callOf numbersFrom numberFrom firstDigit digitsFrom
@@ -45,6 +50,15 @@ space-behind = refl
 empty-line : parsed [] ≡ Parsed.No
 unfolding parsed opens callLine
 empty-line = refl
+
+-- `Q` has one number: `Q` alone and `Q 1 2` are no calls
+estimate-bare : parsed (81 ∷ []) ≡ Parsed.No
+unfolding parsed opens callLine countOf callOf numbersFrom numberFrom firstDigit digitsFrom
+estimate-bare = refl
+
+estimate-two : parsed (81 ∷ 32 ∷ 49 ∷ 32 ∷ 50 ∷ []) ≡ Parsed.No
+unfolding parsed opens callLine countOf callOf numbersFrom numberFrom firstDigit digitsFrom
+estimate-two = refl
 
 -- `D 12345678`: eight digits
 eight-digits : parsed (68 ∷ 32 ∷ 49 ∷ 50 ∷ 51 ∷ 52 ∷ 53 ∷ 54 ∷ 55 ∷ 56 ∷ []) ≡ Parsed.No

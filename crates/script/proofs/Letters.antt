@@ -21,24 +21,9 @@ Apart b =
     ((((((((Unit {0} × (b ≡ 66 → ⊥)) × (b ≡ 87 → ⊥)) × (b ≡ 69 → ⊥)) × (b ≡ 83 → ⊥)) × (b ≡ 70 → ⊥)) × (b ≡ 68 → ⊥)) × (b ≡ 82 → ⊥)) × (b ≡ 89 → ⊥))
     × (b ≡ 67 → ⊥)
 
-pub call-last : (b x y z : ℕ) → Apart b → callOf b x y z ≡ FreeList
+pub call-last : (b x y z : ℕ) → Apart b × (b ≡ 81 → ⊥) → callOf b x y z ≡ FreeList
 unfolding callOf
-call-last b x y z h =
-    rw (
-      ne-eqb b 66 (h .0 .0 .0 .0 .0 .0 .0 .0 .1),
-      ne-eqb b 87 (h .0 .0 .0 .0 .0 .0 .0 .1),
-      ne-eqb b 69 (h .0 .0 .0 .0 .0 .0 .1),
-      ne-eqb b 83 (h .0 .0 .0 .0 .0 .1),
-      ne-eqb b 70 (h .0 .0 .0 .0 .1),
-      ne-eqb b 68 (h .0 .0 .0 .1),
-      ne-eqb b 82 (h .0 .0 .1),
-      ne-eqb b 89 (h .0 .1),
-      ne-eqb b 67 (h .1),
-    )
-
-pub count-none : (b : ℕ) → Apart b × (b ≡ 76 → ⊥) → countOf b ≡ 4
-unfolding countOf
-count-none b r =
+call-last b x y z r =
     let h = r .0 in
     rw (
       ne-eqb b 66 (h .0 .0 .0 .0 .0 .0 .0 .0 .1),
@@ -50,12 +35,31 @@ count-none b r =
       ne-eqb b 82 (h .0 .0 .1),
       ne-eqb b 89 (h .0 .1),
       ne-eqb b 67 (h .1),
-      ne-eqb b 76 (r .1),
+      ne-eqb b 81 (r .1),
+    )
+
+pub count-none : (b : ℕ) → (Apart b × (b ≡ 76 → ⊥)) × (b ≡ 81 → ⊥) → countOf b ≡ 4
+unfolding countOf
+count-none b r =
+    let h = r .0 .0 in
+    rw (
+      ne-eqb b 66 (h .0 .0 .0 .0 .0 .0 .0 .0 .1),
+      ne-eqb b 87 (h .0 .0 .0 .0 .0 .0 .0 .1),
+      ne-eqb b 69 (h .0 .0 .0 .0 .0 .0 .1),
+      ne-eqb b 83 (h .0 .0 .0 .0 .0 .1),
+      ne-eqb b 70 (h .0 .0 .0 .0 .1),
+      ne-eqb b 68 (h .0 .0 .0 .1),
+      ne-eqb b 82 (h .0 .0 .1),
+      ne-eqb b 89 (h .0 .1),
+      ne-eqb b 67 (h .1),
+      ne-eqb b 76 (r .0 .1),
+      ne-eqb b 81 (r .1),
     )
 
 -- what holds of each letter, and of whatever has no call, holds of every byte
-pub letters : (P : ℕ → Type 0) → P 66 → P 87 → P 69 → P 83 → P 70 → P 68 → P 82 → P 89 → P 67 → P 76 → ((b : ℕ) → countOf b ≡ 4 → P b) → (b : ℕ) → P b
-letters P p66 p87 p69 p83 p70 p68 p82 p89 p67 p76 other b =
+pub letters : (P : ℕ → Type 0) → P 66 → P 87 → P 69 → P 83 → P 70 → P 68 → P 82 → P 89 → P 67 → P 76 → P 81
+    → ((b : ℕ) → countOf b ≡ 4 → P b) → (b : ℕ) → P b
+letters P p66 p87 p69 p83 p70 p68 p82 p89 p67 p76 p81 other b =
     cases (same? b 66) (λ e. rw e p66) (λ n66.
     cases (same? b 87) (λ e. rw e p87) (λ n87.
     cases (same? b 69) (λ e. rw e p69) (λ n69.
@@ -66,7 +70,8 @@ letters P p66 p87 p69 p83 p70 p68 p82 p89 p67 p76 other b =
     cases (same? b 89) (λ e. rw e p89) (λ n89.
     cases (same? b 67) (λ e. rw e p67) (λ n67.
     cases (same? b 76) (λ e. rw e p76) (λ n76.
-    other b (count-none b ((((((((((tt, n66), n87), n69), n83), n70), n68), n82), n89), n67), n76))))))))))))
+    cases (same? b 81) (λ e. rw e p81) (λ n81.
+    other b (count-none b (((((((((((tt, n66), n87), n69), n83), n70), n68), n82), n89), n67), n76), n81)))))))))))))
 
 -- a call takes no more numbers than are read for it
 pub call-take : (o : List ℕ) (b : ℕ) → countOf b ≤ 3
@@ -84,6 +89,7 @@ call-take o =
     (λ h. refl)
     (λ h. refl)
     (λ h. refl)
+    (λ h. rw (getD-take 1 o 0 0 (lit< tt)))
     (λ b e h. absurd (let z : ⊥ = omega arith in z))
 
 -- what a line of `store` says, by whether its six numbers were read into a buffer

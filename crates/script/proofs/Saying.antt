@@ -12,7 +12,7 @@ use lib.Seq.{drop-drop, drop-append-seam, drop-length}
 use lib.Dec.{eqb, ltb}
 use Rattle.answer.proofs.Cases.{cases, either}
 use Rattle.model.specs.declared.Call.{Call}
-use Rattle.model.specs.declared.Call.the-variants.{Begin, Write, Erase, Seal, Fork, Delete, Read, Barrier, Compress, FreeList}
+use Rattle.model.specs.declared.Call.the-variants.{Begin, Write, Erase, Seal, Fork, Delete, Read, Barrier, Compress, FreeList, Estimate}
 use Rattle.script.specs.declared.number.Number.{Number}
 use Rattle.script.specs.declared.parse.Six.{Six}
 use Rattle.script.specs.declared.parse.Parsed.{Parsed}
@@ -152,6 +152,7 @@ made-of ms =
     (λ h k. (refl, none-is ms h))
     (λ h k. (refl, none-is ms h))
     (λ h k. (refl, none-is ms h))
+    (λ h k. (refl, one-is ms h))
     (λ b e h k. absurd (let z : ⊥ = omega arith in z))
 
 asks-says : (b : ℕ) (l : List ℕ) → countOf b ≤ 3 → (x : Option (List ℕ)) → numbersFrom (b ∷ l) 1 (countOf b) [] ≡ x → Says (b ∷ l) (asksOf b x)
@@ -207,6 +208,7 @@ letter-fits (Read r x) l = (refl, refl, refl, refl)
 letter-fits Barrier l = (refl, refl, refl, refl)
 letter-fits Compress l = (refl, refl, refl, refl)
 letter-fits FreeList l = (refl, refl, refl, refl)
+letter-fits (Estimate r) l = (refl, refl, refl, refl)
 
 pub said : (p : Parsed) → (p ≡ Parsed.No → ⊥) → length (spelled p) ≤ 80 → Small p → parsed (spelled p) ≡ p
 unfolding parsed spelled callLine

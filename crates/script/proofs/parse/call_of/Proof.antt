@@ -42,7 +42,11 @@ unfolding callOf
 returns-9 c = rw (c .match .keys9)
 
 returns-10 : tie.Need-returns-10
-returns-10 c = sym (call-last _ _ _ _ (c .match .rest))
+unfolding callOf
+returns-10 c = rw (c .match .keys10)
+
+returns-11 : tie.Need-returns-11
+returns-11 c = sym (call-last _ _ _ _ (c .match .rest))
 
 pub call-of-spec : {M : Type 1} → statement M
 call-of-spec =
@@ -57,4 +61,5 @@ call-of-spec =
     returns-7
     returns-8
     returns-9
-    returns-10)
+    returns-10
+    returns-11)

@@ -46,7 +46,11 @@ unfolding countOf
 returns-10 c = rw (c .match .keys10)
 
 returns-11 : tie.Need-returns-11
-returns-11 c = sym (count-none _ (c .match .rest))
+unfolding countOf
+returns-11 c = rw (c .match .keys11)
+
+returns-12 : tie.Need-returns-12
+returns-12 c = sym (count-none _ (c .match .rest))
 
 pub count-of-spec : {M : Type 1} → statement M
 count-of-spec =
@@ -62,4 +66,5 @@ count-of-spec =
     returns-8
     returns-9
     returns-10
-    returns-11)
+    returns-11
+    returns-12)

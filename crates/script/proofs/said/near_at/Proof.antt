@@ -54,6 +54,10 @@ no-number-requires-4 : tie.Need-no-number-requires-4
 unfolding countOf
 no-number-requires-4 c κs = (omega arith, sym (c .match .keys10), refl)
 
+one-number-requires-4 : tie.Need-one-number-requires-4
+unfolding countOf
+one-number-requires-4 c κs = (omega arith, sym (c .match .keys11), refl)
+
 returns-2 : tie.Need-returns-2
 returns-2 c = c .no-number .ensures
 
@@ -85,7 +89,10 @@ returns-11 : tie.Need-returns-11
 returns-11 c = c .no-number4 .ensures
 
 returns-12 : tie.Need-returns-12
-returns-12 c = tt
+returns-12 c = c .one-number4 .ensures
+
+returns-13 : tie.Need-returns-13
+returns-13 c = tt
 
 pub near-at-spec : {M : Type 1} → statement M
 near-at-spec =
@@ -104,6 +111,7 @@ near-at-spec =
     no-number-requires-2
     no-number-requires-3
     no-number-requires-4
+    one-number-requires-4
     returns-2
     returns-3
     returns-4
@@ -114,4 +122,5 @@ near-at-spec =
     returns-9
     returns-10
     returns-11
-    returns-12)
+    returns-12
+    returns-13)
