@@ -20,7 +20,7 @@ use Rattle.model.specs.History.{Entry, eventsOf, events, firstGiven, entryOf, t
 use Rattle.model.specs.HistoryFacts.{HistoryFacts, givenIn, freedIn, different, Sealed}
 use Rattle.model.specs.Model.{Screened, screenedConditions, answer, modelAfter, model}
 use Rattle.model.specs.declared.Call.{Call}
-use Rattle.model.specs.declared.Call.the-variants.{Begin, Write, Erase, Seal, Fork, Delete, Read, Barrier, Compress, FreeList}
+use Rattle.model.specs.declared.Call.the-variants.{Begin, Write, Erase, Seal, Fork, Delete, Read, Barrier, Compress, FreeList, Estimate}
 use Rattle.model.proofs.Fine.{Fine}
 use Rattle.model.proofs.StepFacts.{fresh-fine}
 use Rattle.model.proofs.WholeList.{WholeList, each-list}
@@ -50,6 +50,7 @@ told-block g L B (Read r x) = refl
 told-block g L B Barrier = refl
 told-block g L B Compress = refl
 told-block g L B FreeList = refl
+told-block g L B (Estimate r) = refl
 
 book-step : (g : Geometry) (L : Ledger) (c : Call) → step g L c .book ≡ enter (g .pages) (L .book) (told (entryOf (clerk g) L c))
 unfolding step enter keeps says

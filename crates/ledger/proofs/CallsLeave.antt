@@ -16,7 +16,7 @@ use Rattle.model.specs.Calls.{result, written}
 use Rattle.model.specs.Layout.{stateOf}
 use Rattle.model.specs.Memory.{Memory, writtenAt, reply, after}
 use Rattle.model.specs.declared.Call.{Call}
-use Rattle.model.specs.declared.Call.the-variants.{Begin, Write, Erase, Seal, Fork, Delete, Read, Barrier, Compress, FreeList}
+use Rattle.model.specs.declared.Call.the-variants.{Begin, Write, Erase, Seal, Fork, Delete, Read, Barrier, Compress, FreeList, Estimate}
 use Rattle.model.proofs.Fine.{Fine}
 use Rattle.model.proofs.Keeps.{accepted-is}
 use Rattle.model.proofs.ResultSize.{accepted-short}
@@ -52,6 +52,7 @@ written-at g L T t (Read r x) = ap (λ (n : ℕ). 8 * n) (t .used)
 written-at g L T t Barrier = ap (λ (n : ℕ). 8 * n) (t .used)
 written-at g L T t Compress = refl
 written-at g L T t FreeList = ap (λ (n : ℕ). 8 * n) (t .used)
+written-at g L T t (Estimate r) = ap (λ (n : ℕ). 8 * n) (t .used)
 
 -- THE LOG: the ledger's words, and every other byte as it was
 pub log-left : (g : Geometry) (L : Ledger) → Inside g → (N : Memory) → Fine g (stateOf g (N .tables)) → Tells g L (stateOf g (N .tables)) → (c : Call) →

@@ -15,7 +15,7 @@ use Rattle.geometry.specs.Limits.{blocks}
 use Rattle.model.specs.Memory.{Memory, reply, makeReply, makeAfter}
 use Rattle.model.specs.Demand.{Own, withOut, run}
 use Rattle.model.specs.declared.Call.{Call}
-use Rattle.model.specs.declared.Call.the-variants.{Begin, Write, Erase, Seal, Fork, Delete, Read, Barrier, Compress, FreeList}
+use Rattle.model.specs.declared.Call.the-variants.{Begin, Write, Erase, Seal, Fork, Delete, Read, Barrier, Compress, FreeList, Estimate}
 use Rattle.ledger.specs.Ledger.{Ledger, account, refusalsOf, says}
 use Rattle.ledger.specs.Told.{tooShort, saysTo, stepsTo, LedgerSays}
 use Rattle.ledger.proofs.StoreToldProof.{store-told, store-left}
@@ -38,6 +38,7 @@ refusals-ordered g L (Read r x) = (omega arith, (omega arith, (omega arith, tt))
 refusals-ordered g L Barrier = (omega arith, tt)
 refusals-ordered g L Compress = (omega arith, tt)
 refusals-ordered g L FreeList = (omega arith, tt)
+refusals-ordered g L (Estimate r) = (omega arith, (omega arith, (omega arith, tt)))
 
 -- THE LEDGER NEVER SAYS 3 OR 4
 pub never-3-4 : (g : Geometry) (L : Ledger) (c : Call) → (says g L c ≡ refused 3 → ⊥) × (says g L c ≡ refused 4 → ⊥)

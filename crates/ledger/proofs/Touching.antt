@@ -17,7 +17,7 @@ use Rattle.model.specs.Calls.{result, written, effect, logged}
 use Rattle.model.specs.Layout.{need, stateOf, stored, numberAt, headerNumber}
 use Rattle.model.specs.Memory.{Memory, writtenAt, reply, after}
 use Rattle.model.specs.declared.Call.{Call}
-use Rattle.model.specs.declared.Call.the-variants.{Begin, Write, Erase, Seal, Fork, Delete, Read, Barrier, Compress, FreeList}
+use Rattle.model.specs.declared.Call.the-variants.{Begin, Write, Erase, Seal, Fork, Delete, Read, Barrier, Compress, FreeList, Estimate}
 use Rattle.model.proofs.Fine.{effect-fine}
 use Rattle.model.proofs.Keeps.{accepted-is, sound-fine}
 use Rattle.model.proofs.LayoutFacts.{stored-length, stored-at, stored-header, stored-beyond}
@@ -102,6 +102,7 @@ by-call g M (Read r x) l e = (write-none (M .log) _, same g M (Read r x) l e)
 by-call g M Barrier l e = (words g M Barrier l e, count g M Barrier l e _ ∙ ap (set (M .tables) 9) (omega arith))
 by-call g M Compress l e = (words g M Compress l e, count g M Compress l e _ ∙ ap (set (M .tables) 9) (sym (now-used g M Compress l e)))
 by-call g M FreeList l e = (write-none (M .log) _, same g M FreeList l e)
+by-call g M (Estimate r) l e = (write-none (M .log) _, same g M (Estimate r) l e)
 
 -- WHAT A CALL MAY TOUCH
 pub call-touches : CallTouches

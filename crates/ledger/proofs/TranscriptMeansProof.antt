@@ -16,7 +16,7 @@ use Rattle.geometry.specs.declared.Geometry.{Geometry}
 use Rattle.geometry.specs.Limits.{Inside, fits}
 use Rattle.geometry.proofs.Made.{fits-inside, inside-fits}
 use Rattle.model.specs.declared.Call.{Call}
-use Rattle.model.specs.declared.Call.the-variants.{Begin, Write, Erase, Seal, Fork, Delete, Read, Barrier, Compress, FreeList}
+use Rattle.model.specs.declared.Call.the-variants.{Begin, Write, Erase, Seal, Fork, Delete, Read, Barrier, Compress, FreeList, Estimate}
 use Rattle.script.specs.declared.parse.Six.{Six}
 use Rattle.script.specs.declared.parse.Parsed.{Parsed}
 use Rattle.script.specs.declared.parse.Parsed.the-variants.{Store, Asks, No}
@@ -52,6 +52,7 @@ from-five g L (Read r x) t = omega arith
 from-five g L Barrier t = omega arith
 from-five g L Compress t = omega arith
 from-five g L FreeList t = omega arith
+from-five g L (Estimate r) t = omega arith
 
 -- NO CALL IS REFUSED BELOW 5 by the ledger
 pub says-from : (g : Geometry) (L : Ledger) (c : Call) (n : ℕ) → says g L c ≡ refused n → 5 ≤ n

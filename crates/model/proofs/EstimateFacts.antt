@@ -98,7 +98,8 @@ estimate-true g M r q e =
       three = sym (accepted-is g M (Estimate r) q e .1);
       exactly = λ out. rw (met g M r out) (λ l d. (
         ap length (sym (freed-are g (lent (M .tables) (M .log) out) r l d)),
-        words-after g (lent (M .tables) (M .log) out) r l d));
+        words-after g (lent (M .tables) (M .log) out) r l d,
+      ));
       behindC = λ out out′ k. rw (met g M r out) (λ l c d.
           let N : Memory = lent (M .tables) (M .log) out in
           ap length (sym (freed-are g (withOut (after g N Compress) out′) r l d)) ∙ ap (λ K. length (freesOf K r)) (view-after-C g N k c));
@@ -134,7 +135,7 @@ module _ (g : Geometry) (M : Memory) (r a w v : ℕ) (out : List ℕ) (e : reply
   enough =
       let same : reply g (behind g M r out) (Delete r) ≡ reply g N (Delete r) = ap (λ (m : Memory). reply g m (Delete r)) (met g M r out) in
       let by : (t : Bool) → short g T (Delete r) ≡ t → reply g (behind g M r out) (Delete r) ≡ decide ((14, t) ∷ []) (freesOf (T .view) r) =
-          λ t i. same ∙ decided ∙ ap (λ (s : Bool). decide ((14, s) ∷ []) (freesOf (T .view) r)) i in
+      λ t i. same ∙ decided ∙ ap (λ (s : Bool). decide ((14, s) ∷ []) (freesOf (T .view) r)) i in
       record {
         accepts = λ h. (freesOf (T .view) r, by false (le-ltb (g .words - T .used) (length (written g T (Delete r))) (omega (arith, words-are, A .sound .range .used))));
         refuses = λ h. by true (lt-ltb (g .words - T .used) (length (written g T (Delete r))) (omega (arith, words-are, A .sound .range .used)));
