@@ -1,5 +1,5 @@
 //! Scripts made at random from a seed: forks of forks, deletes in the middle of a line, windows of records that roll on, long deadlists, full stores,
-//! full logs, full record tables, bad lines, scripts longer than what is read. `reference reached` counts them.
+//! full logs, full record tables, estimates of deletes, bad lines, scripts longer than what is read. `reference reached` counts them.
 use crate::store::{Call, Geometry, Store};
 use std::collections::BTreeSet;
 
@@ -45,7 +45,7 @@ fn large(d: &mut Dice) -> [u64; 6] {
     [arenas, per, 64 + d.below(193), records, 1 + d.below(5), 2 * arenas * per + 2 + d.below(60)]
 }
 
-const BAD: [&str; 14] = ["", "B ", " B", "W 1 0", "W 1 0 0 0", "E 01 0", "S", "Q 1", "b", "store", "store 1 4 2 4 8", "D 12345678", "R 1  0", "T 3"];
+const BAD: [&str; 14] = ["", "B ", " B", "W 1 0", "W 1 0 0 0", "E 01 0", "S", "Q", "b", "store", "store 1 4 2 4 8", "D 12345678", "R 1  0", "T 3"];
 
 /// A record to ask for: mostly one that is in the store, most often a new one.
 pub fn record(d: &mut Dice, store: &Store) -> u64 {
@@ -167,6 +167,21 @@ impl Course {
         }
     }
 
+    /// A Q in front of a call: every other time of the record that a D is to delete; else now and then, more often where the log is nearly full, of any
+    /// record, or of a number that may have none.
+    fn asked(&self, d: &mut Dice, next: Call) -> Option<Call> {
+        if let Call::Delete(r) = next {
+            return (d.below(2) == 0).then_some(Call::Estimate(r));
+        }
+        if d.below(if self.store.unused() < 4 { 4 } else { 16 }) > 0 {
+            return None;
+        }
+        let numbers = self.store.numbers();
+        let last = numbers.last().copied().unwrap_or(0);
+        let r = if last == 0 || d.below(8) == 0 { d.below(last + 2) } else { numbers[d.below(numbers.len() as u64) as usize] };
+        Some(Call::Estimate(r))
+    }
+
     fn fill(&self, d: &mut Dice, n: u64, at: u64) -> Call {
         let page = at % (self.g[2] + 1);
         if page < self.g[2] { Call::Write(n, page, d.below(3)) } else { Call::Seal(n) }
@@ -196,6 +211,7 @@ pub fn spelled(c: Call) -> String {
         Call::Barrier => "Y".into(),
         Call::Compress => "C".into(),
         Call::FreeList => "L".into(),
+        Call::Estimate(r) => line_of("Q", &[r]),
     }
 }
 
@@ -207,9 +223,10 @@ fn spoiled(d: &mut Dice, line: String) -> Vec<u8> {
     bytes
 }
 
-/// A script; one in twenty is longer than what the runner reads, one in twenty has many pages and blocks.
+/// A script; one in twenty is longer than what the runner reads, one in twenty has many pages and blocks. Its Qs, which change nothing, have dice of
+/// their own.
 pub fn script(seed: u64) -> Vec<u8> {
-    let mut d = Dice::new(seed);
+    let (mut d, mut asks) = (Dice::new(seed), Dice::new(!seed));
     let is_large = d.below(20) == 0;
     let mut course = Course::new(if is_large { large(&mut d) } else { geometry(&mut d) });
     let mut lines = vec![line_of("store", &course.g).into_bytes()];
@@ -230,6 +247,7 @@ pub fn script(seed: u64) -> Vec<u8> {
             }
             _ => {
                 let c = course.next(&mut d, mood, at);
+                lines.extend(course.asked(&mut asks, c).map(|q| spelled(q).into_bytes()));
                 course.make(c);
                 lines.push(spelled(c).into_bytes());
             }

@@ -21,7 +21,9 @@ fn refused(c: Call, number: u32) -> Reached {
         (number == 14 && matches!(c, Call::Write(..)), "W refused by 14"),
         (number == 13, "W refused by 13"),
         (number == 11, "refused by 11"),
-        (number == 10, "D refused by 10"),
+        (number == 10 && matches!(c, Call::Delete(_)), "D refused by 10"),
+        (number == 10 && matches!(c, Call::Estimate(_)), "Q refused by 10"),
+        (number == 8 && matches!(c, Call::Estimate(_)), "Q refused by 8"),
     ]
 }
 
@@ -36,8 +38,9 @@ fn written(store: &Store, r: u64) -> Reached {
     ]
 }
 
-fn deleted(store: &Store, freed: usize, was_last: bool) -> Reached {
+fn deleted(store: &Store, freed: usize, was_last: bool, was_asked: bool) -> Reached {
     vec![
+        (was_asked, "D straight behind a Q of its record"),
         (!was_last, "D with a follower"),
         (!was_last && freed > 1, "D with a follower that frees 2 or more"),
         (!was_last && freed > 31, "D with a follower that frees 32 or more"),
@@ -47,21 +50,39 @@ fn deleted(store: &Store, freed: usize, was_last: bool) -> Reached {
     ]
 }
 
+/// A Q of record r.
+fn estimated(store: &Store, r: u64, said: &[u64]) -> Reached {
+    let line = &store.lines[store.line_of(r)];
+    let is_last = line.records.last() == Some(&r);
+    vec![
+        (!is_last, "Q with a follower"),
+        (said[2] > 1, "Q that finds 2 shards or more"),
+        (said[2] > 3, "Q that finds 4 shards or more"),
+        (said[0] > 31, "Q of a D that would free 32 or more"),
+        (is_last, "Q of a line's last"),
+        (line.records.len() == 1, "Q of a line's only"),
+        (store.unused() < 3, "Q with under 3 log words left"),
+        (store.unused() < said[1], "Q of a D that 14 would refuse"),
+    ]
+}
+
 fn sealed(store: &Store, r: u64) -> Reached {
     let line = &store.lines[store.line_of(r)];
     let rolled = line.base == 0 && line.records.len() > 5 && line.records[0] > 6;
     vec![(rolled, "S in a line of 6 or more that lost its first"), (store.records.len() > 31, "S with 32 records or more")]
 }
 
-/// What a call, its reply and the store behind it are an instance of.
-fn instances(store: &Store, c: Call, reply: &Reply, was_last: bool) -> Reached {
+/// What a call, its reply and the store behind it are an instance of. Of a D: whether its record was a line's last, and whether the call before it was
+/// a Q of its record.
+fn instances(store: &Store, c: Call, reply: &Reply, was_last: bool, was_asked: bool) -> Reached {
     let given = match reply {
         Err(number) => return refused(c, *number),
         Ok(given) => given,
     };
     let mut reached = match c {
         Call::Write(r, ..) | Call::Erase(r, _) => written(store, r),
-        Call::Delete(_) => deleted(store, given.len(), was_last),
+        Call::Delete(_) => deleted(store, given.len(), was_last, was_asked),
+        Call::Estimate(r) => estimated(store, r, given),
         Call::Seal(r) => sealed(store, r),
         _ => vec![],
     };
@@ -76,10 +97,13 @@ pub fn print(from: u64, to: u64) {
     for seed in from..to {
         let mut here: BTreeMap<&'static str, u64> = BTreeMap::new();
         let mut lasts: Vec<u64> = Vec::new();
+        let mut before: Option<Call> = None;
         script::each_reply(&generate::script(seed), |store, call, reply| {
+            let asked = std::mem::replace(&mut before, call);
             let (Some(store), Some(c)) = (store, call) else { return };
             let was_last = matches!(c, Call::Delete(r) if lasts.contains(&r));
-            for (_, name) in instances(store, c, reply, was_last).into_iter().filter(|x| x.0) {
+            let was_asked = matches!(c, Call::Delete(r) if asked == Some(Call::Estimate(r)));
+            for (_, name) in instances(store, c, reply, was_last, was_asked).into_iter().filter(|x| x.0) {
                 *here.entry(name).or_default() += 1;
             }
             lasts = store.lines.iter().map(|line| line.records[line.records.len() - 1]).collect();

@@ -36,6 +36,7 @@ fn parse(line: &[u8]) -> Option<Line> {
         (b"Y", []) => Call::Barrier,
         (b"C", []) => Call::Compress,
         (b"L", []) => Call::FreeList,
+        (b"Q", &[r]) => Call::Estimate(r),
         _ => return None,
     };
     Some(Line::Call(call))

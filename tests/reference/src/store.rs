@@ -1,6 +1,6 @@
 //! The store of the rules, the crude way: a block is freed when it leaves the last page of the last record.
 //! Deadlists are kept only for the order in which a delete gives its blocks, and checked against the crude walk.
-use std::collections::BTreeMap;
+use std::collections::{BTreeMap, BTreeSet};
 
 #[derive(Clone, Copy)]
 pub struct Geometry {
@@ -45,6 +45,7 @@ pub enum Call {
     Barrier,
     Compress,
     FreeList,
+    Estimate(u64),
 }
 
 pub struct Record {
@@ -70,6 +71,8 @@ pub struct Store {
     pub counter: u64,
     pub writes: u64,
     pub log: Vec<u64>,
+    /// where the last call was a Q: its record and what it said
+    asked: Option<(u64, Reply)>,
 }
 
 pub type Reply = Result<Vec<u64>, u32>;
@@ -86,6 +89,7 @@ impl Store {
             counter: 0,
             writes: 0,
             log: Vec::new(),
+            asked: None,
         }
     }
 
@@ -127,7 +131,7 @@ impl Store {
         None
     }
 
-    fn unused(&self) -> u64 {
+    pub fn unused(&self) -> u64 {
         self.g.words - self.log.len() as u64
     }
 
@@ -180,7 +184,19 @@ impl Store {
         self.records.get(&r).map(|x| x.open).ok_or(8)
     }
 
+    /// A call. What a Q said is held to a D of the same record straight behind it.
     pub fn call(&mut self, c: Call) -> Reply {
+        let (asked, unused) = (self.asked.take(), self.unused());
+        let reply = self.perform(c);
+        match (c, asked) {
+            (Call::Estimate(r), _) => self.asked = Some((r, reply.clone())),
+            (Call::Delete(r), Some((n, said))) if n == r => kept(&said, &reply, unused, unused - self.unused()),
+            _ => {}
+        }
+        reply
+    }
+
+    fn perform(&mut self, c: Call) -> Reply {
         match c {
             Call::Begin => {
                 self.room()?;
@@ -229,6 +245,7 @@ impl Store {
             }
             Call::Compress => Ok(vec![self.compress()]),
             Call::FreeList => Ok(self.runs(false).into_iter().flat_map(|(b, n)| [b, n]).collect()),
+            Call::Estimate(r) => self.estimate(r),
         }
     }
 
@@ -332,6 +349,23 @@ impl Store {
         Ok(freed)
     }
 
+    /// Blocks and words the crude way: each block that only r has is a free, and each free a word. Shards: the births above r's pred that blocks on
+    /// the deadlist of the record that follows r have.
+    fn estimate(&self, r: u64) -> Reply {
+        self.open(r)?;
+        if self.lines.iter().any(|l| l.base == r) {
+            return Err(10);
+        }
+        let (p, mine) = (self.pred(r), self.only_on(r));
+        let births = |blocks: &[u64]| blocks.iter().map(|b| self.births[b]).filter(|&v| v > p).collect::<BTreeSet<u64>>();
+        let shards = self.follower(r).map_or(0, |n| {
+            let dead: Vec<u64> = self.records[&n].dead.values().flatten().copied().collect();
+            assert_eq!(births(&dead), births(&mine), "the shards above the pred are of the blocks that only r has");
+            births(&dead).len()
+        });
+        Ok([mine.len(), mine.len(), shards].map(|n| n as u64).to_vec())
+    }
+
     /// The longest runs, inside arenas, of blocks that are held, or of those that are not.
     fn runs(&self, held: bool) -> Vec<(u64, u64)> {
         let mut runs: Vec<(u64, u64)> = Vec::new();
@@ -360,4 +394,16 @@ impl Store {
         self.log.push(3);
         self.log.len() as u64
     }
+}
+
+/// A D straight behind a Q of its record has the Q's refusal, or frees so many blocks and writes so many words as the Q said; 14 where so many words
+/// were not left.
+fn kept(said: &Reply, reply: &Reply, unused: u64, written: u64) {
+    let done = reply.as_ref().map(|freed| (freed.len() as u64, written));
+    let expected = match said {
+        Err(number) => Err(number),
+        Ok(numbers) if unused < numbers[1] => Err(&14),
+        Ok(numbers) => Ok((numbers[0], numbers[1])),
+    };
+    assert_eq!(done, expected, "D straight behind Q does what Q said");
 }
