@@ -103,6 +103,7 @@ fn call_of(letter: u8, n: u64, page: u64, kind: u64) -> Call {
         b'R' => Call::Read(n, page),
         b'Y' => Call::Barrier,
         b'C' => Call::Compress,
+        b'Q' => Call::Estimate(n),
         _ => Call::FreeList,
     }
 }
@@ -119,11 +120,12 @@ impl Subject {
             let reply = report.answers.call(&six, &mut memory, lent, c);
             report.add(reply);
         }
+        assert_eq!(asks.len(), 4 * ASKS, "four bytes a call");
         Subject { six, g, lent, sound: memory, asks: asks_of(asks) }
     }
 
     fn ask_of(&self, report: &mut Report, six: &[u64; 6], lent: [usize; 3], memory: &Memory, k: usize) {
-        step(report, six, lent, &mut memory.clone(), self.asks[k % 32]);
+        step(report, six, lent, &mut memory.clone(), self.asks[k % ASKS]);
     }
 
     fn ask(&self, report: &mut Report, memory: &Memory, k: usize) {
@@ -215,7 +217,7 @@ impl Subject {
     }
 
     fn ask_all(&self, report: &mut Report, memory: &Memory) {
-        for k in 0..32 {
+        for k in 0..ASKS {
             self.ask(report, memory, k);
         }
     }
@@ -308,7 +310,7 @@ impl Subject {
                 if agreed {
                     m.tables[which] = six[which] as u32;
                 }
-                for k in (0..32).step_by(3) {
+                for k in (0..ASKS).step_by(3) {
                     self.ask_of(report, &six, lent, &m, k);
                 }
             }
@@ -321,7 +323,7 @@ impl Subject {
             for length in [need - 1, need / 2, 1, 0, need, need + 1, [TABLES, LOG, RESULT][which]] {
                 let mut lent = self.lent;
                 lent[which] = length;
-                for k in 0..32 {
+                for k in 0..ASKS {
                     self.ask_of(report, &self.six, lent, &self.sound, k);
                 }
             }
@@ -427,6 +429,13 @@ impl Subject {
         self.group(report, "slots", |r| self.slots(r));
     }
 
+    fn listed(&self, report: &mut Report) {
+        self.group(report, "lists", |r| self.lists(r));
+        self.group(report, "births", |r| self.births(r));
+        self.group(report, "log", |r| self.log_at_random(r));
+        self.group(report, "history", |r| self.history(r));
+    }
+
     fn group(&self, report: &mut Report, name: &str, cases: impl Fn(&mut Report)) {
         group(report, name);
         cases(report);
@@ -453,7 +462,7 @@ fn step(report: &mut Report, six: &[u64; 6], lent: [usize; 3], memory: &mut Memo
 }
 
 fn any_call(report: &mut Report, last: u32) -> Call {
-    let letter = b"WWWWSSFDDERYCLBE"[(report.next() % 16) as usize];
+    let letter = b"WWWWSSFDDERYCLBEQQ"[(report.next() % 18) as usize];
     let n = last.wrapping_sub(report.small() as u32) as u64;
     let page = (report.small() / 2) as u64;
     let kind = (report.small() / 2) as u64;
@@ -465,32 +474,47 @@ fn group(report: &mut Report, name: &str) {
     report.sums = [0, 0];
 }
 
-/// The calls asked of each store, 32 each.
-const SUBJECTS: [([u64; 6], &str, &str); 5] = [
+/// How many calls are asked of each store.
+const ASKS: usize = 37;
+
+/// The stores, and the calls asked of each.
+const SUBJECTS: [([u64; 6], &str, &str); 6] = [
     (
         [2, 4, 3, 7, 2, 24],
         "B000W100W111W122S100W200Y000S200W311W302S300E420E410D200F100W500S500W601F500E710",
-        "B000W400W612W721W100W730W703W?00E400E600E610E720E200S400R3?0S700S100F100F300F500F400D100D300D400D600D700D500R310R710Y000C000L000",
+        "B000W400W612W721W100W730W703W?00E400E600E610E720E200S400R3?0S700S100F100F300F500F400D100D300D400D600D700D500R310R710Y000C000L000\
+         Q100Q300Q400Q700Q200",
     ),
     (
         [1, 4, 2, 4, 8, 10],
         "B000W100S100W200W200F100D100",
-        "B000W200W210W220W300W311W100W203W?00E300E200E210E100E900S200S300S100S800F100F200F700D100D200D300D900R200R110R2?0R400Y000C000L000",
+        "B000W200W210W220W300W311W100W203W?00E300E200E210E100E900S200S300S100S800F100F200F700D100D200D300D900R200R110R2?0R400Y000C000L000\
+         Q100Q200Q300Q900Q?00",
     ),
     (
         [1, 2, 2, 2, 1, 6],
         "B000W100S100W200Y000Y000Y000Y000",
-        "B000W200W210W100W220W203W900E200E210E100E2?0E900S200S100S900F100F200F900D100D200D900R200R100R110R120R900Y000C000L000D?00R210S?00",
+        "B000W200W210W100W220W203W900E200E210E100E2?0E900S200S100S900F100F200F900D100D200D900R200R100R110R120R900Y000C000L000D?00R210S?00\
+         Q100Q200Q900Q?00Q000",
     ),
     (
         [1, 2, 1, 5, 1, 6],
         "B000W100S100S200S300F300D400S500E600",
-        "B000W600W610W603W100W?00E600E500E610S600S500S900F100F300F500F600D100D200D300D500D600D900R100R600R200R300R500R610Y000C000L000D?00",
+        "B000W600W610W603W100W?00E600E500E610S600S500S900F100F300F500F600D100D200D300D500D600D900R100R600R200R300R500R610Y000C000L000D?00\
+         Q100Q200Q300Q500Q600",
     ),
     (
         [3, 15, 6, 5, 4, 92],
         "B000W100W112W120W132W141W152S100W202W210E250S200W322W300E340E310S300E430W402",
-        "B000W400W411W422W432W443W460W100E400E410E420E430E450E100S400S100F100F200F300F400D100D200D300D400D500R400R110R430Y000C000L000D900",
+        "B000W400W411W422W432W443W460W100E400E410E420E430E450E100S400S100F100F200F300F400D100D200D300D400D500R400R110R430Y000C000L000D900\
+         Q100Q200Q300Q400Q500",
+    ),
+    // a deadlist with three births, two of them above the pred, out of order
+    (
+        [2, 8, 4, 5, 3, 34],
+        "B000W100W111W122W130S100W200W211S200W320S300D200E410W420W401E430F100E500",
+        "B000W400W413W440W100E400E410E420E430E300S400S500S100F100F300F400D100D300D400D500D900R400R110R4?0Y000C000L000\
+         Q100Q300Q400Q500Q200Q600Q?00Q000W510R500",
     ),
 ];
 
@@ -501,6 +525,7 @@ pub fn printed(answers: &mut dyn Answers) -> String {
         match i {
             3 => subject.small(&mut report),
             4 => subject.meant(&mut report),
+            5 => subject.listed(&mut report),
             _ => subject.all(&mut report),
         }
     }
