@@ -83,7 +83,7 @@ extern "C" {
 #define SOGVECT_NO_LOG 7         /* the bytes are no log of a store of these six numbers */
 #define SOGVECT_NO_RECORD 8      /* the record is not in the store */
 #define SOGVECT_WRONG_STATE 9    /* write, erase or seal of a sealed record; fork of an open one */
-#define SOGVECT_FORKED 10        /* delete of a record with a fork on it */
+#define SOGVECT_FORKED 10        /* delete or estimate of a record with a fork on it */
 #define SOGVECT_TABLE_FULL 11    /* as many records as there can be at one time */
 #define SOGVECT_NO_NUMBER 12     /* the last record number has been given */
 #define SOGVECT_NO_BLOCK 13      /* no block is free */
@@ -153,6 +153,14 @@ uint32_t sogvect_compress(size_t arenas, size_t per, size_t pages, size_t record
 uint32_t sogvect_free_list(size_t arenas, size_t per, size_t pages, size_t records, size_t turn, size_t words,
                            uint32_t *tables, size_t tables_len, uint8_t *log, size_t log_len, uint32_t *out, size_t out_len,
                            size_t *count);
+
+/* Says what the delete of record n would do, and changes nothing but out. Result, three numbers: how many blocks the delete would free, how many log words
+ * it would write, and how many non-empty shards with a birth above n's pred the record that follows n in its line has, 0 where none follows
+ * (docs/RULES.md, 1.5, 1.8 and 3.12). A sogvect_delete straight after it, if done, frees exactly that many blocks.
+ * Refusals: 2, 3, 4, 8, 10. */
+uint32_t sogvect_estimate(size_t arenas, size_t per, size_t pages, size_t records, size_t turn, size_t words,
+                          uint32_t *tables, size_t tables_len, uint8_t *log, size_t log_len, uint32_t *out, size_t out_len,
+                          uint32_t n, size_t *count);
 
 /* Reads a log of any length, of no store or of one whose tables are lost. Result: the blocks that are held at its end, rising.
  * A store's own log has more bytes than it uses; number 9 of its tables says how many words are used.

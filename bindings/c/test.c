@@ -67,7 +67,10 @@ static void every_call(void) {
     GIVES(sogvect_erase(STORE, 2, 4, &count), 2);
     GIVES_NOTHING(sogvect_barrier(STORE, &count));
     GIVES(sogvect_free_list(STORE, &count), 1, 2, 4, 2);
+    REFUSES(sogvect_estimate(STORE, 1, &count), SOGVECT_FORKED);
+    GIVES(sogvect_estimate(STORE, 3, &count), 0, 0, 0);
     GIVES_NOTHING(sogvect_delete(STORE, 3, &count));
+    GIVES(sogvect_estimate(STORE, 1, &count), 1, 1, 1);
     GIVES(sogvect_delete(STORE, 1, &count), 0);
     GIVES(sogvect_compress(STORE, &count), 2);
     GIVES(sogvect_free_list(STORE, &count), 0, 3, 4, 2);
@@ -82,6 +85,7 @@ static void refusals(void) {
     REFUSES(sogvect_write(STORE, 2, 5, 0, &count), SOGVECT_NO_PAGE);
     REFUSES(sogvect_write(STORE, 2, 4, 3, &count), SOGVECT_NO_KIND);
     REFUSES(sogvect_delete(STORE, 9, &count), SOGVECT_NO_RECORD);
+    REFUSES(sogvect_estimate(STORE, 9, &count), SOGVECT_NO_RECORD);
     REFUSES(sogvect_fork(STORE, 2, &count), SOGVECT_WRONG_STATE);
     EXPECT(memcmp(kept, tables, sizeof tables) == 0);
 }

@@ -1,4 +1,4 @@
-//! Two editions of a book that share a page: what each has, and what a delete frees. Run: cargo run --example editions
+//! Two editions of a book that share a page: what each has, what a delete would free, and what it frees. Run: cargo run --example editions
 use sogvect::{log_read, Geometry, Memory, Refusal, DATA, LEAF};
 
 fn main() -> Result<(), Refusal> {
@@ -21,7 +21,9 @@ fn main() -> Result<(), Refusal> {
 
     println!("deleting the forked record: {}", store.delete(g, first).unwrap_err());
     println!("deleting the fork frees {:?}", store.delete(g, other)?);
-    println!("then the first frees {:?}", store.delete(g, first)?);
+    let gain = store.estimate(g, first)?;
+    println!("deleting the first would free {} of the blocks and write {} log words", gain.blocks, gain.words);
+    println!("it frees {:?}", store.delete(g, first)?);
     println!("free now: {:?}", store.free_list(g)?);
     println!("the log has {} words", store.compress(g)?);
     let used = 8 * store.tables[9] as usize;

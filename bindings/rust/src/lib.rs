@@ -102,6 +102,18 @@ pub struct Written {
     pub freed: Option<u32>,
 }
 
+/// What a delete would do.
+#[derive(Clone, Copy, Debug, PartialEq, Eq, Hash)]
+pub struct Estimate {
+    /// How many blocks it would free.
+    pub blocks: u32,
+    /// How many log words it would write. With fewer unused ones it is refused by [`Refusal::LOG_FULL`].
+    pub words: u32,
+    /// How many non-empty shards with a birth above the record's pred the record that follows it in its line has; 0 where none follows
+    /// (docs/RULES.md, 1.5, 1.8 and 3.12).
+    pub shards: u32,
+}
+
 /// Calls a function of the library on the lent memory; what it gives is the result's numbers, at the start of the result buffer.
 macro_rules! call {
     ($function:ident, $memory:expr, $g:expr $(, $number:expr)*) => {{
@@ -225,6 +237,14 @@ impl Memory<'_> {
     /// Refusals: 2, 3, 4.
     pub fn free_list(&mut self, g: Geometry) -> Result<Vec<(u32, u32)>, Refusal> {
         Ok(call!(sogvect_free_list, self, g)?.chunks_exact(2).map(|run| (run[0], run[1])).collect())
+    }
+
+    /// Says what [`Memory::delete`] of record `n` would do, and changes nothing. A delete straight behind it, if done, frees exactly so many blocks.
+    ///
+    /// Refusals: 2, 3, 4, 8, 10.
+    pub fn estimate(&mut self, g: Geometry, n: u32) -> Result<Estimate, Refusal> {
+        let numbers = call!(sogvect_estimate, self, g, n)?;
+        Ok(Estimate { blocks: numbers[0], words: numbers[1], shards: numbers[2] })
     }
 }
 

@@ -47,6 +47,8 @@ calls! {
     sogvect_compress();
     /// The free blocks as runs.
     sogvect_free_list();
+    /// What the deletion of record n would do.
+    sogvect_estimate(n);
 }
 
 extern "C" {

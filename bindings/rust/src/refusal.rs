@@ -24,7 +24,7 @@ impl Refusal {
     pub const NO_RECORD: Refusal = Refusal(8);
     /// 9: a write, an erase or a seal of a sealed record, or a fork of an open one.
     pub const WRONG_STATE: Refusal = Refusal(9);
-    /// 10: a delete of a record with a fork on it.
+    /// 10: a delete, or the estimate of one, of a record with a fork on it.
     pub const FORKED: Refusal = Refusal(10);
     /// 11: a full record table.
     pub const TABLE_FULL: Refusal = Refusal(11);
@@ -60,7 +60,7 @@ impl fmt::Display for Refusal {
             7 => "bytes that are no log",
             8 => "the record is not in the store",
             9 => "write, erase or seal of a sealed record, or fork of an open one",
-            10 => "delete of a record with a fork on it",
+            10 => "delete or estimate of a record with a fork on it",
             11 => "the record table is full",
             12 => "no record number is left",
             13 => "no block is free",

@@ -1,7 +1,7 @@
 //! Every call on valid memory: the listing (section 11 of the rules), longer scripts, and arguments that would show a wrong declaration.
 mod common;
 use common::{bare, every_call, numbers, refused, small, Call, Owned, MARK, MARKS, SMALL};
-use sogvect::{Geometry, Memory, Refusal, Written, DATA};
+use sogvect::{Estimate, Geometry, Memory, Refusal, Written, DATA};
 
 /// The listing (section 11 of the rules), with typed results.
 #[test]
@@ -51,6 +51,7 @@ fn parsed(line: &str) -> Option<Call> {
         ("Y", 0) => Call::Y,
         ("C", 0) => Call::C,
         ("L", 0) => Call::L,
+        ("Q", 1) => Call::Q(n[0]),
         _ => return None,
     })
 }
@@ -102,7 +103,9 @@ macro_rules! scripts {
         $(#[test]
         fn $name() {
             let logs = [$(include_str!(concat!("data/", $log)))?];
-            script(include_str!(concat!("data/", stringify!($name), ".script")), include_str!(concat!("data/", stringify!($name), ".replies")), logs.first().copied());
+            // what is no text is no call
+            let text = String::from_utf8_lossy(include_bytes!(concat!("data/", stringify!($name), ".script")));
+            script(&text, include_str!(concat!("data/", stringify!($name), ".replies")), logs.first().copied());
         })*
     };
 }
@@ -114,6 +117,32 @@ scripts! {
     shards;
     deep;
     macros;
+}
+
+/// An estimate says what the delete then does, and changes nothing but its three numbers in the result buffer: blocks and words are one number, shards
+/// another. Record 3 is followed by 4, whose deadlist has a block born in 1, two in 2 and one in 3; 2 is gone, so the pred of 3 is 1.
+#[test]
+fn estimates() {
+    let g = Geometry { arenas: 2, per: 8, pages: 4, records: 5, turn: 3, words: 34 };
+    let mut m = Owned::made(g);
+    let first = [Call::B, Call::W(1, 0, 0), Call::W(1, 1, 0), Call::W(1, 2, 0), Call::W(1, 3, 0), Call::S(1), Call::W(2, 0, 0), Call::W(2, 1, 0)];
+    let then = [Call::S(2), Call::W(3, 2, 0), Call::S(3), Call::D(2), Call::E(4, 1), Call::W(4, 2, 0), Call::W(4, 0, 0), Call::E(4, 3)];
+    for call in first.into_iter().chain(then) {
+        numbers(&mut m.lend(), g, call).unwrap_or_else(|e| panic!("{call:?}: {e}"));
+    }
+    for (n, blocks, shards) in [(3, 3, 2), (4, 2, 0), (1, 3, 1)] {
+        m.out.fill(MARKS);
+        let before = m.clone();
+        assert_eq!(m.lend().estimate(g, n), Ok(Estimate { blocks, words: blocks, shards }), "record {n}");
+        assert_eq!((&m.tables, &m.log, &m.out[3..]), (&before.tables, &before.log, &before.out[3..]), "record {n}");
+    }
+    for n in [3, 1, 4] {
+        let said = m.lend().estimate(g, n).unwrap();
+        let used = m.words().len();
+        assert_eq!(m.lend().delete(g, n).unwrap().len(), said.blocks as usize, "record {n}");
+        assert_eq!(m.words().len() - used, said.words as usize, "record {n}");
+        assert_eq!(m.lend().estimate(g, n), Err(Refusal::NO_RECORD), "record {n}");
+    }
 }
 
 /// The six numbers reach the store in their order: the header has them, and any two swapped are no longer those of the store.
@@ -147,7 +176,7 @@ fn six_numbers_in_order() {
 fn own_numbers_whole() {
     let mut m = small();
     for high in [1 << 8, 1 << 16, 1 << 31] {
-        for call in [Call::W(4 + high, 2, 1), Call::E(4 + high, 2), Call::S(4 + high), Call::F(1 + high), Call::D(4 + high), Call::R(1 + high, 0)] {
+        for call in [Call::W(4 + high, 2, 1), Call::E(4 + high, 2), Call::S(4 + high), Call::F(1 + high), Call::D(4 + high), Call::R(1 + high, 0), Call::Q(4 + high)] {
             refused(&mut m, SMALL, call, 8);
         }
         for call in [Call::W(4, 2 + high, 1), Call::E(4, 2 + high), Call::R(1, high)] {
@@ -167,7 +196,7 @@ fn own_numbers_whole() {
 /// The count is written whole, and nothing beside it; the result buffer beyond the result stays.
 #[test]
 fn count_and_buffer() {
-    for call in [Call::B, Call::W(4, 1, 0), Call::E(4, 2), Call::S(4), Call::F(2), Call::D(4), Call::R(4, 2), Call::Y, Call::C, Call::L] {
+    for call in [Call::B, Call::W(4, 1, 0), Call::E(4, 2), Call::S(4), Call::F(2), Call::D(4), Call::R(4, 2), Call::Y, Call::C, Call::L, Call::Q(4)] {
         let (mut m, mut other) = (small(), small());
         m.out.fill(MARKS);
         let mut counts = [usize::MAX; 3];
@@ -187,7 +216,7 @@ fn beyond_stays() {
     let ends = (m.tables.len(), m.log.len(), m.out.len());
     (m.tables.resize(ends.0 + 50, MARKS), m.log.resize(ends.1 + 50, MARK), m.out.resize(ends.2 + 50, MARKS));
     m.lend().make(SMALL).unwrap();
-    for call in [Call::B, Call::W(1, 4, 2), Call::S(1), Call::W(2, 4, 2), Call::F(1), Call::D(3), Call::D(1), Call::Y, Call::C, Call::L] {
+    for call in [Call::B, Call::W(1, 4, 2), Call::S(1), Call::W(2, 4, 2), Call::F(1), Call::D(3), Call::Q(1), Call::D(1), Call::Y, Call::C, Call::L] {
         numbers(&mut m.lend(), SMALL, call).unwrap();
     }
     assert!(m.tables[ends.0..].iter().chain(&m.out[ends.2..]).all(|x| *x == MARKS));
@@ -204,9 +233,11 @@ fn refusals_by_state() {
         (Call::S(1), 9),
         (Call::F(4), 9),
         (Call::D(1), 10),
+        (Call::Q(1), 10),
         (Call::W(4, 9, 9), 5),
         (Call::W(4, 0, 9), 6),
         (Call::W(9, 0, 0), 8),
+        (Call::Q(9), 8),
     ] {
         refused(&mut m, SMALL, call, number);
     }
@@ -232,6 +263,7 @@ fn refusals_at_the_end() {
     refused(&mut m, g, Call::Y, 14);
     refused(&mut m, g, Call::E(1, 0), 14);
     refused(&mut m, g, Call::D(1), 14);
+    assert_eq!(m.lend().estimate(g, 1), Ok(Estimate { blocks: 2, words: 2, shards: 0 }));
     assert_eq!(m.lend().compress(g), Ok(3));
     assert_eq!(m.lend().erase(g, 1, 0), Ok(Some(0)));
     m.tables[6] = 999_999;
@@ -262,5 +294,5 @@ fn sentences() {
         assert!(!r.to_string().starts_with("refused"), "{}", r.number());
         assert!(all[..i].iter().all(|other| other.to_string() != r.to_string()), "{}", r.number());
     }
-    assert_eq!(small().lend().delete(SMALL, 1).unwrap_err().to_string(), "delete of a record with a fork on it");
+    assert_eq!(small().lend().delete(SMALL, 1).unwrap_err().to_string(), "delete or estimate of a record with a fork on it");
 }

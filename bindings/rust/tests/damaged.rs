@@ -49,6 +49,7 @@ fn called(g: Geometry, t: &mut [u32], log: &mut [u8], out: &mut [u32], c: Call) 
         Call::Barrier => raw_call!(sogvect_barrier, g, t, log, out),
         Call::Compress => raw_call!(sogvect_compress, g, t, log, out),
         Call::FreeList => raw_call!(sogvect_free_list, g, t, log, out),
+        Call::Estimate(n) => raw_call!(sogvect_estimate, g, t, log, out, n),
     }
 }
 

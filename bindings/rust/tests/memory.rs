@@ -91,7 +91,7 @@ fn spare(at: usize) -> bool {
 
 /// What every call answers on a copy of the memory. Refused ones change nothing, accepted ones leave a sound store.
 fn answers(m: &Owned) -> Vec<Result<Vec<u32>, Refusal>> {
-    let calls = every_call(4, 2).into_iter().chain([1, 2, 5].map(Call::F)).chain([1, 2, 5].map(Call::D));
+    let calls = every_call(4, 2).into_iter().chain([1, 2, 5].map(Call::F)).chain([1, 2, 5].map(Call::D)).chain([1, 2, 5].map(Call::Q));
     let reads = [1, 2, 4, 5].into_iter().flat_map(|n| (0..5).map(move |page| Call::R(n, page)));
     calls
         .chain(reads)
@@ -194,7 +194,7 @@ fn random_damage() {
             let at = if r.below(4) == 0 { any } else { named[r.below(named.len() as u64) as usize] };
             m.tables[at] = r.below(8) as u32;
         }
-        let call = every_call(1 + r.below(5) as u32, r.below(5) as u32)[r.below(10) as usize];
+        let call = every_call(1 + r.below(5) as u32, r.below(5) as u32)[r.below(11) as usize];
         let before = m.clone();
         match numbers(&mut m.lend(), SMALL, call) {
             Err(_) => {

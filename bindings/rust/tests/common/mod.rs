@@ -53,12 +53,13 @@ pub enum Call {
     Y,
     C,
     L,
+    Q(u32),
 }
 
 /// Each call once, on a record and a page.
-pub fn every_call(n: u32, page: u32) -> [Call; 10] {
+pub fn every_call(n: u32, page: u32) -> [Call; 11] {
     use Call::*;
-    [B, W(n, page, 1), E(n, page), S(n), F(n), D(n), R(n, page), Y, C, L]
+    [B, W(n, page, 1), E(n, page), S(n), F(n), D(n), R(n, page), Y, C, L, Q(n)]
 }
 
 /// The result's numbers, from what the typed function gave.
@@ -77,6 +78,10 @@ pub fn numbers(store: &mut Memory<'_>, g: Geometry, call: Call) -> Result<Vec<u3
         Call::Y => store.barrier(g).map(|()| vec![])?,
         Call::C => vec![store.compress(g)?],
         Call::L => store.free_list(g)?.into_iter().flat_map(|(first, length)| [first, length]).collect(),
+        Call::Q(n) => {
+            let e = store.estimate(g, n)?;
+            vec![e.blocks, e.words, e.shards]
+        }
     })
 }
 
@@ -102,6 +107,7 @@ pub fn bare(m: &mut Owned, g: Geometry, call: Call, count: &mut usize) -> u32 {
         Call::Y => bare!(sogvect_barrier),
         Call::C => bare!(sogvect_compress),
         Call::L => bare!(sogvect_free_list),
+        Call::Q(n) => bare!(sogvect_estimate, n),
     }
 }
 
