@@ -31,6 +31,7 @@ fn call(store: &mut Store, text: &[u8], out: &mut [u8], p: Places) -> Option<Pla
         b'Y' => done!(barrier()),
         b'C' => done!(compress()),
         b'L' => done!(free_list()),
+        b'Q' => done!(estimate(r)),
         _ => None,
     }
 }
@@ -41,7 +42,7 @@ fn too_early(text: &[u8], at: usize) -> Option<(Reply, usize)> {
     let end = match text[at] {
         b'W' => numbers::<3>(text, at + 1)?.1,
         b'R' | b'E' => numbers::<2>(text, at + 1)?.1,
-        b'S' | b'F' | b'D' => numbers::<1>(text, at + 1)?.1,
+        b'S' | b'F' | b'D' | b'Q' => numbers::<1>(text, at + 1)?.1,
         b'B' | b'Y' | b'C' | b'L' => numbers::<0>(text, at + 1)?.1,
         _ => return None,
     };

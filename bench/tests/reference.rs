@@ -7,7 +7,7 @@ mod generate;
 mod store;
 
 use bench::store as fast;
-use generate::{call, geometry, Dice};
+use generate::{call, geometry, record, Dice};
 use store::{Call, Geometry, Store};
 
 fn same(c: Call) -> fast::Call {
@@ -22,6 +22,7 @@ fn same(c: Call) -> fast::Call {
         Call::Barrier => fast::Call::Barrier,
         Call::Compress => fast::Call::Compress,
         Call::FreeList => fast::Call::FreeList,
+        Call::Estimate(r) => fast::Call::Estimate(r),
     }
 }
 
@@ -36,6 +37,14 @@ fn numbers(store: &fast::Store, reply: fast::Reply) -> Result<Vec<u64>, u32> {
     Ok(given.iter().map(|&n| n as u64).collect())
 }
 
+fn agree_on(unproved: &mut fast::Store, reference: &mut Store, c: Call, seed: u64) {
+    let reply = unproved.call(same(c));
+    assert_eq!(numbers(unproved, reply), reference.call(c), "seed {seed}: {c:?}");
+    let log: Vec<u8> = reference.log.iter().flat_map(|w| w.to_be_bytes()).collect();
+    assert!(unproved.log_bytes() == log, "seed {seed}: the log behind {c:?}");
+}
+
+/// Each call comes behind a Q, that of a D's record if it is a D.
 fn agree(unproved: &mut fast::Store, seed: u64) {
     let mut d = Dice::new(seed);
     let six = geometry(&mut d);
@@ -45,10 +54,9 @@ fn agree(unproved: &mut fast::Store, seed: u64) {
     for _ in 0..600 {
         grow ^= d.below(40) == 0;
         let c = call(&mut d, &six, &reference, grow);
-        let reply = unproved.call(same(c));
-        assert_eq!(numbers(unproved, reply), reference.call(c), "seed {seed}: {c:?}");
-        let log: Vec<u8> = reference.log.iter().flat_map(|w| w.to_be_bytes()).collect();
-        assert!(unproved.log_bytes() == log, "seed {seed}: the log behind {c:?}");
+        let r = if let Call::Delete(r) = c { r } else { record(&mut d, &reference) };
+        agree_on(unproved, &mut reference, Call::Estimate(r), seed);
+        agree_on(unproved, &mut reference, c, seed);
     }
 }
 

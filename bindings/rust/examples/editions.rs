@@ -21,8 +21,7 @@ fn main() -> Result<(), Refusal> {
 
     println!("deleting the forked record: {}", store.delete(g, first).unwrap_err());
     println!("deleting the fork frees {:?}", store.delete(g, other)?);
-    let gain = store.estimate(g, first)?;
-    println!("deleting the first would free {} of the blocks and write {} log words", gain.blocks, gain.words);
+    println!("deleting the first would do this: {:?}", store.estimate(g, first)?);
     println!("it frees {:?}", store.delete(g, first)?);
     println!("free now: {:?}", store.free_list(g)?);
     println!("the log has {} words", store.compress(g)?);

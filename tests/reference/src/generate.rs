@@ -167,8 +167,8 @@ impl Course {
         }
     }
 
-    /// A Q in front of a call: every other time of the record that a D is to delete; else now and then, more often where the log is nearly full, of any
-    /// record, or of a number that may have none.
+    /// A Q in front of a call: every other time of the record that a D is to delete; else now and then, more often where the log is nearly full, of
+    /// any record, or of a number that may have none.
     fn asked(&self, d: &mut Dice, next: Call) -> Option<Call> {
         if let Call::Delete(r) = next {
             return (d.below(2) == 0).then_some(Call::Estimate(r));

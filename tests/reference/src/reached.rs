@@ -72,8 +72,8 @@ fn sealed(store: &Store, r: u64) -> Reached {
     vec![(rolled, "S in a line of 6 or more that lost its first"), (store.records.len() > 31, "S with 32 records or more")]
 }
 
-/// What a call, its reply and the store behind it are an instance of. Of a D: whether its record was a line's last, and whether the call before it was
-/// a Q of its record.
+/// What a call, its reply and the store behind it are an instance of. Of a D: whether its record was a line's last, and whether the call before it
+/// was a Q of its record.
 fn instances(store: &Store, c: Call, reply: &Reply, was_last: bool, was_asked: bool) -> Reached {
     let given = match reply {
         Err(number) => return refused(c, *number),

@@ -25,6 +25,7 @@ calls! {
     sogvect_barrier();
     sogvect_compress();
     sogvect_free_list();
+    sogvect_estimate(n);
 }
 
 extern "C" {
@@ -81,6 +82,7 @@ impl Lent {
             Call::Barrier => call!(sogvect_barrier()),
             Call::Compress => call!(sogvect_compress()),
             Call::FreeList => call!(sogvect_free_list()),
+            Call::Estimate(r) => call!(sogvect_estimate(r)),
         };
         if refusal == 0 { Ok(count) } else { Err(refusal) }
     }
