@@ -154,8 +154,8 @@ uint32_t sogvect_free_list(size_t arenas, size_t per, size_t pages, size_t recor
                            uint32_t *tables, size_t tables_len, uint8_t *log, size_t log_len, uint32_t *out, size_t out_len,
                            size_t *count);
 
-/* Says what the delete of record n would do, and changes nothing but out. Result, three numbers: how many blocks the delete would free, how many log words
- * it would write, and how many non-empty shards with a birth above n's pred the record that follows n in its line has, 0 where none follows
+/* Says what the delete of record n would do, and changes nothing but out. Result, three numbers: how many blocks the delete would free, how many log
+ * words it would write, and how many non-empty shards with a birth above n's pred the record that follows n in its line has, 0 where none follows
  * (docs/RULES.md, 1.5, 1.8 and 3.12). A sogvect_delete straight after it, if done, frees exactly that many blocks.
  * Refusals: 2, 3, 4, 8, 10. */
 uint32_t sogvect_estimate(size_t arenas, size_t per, size_t pages, size_t records, size_t turn, size_t words,

@@ -176,7 +176,15 @@ fn six_numbers_in_order() {
 fn own_numbers_whole() {
     let mut m = small();
     for high in [1 << 8, 1 << 16, 1 << 31] {
-        for call in [Call::W(4 + high, 2, 1), Call::E(4 + high, 2), Call::S(4 + high), Call::F(1 + high), Call::D(4 + high), Call::R(1 + high, 0), Call::Q(4 + high)] {
+        for call in [
+            Call::W(4 + high, 2, 1),
+            Call::E(4 + high, 2),
+            Call::S(4 + high),
+            Call::F(1 + high),
+            Call::D(4 + high),
+            Call::R(1 + high, 0),
+            Call::Q(4 + high),
+        ] {
             refused(&mut m, SMALL, call, 8);
         }
         for call in [Call::W(4, 2 + high, 1), Call::E(4, 2 + high), Call::R(1, high)] {
