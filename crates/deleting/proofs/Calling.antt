@@ -72,7 +72,7 @@ module _ (g : Geometry) (t : List ℕ) (s : ℕ) where
 
   -- no more than there are pages
   module _ (R : Ready g t) where
-    deleted-most : (f : ℕ) → length (deleted (viewOf g t) s f) ≤ g .pages
+    pub deleted-most : (f : ℕ) → length (deleted (viewOf g t) s f) ≤ g .pages
     unfolding deleted viewOf
     deleted-most zero = pruned-short (viewOf g t) s (g .pages)
     deleted-most (suc n) = unlinked-short R s n

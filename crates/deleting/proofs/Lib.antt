@@ -1,4 +1,4 @@
--- Laws of a deletion: memory that lists are written into, sorting, the parts of a deadlist, a record's own pages, the stages, the frees, the call.
+-- Laws of a deletion: memory that lists are written into, sorting, the parts of a deadlist, a record's own pages, the stages, the frees, the call; Q.
 pub mod Buffers
 pub mod Sifting
 pub mod Parting
@@ -9,3 +9,4 @@ pub mod Leaving
 pub mod Logging
 pub mod Verdicts
 pub mod Calling
+pub mod Estimating

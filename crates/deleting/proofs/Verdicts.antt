@@ -43,11 +43,11 @@ module _ (g : Geometry) (t : List ℕ) (r l : ℕ) (e : l ≡ slotOf (viewOf g t
   no-slot z = rw (eq-eqb (slotOf (viewOf g t) r) 0 (sym e ∙ z))
 
   module _ (n : l ≡ 0 → ⊥) where
-    slot-is : slot T r ≡ l - 1
+    pub slot-is : slot (stateOf g t) r ≡ l - 1
     unfolding stateOf
     slot-is = ap pred (sym e) ∙ pred-is l n
 
-    has-slot : eqb (slotOf (T .view) r) 0 ≡ false
+    pub has-slot : eqb (slotOf (stateOf g t .view) r) 0 ≡ false
     unfolding stateOf
     has-slot = ne-eqb (slotOf (viewOf g t) r) 0 (λ z. n (e ∙ z))
 
