@@ -66,6 +66,12 @@ enum-told-4 c = search needs
 free-list-requires : tie.Need-free-list-requires
 free-list-requires c κs = let p = c .before .before .before .before .before .before .before .pre in (p .0, p .2)
 
+enum-known-c-7 : tie.Need-enum-known-c-7
+enum-known-c-7 c = search needs
+
+estimate-requires : tie.Need-estimate-requires
+estimate-requires c κs = let p = c .before .before .before .before .before .before .before .before .pre in (p .0, p .2)
+
 same-length : tie.Need-same-length
 same-length c = search needs
 
@@ -218,6 +224,20 @@ returns-10 c =
     of-call (a .g) (a .t .now) (a .log .now) (a .out .now) (c .before .before .before .before .before .enum-told4 .given .1) _ _ _ _
     (e .0, (tables-stay (a .g) (a .t .now) _ (s .pre .0) refl, (log-stays (a .g) (a .t .now) _ (a .log .now) refl, e .1)))
 
+same-length-25 : tie.Need-same-length-25
+same-length-25 c = search needs
+
+same-length-26 : tie.Need-same-length-26
+same-length-26 c = search needs
+
+returns-11 : tie.Need-returns-11
+returns-11 c =
+    let s = c .before .before .before .before .before .before .before .before .before .before .before in
+    let a = s .args in
+    let e = c .before .before .estimate .ensures in
+    of-call (a .g) (a .t .now) (a .log .now) (a .out .now) (c .before .before .before .before .before .before .c7 .given .1) _ _ _ _
+    (e .0, (tables-stay (a .g) (a .t .now) _ (s .pre .0) refl, (log-stays (a .g) (a .t .now) _ (a .log .now) refl, e .1)))
+
 pub perform-spec : {M : Type 1} → statement M
 perform-spec =
     tie.close
@@ -242,6 +262,8 @@ perform-spec =
     compress-log-requires
     enum-told-4
     free-list-requires
+    enum-known-c-7
+    estimate-requires
     same-length
     same-length-2
     returns
@@ -275,4 +297,7 @@ perform-spec =
     returns-9
     same-length-23
     same-length-24
-    returns-10)
+    returns-10
+    same-length-25
+    same-length-26
+    returns-11)
