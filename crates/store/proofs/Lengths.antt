@@ -16,7 +16,7 @@ use Rattle.model.specs.Calls.{compressed, conditions, result, written, effect}
 use Rattle.model.specs.Layout.{stateOf, stored, made}
 use Rattle.model.specs.Memory.{Memory, writtenAt, reply, after, makeReply, makeAfter}
 use Rattle.model.specs.declared.Call.{Call}
-use Rattle.model.specs.declared.Call.the-variants.{Begin, Write, Erase, Seal, Fork, Delete, Read, Barrier, Compress, FreeList}
+use Rattle.model.specs.declared.Call.the-variants.{Begin, Write, Erase, Seal, Fork, Delete, Read, Barrier, Compress, FreeList, Estimate}
 use Rattle.model.proofs.LayoutFacts.{stored-length}
 use Rattle.model.proofs.MadeFacts.{made-length}
 use Rattle.model.proofs.Keeps.{accepted-is}
@@ -40,6 +40,7 @@ module _ (g : Geometry) (T : State) (R : InRange g T) where
   words-fit Barrier n = behind (written g T Barrier) (ltb-false (g .words - T .used) 1 (n .0))
   words-fit Compress n = omega (arith, length-bytes (compressed g T), ltb-false (g .words) (length (compressed g T)) (n .0))
   words-fit FreeList n = nothing
+  words-fit (Estimate r) n = nothing
 
 module _ (g : Geometry) (M : Memory) (c : Call) where
   abbrev T : State

@@ -27,4 +27,6 @@ unfolding replyOf
 done-le n out g M c e k =
     let i = accepted-is g M c (take n out) (sym e) .0 .inside in
     let a = accepted-le g M c (take n out) (sym e) in
-    omega (arith, number-of n out (take n out) refl (omega (arith, a, i .blocks-most)), a, i .blocks-most)
+    cases a
+    (λ h. omega (arith, number-of n out (take n out) refl (omega (arith, h, i .blocks-most)), h, i .blocks-most))
+    (λ h. omega (arith, number-of n out (take n out) refl (omega (arith, h)), h))
