@@ -1,34 +1,32 @@
 -- Q answered as the ledger says: the blocks that a deletion would free, its words, and the shards that it would empty.
 use mathlib.Core.Path.{_≡_, refl, sym, ap, _∙_, subst}
-use mathlib.Core.Bool.{Bool, true, false, not, cond}
-use mathlib.Core.List.{List, [], _∷_, _++_, map}
-use Prim.Native.Nat.{ℕ, zero, suc, _+_, _-_, _<_}
+use mathlib.Core.Bool.{Bool, false, not}
+use mathlib.Core.List.{List, [], _∷_}
+use Prim.Native.Nat.{ℕ, zero, suc, _+_, _-_}
 use native.Mathlib.Numerals.{add-one}
 use native.Mathlib.Omega.{arith}
 use lib.Dec.{eqb, ltb}
 use lib.ListN.{length, length-append}
 use borrow.Author.Tests.{le-ltb}
-use Rattle.answer.specs.Reply.{accepted}
 use Rattle.answer.proofs.Cases.{cases, either}
 use Rattle.geometry.specs.declared.Geometry.{Geometry}
 use Rattle.geometry.specs.Limits.{Inside}
-use Rattle.log.specs.Word.{released}
 use Rattle.model.specs.Lists.{keepIf}
-use Rattle.model.specs.View.{View, predNum}
+use Rattle.model.specs.View.{predNum}
 use Rattle.model.specs.Deadlists.{shard}
-use Rattle.model.specs.Held.{bit, tally, deleted, shardsAbove, shardsFreed}
-use Rattle.model.specs.Actions.{follower, forked, slotOf}
+use Rattle.model.specs.Held.{bit, tally, shardsAbove, shardsFreed}
+use Rattle.model.specs.Actions.{follower, slotOf}
 use Rattle.model.specs.State.{State}
 use Rattle.model.specs.Calls.{slot}
 use Rattle.model.specs.declared.Call.the-variants.{Estimate}
 use Rattle.model.proofs.Fine.{Fine}
 use Rattle.model.proofs.ListFacts.{keep-append}
 use Rattle.model.proofs.Tally.{tally-ext}
-use Rattle.ledger.specs.BookReading.{isThere, predOf, following, forkOn}
-use Rattle.ledger.specs.Ledger.{Ledger, rising, shardOf, freedBy, wordsOfDelete, shardsIf, account, says, keeps}
+use Rattle.ledger.specs.BookReading.{isThere, following}
+use Rattle.ledger.specs.Ledger.{Ledger, rising, shardOf, shardsIf, account, says, keeps}
 use Rattle.ledger.proofs.BookRead.{Reading}
-use Rattle.ledger.proofs.RisingFacts.{append-nil, rising-cut}
-use Rattle.ledger.proofs.Tells.{Tells, Answered, Keeping}
+use Rattle.ledger.proofs.RisingFacts.{rising-cut}
+use Rattle.ledger.proofs.Tells.{Tells, Answered, Keeping, still-told}
 use Rattle.ledger.proofs.CallsTold.{there-told, slot-told}
 use Rattle.ledger.proofs.DeleteTold.{follow-none, follow-some, shard-told, freed-told, fork-told}
 
@@ -81,15 +79,5 @@ estimate-answered r g L T inside fine t =
     (λ n. rw (n, fork-told g L T inside fine t r n, freed-told g L T inside fine t r n, shards-told g L T inside fine t r n)))
 
 pub estimate-kept : (r : ℕ) → Keeping (Estimate r)
-unfolding says keeps account
-estimate-kept r g L T inside fine t n = record {
-  book = t .book;
-  once = t .once;
-  full = t .full;
-  birth = t .birth;
-  lists = t .lists;
-  counter = t .counter;
-  turn = t .turn;
-  marks = t .marks;
-  used = t .used ∙ ap (λ (w : List ℕ). length w) (sym (append-nil (L .log)));
-}
+unfolding keeps account
+estimate-kept r g L T inside fine t n = still-told g L T t

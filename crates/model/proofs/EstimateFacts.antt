@@ -2,35 +2,29 @@
 use mathlib.Core.Path.{_≡_, refl, sym, ap, ap₂, _∙_, subst}
 use mathlib.Core.Bool.{Bool, true, false}
 use mathlib.Core.List.{List, [], _∷_}
-use Prim.Native.Nat.{ℕ, zero, suc, pred, _+_, _-_, _*_, _≤_, _<_}
+use Prim.Native.Nat.{ℕ, zero, suc, pred, _+_, _-_, _*_, _≤_}
 use native.Mathlib.Omega.{arith}
-use lib.Dec.{ltb}
 use lib.ListN.{length}
 use borrow.Author.Tests.{lt-ltb, le-ltb}
 use Rattle.answer.specs.Reply.{Reply, accepted, refused}
 use Rattle.answer.specs.Refusal.{decide, leaves}
-use Rattle.answer.proofs.Cases.{cases, lt?}
 use Rattle.geometry.specs.declared.Geometry.{Geometry}
-use Rattle.geometry.specs.Limits.{Inside, blocks}
+use Rattle.geometry.specs.Limits.{blocks}
 use Rattle.log.specs.Word.{writeAt, bytesOf}
 use Rattle.log.proofs.Writing.{write-none}
 use Rattle.model.specs.View.{View, predNum}
 use Rattle.model.specs.Sound.{Sound}
-use Rattle.model.specs.SoundMeans.{Live}
-use Rattle.model.specs.Actions.{doD, slotOf, follower, forked}
-use Rattle.model.specs.Held.{frees, shardsAbove, shardsFreed}
+use Rattle.model.specs.Actions.{doD, slotOf, follower}
+use Rattle.model.specs.Held.{frees, shardsFreed}
 use Rattle.model.specs.State.{State}
-use Rattle.model.specs.Calls.{slot, deleting, written, short, conditions, result, acted, effect, logged}
-use Rattle.model.specs.RefusalMeans.{There}
+use Rattle.model.specs.Calls.{slot, written, short, acted, effect, logged}
 use Rattle.model.specs.Layout.{stateOf, stored}
 use Rattle.model.specs.Memory.{Memory, lent, wordsUsed, writtenAt, reply, after}
-use Rattle.model.specs.SoundStore.{SoundStore}
 use Rattle.model.specs.Demand.{withOut}
-use Rattle.model.specs.Estimate.{EstimateStill, EstimateRefusals, behind, Foretold, EstimateTrue, Enough, EstimateEnough, BirthsAbove, ShardsCounted, ShardsAreCounted}
-use Rattle.model.specs.declared.Call.{Call}
+use Rattle.model.specs.Estimate.{EstimateStill, EstimateRefusals, behind, EstimateTrue, Enough, EstimateEnough, ShardsCounted, ShardsAreCounted}
 use Rattle.model.specs.declared.Call.the-variants.{Delete, Compress, Estimate}
 use Rattle.model.proofs.DoneSound.{hit, miss}
-use Rattle.model.proofs.Fine.{Fine, named-slot}
+use Rattle.model.proofs.Fine.{named-slot}
 use Rattle.model.proofs.Keeps.{Accepted, accepted-is, sound-fine, state-after}
 use Rattle.model.proofs.Replies.{reply-sound}
 use Rattle.model.proofs.Restored.{stored-state}

@@ -1,6 +1,6 @@
 -- The shards that a deletion frees, counted: as births, and on the freed blocks themselves.
 use mathlib.Core.Path.{_≡_, refl, sym, ap, _∙_, subst}
-use mathlib.Core.Logic.{_⊎_, inl, inr}
+use mathlib.Core.Logic.{inl, inr}
 use mathlib.Core.Bool.{Bool, true, false, cond}
 use mathlib.Core.List.{List, [], _∷_, _++_}
 use Prim.Native.Nat.{ℕ, zero, suc, _+_, _-_, _≤_, _<_}
@@ -8,13 +8,13 @@ use native.Mathlib.Omega.{arith}
 use lib.Dec.{eqb, ltb}
 use lib.ListN.{length, length-append}
 use borrow.Author.Tests.{lt-ltb, ltb-true, eq-eqb, ne-eqb}
-use Rattle.answer.proofs.Cases.{cases, either, lt?}
+use Rattle.answer.proofs.Cases.{cases, lt?}
 use Rattle.model.specs.View.{View, predNum}
 use Rattle.model.specs.Lists.{In, Pairwise, rows}
 use Rattle.model.specs.Sound.{Sound}
 use Rattle.model.specs.Deadlists.{shard, shards}
 use Rattle.model.specs.Effects.{unlinked}
-use Rattle.model.specs.Held.{bit, tally, shardsAbove, shardsFreed}
+use Rattle.model.specs.Held.{bit, tally, shardsAbove}
 use Rattle.model.specs.Sorted.{stretches}
 use Rattle.model.specs.Estimate.{BirthsAbove}
 use Rattle.model.proofs.ListFacts.{in-left, in-right, of-append, pw-append}

@@ -17,6 +17,7 @@ use Rattle.geometry.proofs.Made.{inside-fits}
 use Rattle.log.specs.Word.{writeAt}
 use Rattle.model.specs.Memory.{Memory, sound?}
 use Rattle.model.proofs.SoundTest.{sound-iff}
+use Rattle.model.proofs.Keeps.{or-false}
 use Rattle.script.specs.Lines.{linesOf}
 use Rattle.session.specs.declared.Session.{Session}
 use Rattle.ledger.specs.Transcript.{Runner, without-store, with-store, printed, left}
@@ -34,10 +35,6 @@ record Lends (H : Lent) : Type 0 where
   run : 7 ≤ length (H .run)
   ample : Ample (H .memory)
   replies : longest ≤ length (H .replies)
-
-or-false : (p q : Bool) → (p || q) ≡ false → (p ≡ false) × (q ≡ false)
-or-false true q e = (e, absurd (true≢false e))
-or-false false q e = (refl, e)
 
 long-lends : (H : Lent) → lentShort H ≡ false → Lends H
 unfolding lentShort
