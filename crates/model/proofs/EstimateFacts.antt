@@ -13,11 +13,12 @@ use Rattle.geometry.specs.Limits.{blocks}
 use Rattle.log.specs.Word.{writeAt, bytesOf}
 use Rattle.log.proofs.Writing.{write-none}
 use Rattle.model.specs.View.{View, predNum}
+use Rattle.model.specs.Results.{paired, blocksIn}
 use Rattle.model.specs.Sound.{Sound}
 use Rattle.model.specs.Actions.{doD, slotOf, follower}
 use Rattle.model.specs.Held.{frees, shardsFreed}
 use Rattle.model.specs.State.{State}
-use Rattle.model.specs.Calls.{slot, written, short, acted, effect, logged}
+use Rattle.model.specs.Calls.{slot, written, short, acted, logged}
 use Rattle.model.specs.Layout.{stateOf, stored}
 use Rattle.model.specs.Memory.{Memory, lent, wordsUsed, writtenAt, reply, after}
 use Rattle.model.specs.Demand.{withOut}
@@ -25,9 +26,10 @@ use Rattle.model.specs.Estimate.{EstimateStill, EstimateRefusals, behind
 use Rattle.model.specs.declared.Call.the-variants.{Delete, Compress, Estimate}
 use Rattle.model.proofs.DoneSound.{hit, miss}
 use Rattle.model.proofs.Fine.{named-slot}
-use Rattle.model.proofs.Keeps.{Accepted, accepted-is, sound-fine, state-after}
+use Rattle.model.proofs.Keeps.{Accepted, accepted-is, accepted-state, sound-fine}
 use Rattle.model.proofs.Replies.{reply-sound}
 use Rattle.model.proofs.Restored.{stored-state}
+use Rattle.model.proofs.ResultFacts.{blocks-in-paired}
 use Rattle.model.proofs.ShardFacts.{births-above}
 
 -- ── it has D's refusals except 14 ──
@@ -62,25 +64,20 @@ met g M r out = let (t, l) = estimate-still g M r in ap₂ (λ (a b : List ℕ).
 abbrev freesOf : View → ℕ → List ℕ
 freesOf K r = frees K (doD (pred (slotOf K r)))
 
-freed-are : (g : Geometry) (N : Memory) (r : ℕ) (l : List ℕ) → reply g N (Delete r) ≡ accepted l → freesOf (stateOf g (N .tables) .view) r ≡ l
-freed-are g N r l e = accepted-is g N (Delete r) l e .1
+freed-are : (g : Geometry) (N : Memory) (r : ℕ) (l : List ℕ) → reply g N (Delete r) ≡ accepted l → freesOf (stateOf g (N .tables) .view) r ≡ blocksIn l
+freed-are g N r l e =
+    let K : View = stateOf g (N .tables) .view in sym (blocks-in-paired (K .birth) (freesOf K r)) ∙ ap blocksIn (accepted-is g N (Delete r) l e .1)
 
 words-after : (g : Geometry) (N : Memory) (r : ℕ) (l : List ℕ) → reply g N (Delete r) ≡ accepted l →
     wordsUsed (after g N (Delete r)) ≡ wordsUsed N + length (written g (stateOf g (N .tables)) (Delete r))
-unfolding after stateOf acted
-words-after g N r l e =
-    let A = accepted-is g N (Delete r) l e .0 in
-    ap (λ a. wordsUsed (lent (leaves a (N .tables) (stored g (effect g (stateOf g (N .tables)) (Delete r)) (N .tables))) (N .log) (N .out))) e ∙
-    ap (λ (T : State). T .used) (state-after g N (Delete r) A)
+unfolding stateOf acted
+words-after g N r l e = ap (λ (T : State). T .used) (accepted-state g N (Delete r) l e)
 
 -- C leaves the records as they are
 view-after-C : (g : Geometry) (N : Memory) (k : List ℕ) → reply g N Compress ≡ accepted k →
     stateOf g (after g N Compress .tables) .view ≡ stateOf g (N .tables) .view
-unfolding after logged
-view-after-C g N k e =
-    let A = accepted-is g N Compress k e .0 in
-    ap (λ a. stateOf g (leaves a (N .tables) (stored g (effect g (stateOf g (N .tables)) Compress) (N .tables))) .view) e ∙
-    ap (λ (T : State). T .view) (state-after g N Compress A)
+unfolding logged
+view-after-C g N k e = ap (λ (T : State). T .view) (accepted-state g N Compress k e)
 
 pub estimate-true : EstimateTrue
 estimate-true g M r q e =
@@ -109,6 +106,10 @@ module _ (g : Geometry) (M : Memory) (r a w v : ℕ) (out : List ℕ) (e : reply
   abbrev T : State
   T = stateOf g (M .tables)
 
+  -- the numbers of that D's result
+  abbrev freed : State → List ℕ
+  freed U = paired (U .view .birth) (freesOf (U .view) r)
+
   A : Accepted g M (Estimate r)
   A = accepted-is g M (Estimate r) (a ∷ w ∷ v ∷ []) e .0
 
@@ -119,7 +120,7 @@ module _ (g : Geometry) (M : Memory) (r a w v : ℕ) (out : List ℕ) (e : reply
       second i = ap (λ l. lib.ListN.getD l 1 0) i
 
   -- 8 and 10 are false, so 14 decides
-  decided : reply g N (Delete r) ≡ decide ((14, short g T (Delete r)) ∷ []) (freesOf (T .view) r)
+  decided : reply g N (Delete r) ≡ decide ((14, short g T (Delete r)) ∷ []) (freed T)
   decided =
       reply-sound g N (Delete r) (A .inside) (record { tables = A .long .tables; log = A .long .log; out = long }) (A .sound) ∙
       rw (A .none .0, A .none .1 .0) refl
@@ -128,10 +129,10 @@ module _ (g : Geometry) (M : Memory) (r a w v : ℕ) (out : List ℕ) (e : reply
   unfolding stateOf
   enough =
       let same : reply g (behind g M r out) (Delete r) ≡ reply g N (Delete r) = ap (λ (m : Memory). reply g m (Delete r)) (met g M r out) in
-      let by : (t : Bool) → short g T (Delete r) ≡ t → reply g (behind g M r out) (Delete r) ≡ decide ((14, t) ∷ []) (freesOf (T .view) r) =
-      λ t i. same ∙ decided ∙ ap (λ (s : Bool). decide ((14, s) ∷ []) (freesOf (T .view) r)) i in
+      let by : (t : Bool) → short g T (Delete r) ≡ t → reply g (behind g M r out) (Delete r) ≡ decide ((14, t) ∷ []) (freed T) =
+      λ t i. same ∙ decided ∙ ap (λ (s : Bool). decide ((14, s) ∷ []) (freed T)) i in
       record {
-        accepts = λ h. (freesOf (T .view) r, by false (le-ltb (g .words - T .used) (length (written g T (Delete r))) (omega (arith, words-are, A .sound .range .used))));
+        accepts = λ h. (freed T, by false (le-ltb (g .words - T .used) (length (written g T (Delete r))) (omega (arith, words-are, A .sound .range .used))));
         refuses = λ h. by true (lt-ltb (g .words - T .used) (length (written g T (Delete r))) (omega (arith, words-are, A .sound .range .used)));
       }
 

@@ -1,4 +1,4 @@
--- How many numbers an accepted call gives: at most two for each block, or three, so a result buffer that is long enough has room for them.
+-- How many numbers an accepted call gives: at most two for each block, or four, so a result buffer that is long enough has room for them.
 use mathlib.Core.Path.{_≡_, subst}
 use mathlib.Core.Logic.{_⊎_, inl, inr}
 use mathlib.Core.Bool.{Bool, true, false, cond}
@@ -14,6 +14,7 @@ use Rattle.geometry.specs.declared.Geometry.{Geometry}
 use Rattle.geometry.specs.Limits.{Inside, blocks}
 use Rattle.log.specs.Runs.{Run, ending, runsFrom, runs}
 use Rattle.model.specs.Lists.{onPage}
+use Rattle.model.specs.Results.{paired}
 use Rattle.model.specs.View.{View, predNum, baseNum}
 use Rattle.model.specs.Effects.{Fate, freed, marked, kept, fate}
 use Rattle.model.specs.Held.{heldCount, available, freedOne, erased, frees}
@@ -27,6 +28,7 @@ use Rattle.model.proofs.Tally.{tally-le}
 use Rattle.model.proofs.HeldFacts.{held-done}
 use Rattle.model.proofs.Fine.{Fine, asks-D}
 use Rattle.model.proofs.Keeps.{accepted-is, sound-fine}
+use Rattle.model.proofs.ResultFacts.{paired-length}
 
 -- ── at most one ──
 
@@ -80,9 +82,9 @@ runs-le per t b r (suc n) = go (t b) (eqb (b % per) 0) (runs-le per t (suc b) 0 
 
 -- ── every call ──
 
--- at most two for each block, or no more than the three numbers of Q
+-- at most two for each block, or no more than the four numbers of a W
 abbrev pub Few : Geometry → List ℕ → Type 0
-Few g l = (length l ≤ 2 * blocks g) ⊎ (length l ≤ 3)
+Few g l = (length l ≤ 2 * blocks g) ⊎ (length l ≤ 4)
 
 -- there is a block
 one-block : (a p : ℕ) → 1 ≤ a → 1 ≤ p → 1 ≤ a * p
@@ -101,14 +103,24 @@ module _ (g : Geometry) (inside : Inside g) (T : State) (R : Fine g T) where
   some : 1 ≤ blocks g
   some = one-block (g .arenas) (g .per) (inside .arenas-least) (inside .per-least)
 
+  -- the block of a page, if it is freed, with its birth
+  one-erased : (r x : ℕ) → length (paired (T .view .birth) (erased (T .view) (slot T r) (T .view .page (slot T r) x))) ≤ 2
+  one-erased r x =
+      omega (
+        arith,
+        paired-length (T .view .birth) (erased (T .view) (slot T r) (T .view .page (slot T r) x)),
+        erased-one (T .view) (slot T r) (T .view .page (slot T r) x),
+      )
+
   pub result-le : (c : Call) → NoneHolds (conditions g T c) → Few g (result g T c)
   result-le Begin n = inl (omega (arith, some))
-  result-le (Write r x k) n = inl (omega (arith, erased-one (T .view) (slot T r) (T .view .page (slot T r) x), some))
-  result-le (Erase r x) n = inl (omega (arith, erased-one (T .view) (slot T r) (T .view .page (slot T r) x), some))
+  result-le (Write r x k) n = inr (omega (arith, one-erased r x))
+  result-le (Erase r x) n = inr (omega (arith, one-erased r x))
   result-le (Seal r) n = inl (omega (arith, some))
   result-le (Fork r) n = inl (omega (arith, some))
-  result-le (Delete r) n = inl (omega (arith, deleted-le r n))
-  result-le (Read r x) n = inl (omega (arith, page-one (T .view .page (slot T r) x), some))
+  result-le (Delete r) n = inl (omega (arith, paired-length (T .view .birth) (frees (T .view) (deleting T r)), deleted-le r n))
+  result-le (Read r x) n =
+      inr (omega (arith, paired-length (T .view .birth) (onPage (T .view .page (slot T r) x)), page-one (T .view .page (slot T r) x)))
   result-le Barrier n = inl (omega arith)
   result-le Compress n = inl (omega (arith, some))
   result-le FreeList n = inl (omega (arith, listed-le))

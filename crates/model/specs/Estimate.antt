@@ -11,6 +11,7 @@ use Rattle.geometry.specs.declared.Geometry.{Geometry}
 use Rattle.geometry.specs.Limits.{blocks}
 use Rattle.model.specs.View.{View, predNum}
 use Rattle.model.specs.Lists.{In, Pairwise}
+use Rattle.model.specs.Results.{blocksIn}
 use Rattle.model.specs.Deadlists.{shard}
 use Rattle.model.specs.SoundMeans.{Live}
 use Rattle.model.specs.Calls.{short}
@@ -42,11 +43,11 @@ pub record Foretold (g : Geometry) (M : Memory) (r : ℕ) (q : List ℕ) : Type 
   pub three : q ≡ freed ∷ words ∷ shards ∷ []
   -- "A D straight after Q, if accepted, frees exactly that number", and writes that many words
   pub exactly : (out l : List ℕ) → reply g (behind g M r out) (Delete r) ≡ accepted l →
-      (length l ≡ freed) × (wordsUsed (after g (behind g M r out) (Delete r)) ≡ wordsUsed M + words)
+      (length (blocksIn l) ≡ freed) × (wordsUsed (after g (behind g M r out) (Delete r)) ≡ wordsUsed M + words)
   -- so too where a C stands between them, which makes room in a log that is too full for D
   pub behindC : (out out′ k l : List ℕ) → reply g (behind g M r out) Compress ≡ accepted k →
       reply g (withOut (after g (behind g M r out) Compress) out′) (Delete r) ≡ accepted l →
-      length l ≡ freed
+      length (blocksIn l) ≡ freed
 
 abbrev pub EstimateTrue : Type 0
 EstimateTrue = (g : Geometry) (M : Memory) (r : ℕ) (q : List ℕ) → reply g M (Estimate r) ≡ accepted q → Foretold g M r q
