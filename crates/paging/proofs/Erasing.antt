@@ -9,9 +9,7 @@ use borrow.Author.Tests.{le-leb, lt-leb, lt-ltb, le-ltb, ltb-false}
 use Rattle.answer.specs.Reply.{refused, replyOf}
 use Rattle.answer.specs.Refusal.{NoneHolds}
 use Rattle.answer.specs.declared.Answer.the-variants.{Done}
-use Rattle.answer.proofs.Cases.{cases, same?}
 use Rattle.geometry.specs.declared.Geometry.{Geometry}
-use Rattle.geometry.specs.Limits.{blocks}
 use Rattle.log.specs.Word.{writeAt, bytesOf, released}
 use Rattle.log.proofs.Writing.{write-none}
 use Rattle.model.specs.declared.Call.the-variants.{Erase}
@@ -20,19 +18,22 @@ use Rattle.model.specs.State.{withUsed}
 use Rattle.model.specs.Effects.{Fate, freed, marked, kept, fate}
 use Rattle.model.specs.Held.{freedOne, erased}
 use Rattle.model.specs.Actions.{doE, slotOf}
-use Rattle.model.specs.Calls.{slot, written, conditions, acted}
-use Rattle.model.specs.Layout.{openCell, pageCell, viewOf, stateOf, stored}
+use Rattle.model.specs.Calls.{slot, written, conditions, result, acted}
+use Rattle.model.specs.Layout.{openCell, viewOf, stateOf, stored}
+use Rattle.model.specs.Results.{paired}
 use Rattle.model.proofs.Fine.{asks-E}
+use Rattle.model.proofs.ResultFacts.{paired-length}
 use Rattle.tables.specs.Ready.{Ready, LogLong, OutLong}
 use Rattle.tables.specs.Outcome.{replied, tablesLeft, logLeft, outLeft}
-use Rattle.tables.proofs.Fields
 use Rattle.tables.proofs.Ranges
 use Rattle.tables.proofs.Steps.{step-used}
 use Rattle.paging.specs.Target.{Target, freesOf}
-use Rattle.paging.specs.Kill.{emptied}
+use Rattle.paging.specs.Kill.{killedOf, emptied}
 use Rattle.paging.specs.EraseVerdict.{Judged}
 use Rattle.paging.specs.declared.erase.Verdict.{Verdict}
 use Rattle.paging.specs.declared.erase.Verdict.the-variants.{Refused, Accept}
+use Rattle.paging.specs.declared.kill.Killed.{Killed}
+use Rattle.paging.specs.declared.kill.Killed.the-variants.{Freed, Kept}
 use Rattle.paging.proofs.Answers
 use Rattle.paging.proofs.Looking
 use Rattle.paging.proofs.Killing
@@ -88,37 +89,18 @@ module _ (g : Geometry) (t : List ℕ) (n x w : ℕ) (ew : w ≡ x) where
         Looking.slot-is R n l e used,
       )
 
--- ── the action; l is the page's link as it was read, f how many blocks are freed ──
+-- ── what is freed with a page: one block or none ──
 
-fate-one : (b : ℕ) (f : Fate) → length (freedOne b f) ≡ 1 → freedOne b f ≡ (suc b - 1) ∷ []
+fate-few : (b : ℕ) (f : Fate) → length (freedOne b f) ≤ 1
 unfolding freedOne
-fate-one b freed e = ap (λ k. k ∷ []) (omega arith)
-fate-one b marked e = absurd (let z : ⊥ = omega arith in z)
-fate-one b kept e = absurd (let z : ⊥ = omega arith in z)
-
-fate-none : (b : ℕ) (f : Fate) → (length (freedOne b f) ≡ 1 → ⊥) → freedOne b f ≡ []
-unfolding freedOne
-fate-none b freed n = absurd (n refl)
-fate-none b marked n = refl
-fate-none b kept n = refl
-
-pub erased-one : (K : View) (s l : ℕ) → length (erased K s l) ≡ 1 → erased K s l ≡ (l - 1) ∷ []
-unfolding erased
-erased-one K s zero e = absurd (let z : ⊥ = omega arith in z)
-erased-one K s (suc b) e = fate-one b (fate (K .birth b) (predNum K s) (baseNum K s)) e
-
-pub erased-none : (K : View) (s l : ℕ) → (length (erased K s l) ≡ 1 → ⊥) → erased K s l ≡ []
-unfolding erased
-erased-none K s zero n = refl
-erased-none K s (suc b) n = fate-none b (fate (K .birth b) (predNum K s) (baseNum K s)) n
-
-pub erased-pos : (K : View) (s l : ℕ) → length (erased K s l) ≡ 1 → 0 < l
-unfolding erased
-erased-pos K s zero e = absurd (let z : ⊥ = omega arith in z)
-erased-pos K s (suc b) e = omega arith
+fate-few b freed = omega arith
+fate-few b marked = omega arith
+fate-few b kept = omega arith
 
 pub erased-few : (K : View) (s l : ℕ) → length (erased K s l) ≤ 1
-erased-few K s l = cases (same? (length (erased K s l)) 1) (λ e. omega arith) (λ n. omega (arith, ap length (erased-none K s l n)))
+unfolding erased
+erased-few K s zero = omega arith
+erased-few K s (suc b) = fate-few b (fate (K .birth b) (predNum K s) (baseNum K s))
 
 pub few-freed : (K : View) (s l f : ℕ) → f ≡ length (erased K s l) → f ≤ 1
 few-freed K s l f e = omega (arith, erased-few K s l)
@@ -130,56 +112,57 @@ one-enough K s l u m h = omega (arith, erased-few K s l)
 pub two-enough : (K : View) (s l m : ℕ) → 1 < m → 1 + length (erased K s l) ≤ m
 two-enough K s l m h = omega (arith, erased-few K s l)
 
-module _ {g : Geometry} {t : List ℕ} {s x : ℕ} (A : Target g t s x) (l f : ℕ) (e : l ≡ getD t (pageCell s x) 0)
-    (ef : f ≡ length (freesOf g t s x)) where
-  pub frees-one : f ≡ 1 → freesOf g t s x ≡ (l - 1) ∷ []
-  unfolding stateOf
-  frees-one i =
-      let p : viewOf g t .page s x ≡ l = Fields.page-is g t s x (A .slot) (A .page) ∙ sym e in
-      erased-one (viewOf g t) s (viewOf g t .page s x) (sym ef ∙ i) ∙ ap (λ k. (k - 1) ∷ []) p
+-- a kill that answers with block b freed it: it was on the page
+fate-told : (h : ℕ → ℕ) (c : ℕ) (f : Fate) (b v : ℕ) → killedOf h (freedOne c f) ≡ Freed b v → (c ≡ b) × (freedOne c f ≡ b ∷ []) × (v ≡ h b)
+unfolding freedOne killedOf
+fate-told h c freed b v e = let d : c ≡ b = cc in (d, ap (λ k. k ∷ []) d, cc)
+fate-told h c marked b v e = absurd (let z : _≡_ {A = ℕ} 0 1 = cc in omega arith)
+fate-told h c kept b v e = absurd (let z : _≡_ {A = ℕ} 0 1 = cc in omega arith)
 
-  pub frees-none : (f ≡ 1 → ⊥) → freesOf g t s x ≡ []
-  unfolding stateOf
-  frees-none i = erased-none (viewOf g t) s (viewOf g t .page s x) (λ d. i (ef ∙ d))
+freed-told : (h : ℕ → ℕ) (K : View) (s l b v : ℕ) → killedOf h (erased K s l) ≡ Freed b v →
+    (l ≡ suc b) × (erased K s l ≡ b ∷ []) × (v ≡ h b)
+unfolding erased killedOf
+freed-told h K s zero b v e = absurd (let z : _≡_ {A = ℕ} 0 1 = cc in omega arith)
+freed-told h K s (suc c) b v e = let q = fate-told h c (fate (K .birth c) (predNum K s) (baseNum K s)) b v e in (ap suc (q .0), q .1, q .2)
 
-  pub link-pos : f ≡ 1 → 0 < l
-  unfolding stateOf
-  link-pos i =
-      let p : viewOf g t .page s x ≡ l = Fields.page-is g t s x (A .slot) (A .page) ∙ sym e in
-      omega (arith, erased-pos (viewOf g t) s (viewOf g t .page s x) (sym ef ∙ i))
+-- one that answers with none freed none
+kept-told : (h : ℕ → ℕ) (l : List ℕ) → killedOf h l ≡ Kept → l ≡ []
+unfolding killedOf
+kept-told h [] e = refl
+kept-told h (b ∷ l) e = absurd (let z : _≡_ {A = ℕ} 0 1 = cc in omega arith)
 
-  -- the result
-  pub one-count : f ≡ 1 → 1 ≡ length (freesOf g t s x)
-  one-count i = sym (ap length (frees-one i))
+-- ── the action; k is what the kill of the page's block answered ──
 
-  pub one-out : f ≡ 1 → (out : List ℕ) → set out 0 (l - 1) ≡ sets out 0 (freesOf g t s x)
-  one-out i out = sym (ap (λ v. sets out 0 v) (frees-one i))
+module _ {g : Geometry} {t : List ℕ} {s x : ℕ} (A : Target g t s x) (k : Killed) (ek : k ≡ killedOf (viewOf g t .birth) (freesOf g t s x)) where
+  -- block b is freed, with birth v
+  module _ (b v : ℕ) (i : k ≡ Freed b v) where
+    told : (stateOf g t .view .page s x ≡ suc b) × (freesOf g t s x ≡ b ∷ []) × (v ≡ viewOf g t .birth b)
+    told = freed-told (viewOf g t .birth) (stateOf g t .view) s (stateOf g t .view .page s x) b v (sym ek ∙ i)
 
-  pub none-count : (f ≡ 1 → ⊥) → 0 ≡ length (freesOf g t s x)
-  none-count i = sym (ap length (frees-none i))
+    pub frees-one : freesOf g t s x ≡ b ∷ []
+    frees-one = told .1
 
-  pub none-out : (f ≡ 1 → ⊥) → (out : List ℕ) → out ≡ sets out 0 (freesOf g t s x)
-  none-out i out = sym (ap (λ v. sets out 0 v) (frees-none i))
+    pub freed-small : b < 2048
+    unfolding stateOf
+    freed-small = omega (arith, Ranges.page-in (A .ready) s (A .live) x b (told .0), A .ready .roomy .inside .blocks-most)
 
-  -- u: the tables with the page emptied
-  module _ (u : List ℕ) (eu : u ≡ stored g (emptied g t s x) t) where
-    -- nothing is freed
-    pub none-tables : (f ≡ 1 → ⊥) → u ≡ stored g (acted (stateOf g t) (doE s x) (length (map released (freesOf g t s x)))) t
-    unfolding acted emptied
-    none-tables i =
-        let k : stateOf g t .used ≡ stateOf g t .used + length (map released (freesOf g t s x)) = omega (arith, ap (λ v. length (map released v)) (frees-none i)) in
-        eu ∙ ap (λ k. stored g (withUsed (emptied g t s x) k) t) k
+    -- the result
+    pub one-paired : paired (viewOf g t .birth) (freesOf g t s x) ≡ b ∷ v ∷ []
+    unfolding paired
+    one-paired = ap (paired (viewOf g t .birth)) frees-one ∙ ap (λ w. b ∷ w ∷ []) (sym (told .2))
 
-    pub none-log : (f ≡ 1 → ⊥) → (log : List ℕ) → log ≡ writeAt log (8 * stateOf g t .used) (bytesOf (map released (freesOf g t s x)))
-    none-log i log =
-        sym (ap (λ v. writeAt log (8 * stateOf g t .used) (bytesOf (map released v))) (frees-none i) ∙ write-none log (8 * stateOf g t .used))
+    pub one-count : 2 ≡ 2 * length (freesOf g t s x)
+    one-count = sym (ap (λ l. 2 * length l) frees-one)
 
-    -- one block is freed
-    module _ (i : f ≡ 1) where
+    pub one-out : (out : List ℕ) → set (set out 0 b) 1 v ≡ sets out 0 (paired (viewOf g t .birth) (freesOf g t s x))
+    one-out out = sym (ap (sets out 0) one-paired)
+
+    -- u: the tables with the page emptied
+    module _ (u : List ℕ) (eu : u ≡ stored g (emptied g t s x) t) where
       pub one-room : (log : List ℕ) → length (freesOf g t s x) ≤ g .words - getD t 9 0 → LogLong g log →
           (9 < length u) × (getD u 9 0 < 8192) × (8 * getD u 9 0 + 8 ≤ length log)
-      one-room log h k =
-          let d = ap length (frees-one i) in
+      one-room log h long =
+          let d = ap length frees-one in
           let a = Killing.emptied-used A u eu in
           let m = A .ready .roomy .inside .words-most in
           (Killing.emptied-room A u eu, omega arith, omega arith)
@@ -188,16 +171,38 @@ module _ {g : Geometry} {t : List ℕ} {s x : ℕ} (A : Target g t s x) (l f : �
       unfolding acted emptied stateOf
       one-tables =
           let k : getD u 9 0 + 1 ≡ stateOf g t .used + length (map released (freesOf g t s x)) =
-          omega (arith, Killing.emptied-used A u eu, ap (λ v. length (map released v)) (frees-one i)) in
+          omega (arith, Killing.emptied-used A u eu, ap (λ v. length (map released v)) frees-one) in
           step-used g t (A .ready .roomy) (Killing.emptied-holds A u eu) (getD u 9 0 + 1) .is ∙ ap (λ k. stored g (withUsed (emptied g t s x) k) t) k
 
-      pub one-log : (b : ℕ) (log m : List ℕ) → b ≡ l - 1 → m ≡ writeAt log (8 * getD u 9 0) (bytesOf ((b * 16384 + 2) ∷ [])) →
+      pub one-log : (log m : List ℕ) → m ≡ writeAt log (8 * getD u 9 0) (bytesOf ((b * 16384 + 2) ∷ [])) →
           m ≡ writeAt log (8 * stateOf g t .used) (bytesOf (map released (freesOf g t s x)))
       unfolding stateOf
-      one-log b log m eb d =
-          d ∙ ap (λ k. writeAt log (8 * k) (bytesOf ((b * 16384 + 2) ∷ []))) (Killing.emptied-used A u eu) ∙
-          ap (λ k. writeAt log (8 * getD t 9 0) (bytesOf (released k ∷ []))) eb ∙
-          ap (λ v. writeAt log (8 * getD t 9 0) (bytesOf (map released v))) (sym (frees-one i))
+      one-log log m d =
+          d ∙ ap (λ k. writeAt log (8 * k) (bytesOf (released b ∷ []))) (Killing.emptied-used A u eu) ∙
+          ap (λ v. writeAt log (8 * getD t 9 0) (bytesOf (map released v))) (sym frees-one)
+
+  -- nothing is freed
+  module _ (i : k ≡ Kept) where
+    pub frees-none : freesOf g t s x ≡ []
+    frees-none = kept-told (viewOf g t .birth) (freesOf g t s x) (sym ek ∙ i)
+
+    pub none-count : 0 ≡ 2 * length (freesOf g t s x)
+    none-count = sym (ap (λ l. 2 * length l) frees-none)
+
+    pub none-out : (out : List ℕ) → out ≡ sets out 0 (paired (viewOf g t .birth) (freesOf g t s x))
+    unfolding paired
+    none-out out = sym (ap (λ l. sets out 0 (paired (viewOf g t .birth) l)) frees-none)
+
+    pub none-tables : (u : List ℕ) → u ≡ stored g (emptied g t s x) t →
+        u ≡ stored g (acted (stateOf g t) (doE s x) (length (map released (freesOf g t s x)))) t
+    unfolding acted emptied
+    none-tables u eu =
+        let k : stateOf g t .used ≡ stateOf g t .used + length (map released (freesOf g t s x)) = omega (arith, ap (λ v. length (map released v)) frees-none) in
+        eu ∙ ap (λ k. stored g (withUsed (emptied g t s x) k) t) k
+
+    pub none-log : (log : List ℕ) → log ≡ writeAt log (8 * stateOf g t .used) (bytesOf (map released (freesOf g t s x)))
+    none-log log =
+        sym (ap (λ v. writeAt log (8 * stateOf g t .used) (bytesOf (map released v))) frees-none ∙ write-none log (8 * stateOf g t .used))
 
 -- ── the call: a verdict and what it tells ──
 
@@ -231,11 +236,15 @@ module _ {g : Geometry} {t : List ℕ} (R : Ready g t) (n x s w : ℕ) (none : N
   frees-same : freesOf g t s w ≡ freesOf g t (slot (stateOf g t) n) x
   frees-same = ap (λ k. freesOf g t k w) (sym es) ∙ ap (freesOf g t (slot (stateOf g t) n)) ew
 
-  pub erase-out : (out m : List ℕ) (k : ℕ) → OutLong g out → k ≡ length (freesOf g t s w) → m ≡ sets out 0 (freesOf g t s w) →
+  pub erase-out : (out m : List ℕ) (k : ℕ) → OutLong g out → k ≡ 2 * length (freesOf g t s w) →
+      m ≡ sets out 0 (paired (viewOf g t .birth) (freesOf g t s w)) →
       (replyOf (Done k) m ≡ replied g t (Erase n x)) × (m ≡ outLeft g t out (Erase n x))
+  unfolding stateOf
   erase-out out m k long e d =
-      Answers.done-out g t (Erase n x) none k out m (e ∙ ap length frees-same)
-      (omega (arith, erased-few (stateOf g t .view) s (stateOf g t .view .page s w))) (d ∙ ap (λ v. sets out 0 v) frees-same)
+      let B : ℕ → ℕ = viewOf g t .birth in
+      let q : paired B (freesOf g t s w) ≡ result g (stateOf g t) (Erase n x) = ap (paired B) frees-same in
+      Answers.done-out g t (Erase n x) none k out m (e ∙ sym (paired-length B (freesOf g t s w)) ∙ ap length q)
+      (omega (arith, erased-few (stateOf g t .view) s (stateOf g t .view .page s w))) (d ∙ ap (sets out 0) q)
 
   pub erase-tables : (u : List ℕ) → u ≡ stored g (acted (stateOf g t) (doE s w) (length (map released (freesOf g t s w)))) t → u ≡ tablesLeft g t (Erase n x)
   erase-tables u d =

@@ -1,4 +1,4 @@
--- The kill of a page's block: each fate's stores leave the tables with the page emptied.
+-- The kill of a page's block: each fate's stores leave the tables with the page emptied, and what it answers.
 use mathlib.Core.Path.{_≡_, sym, ap, _∙_}
 use mathlib.Core.List.{List, [], _∷_, _++_}
 use Prim.Native.Nat.{ℕ, suc, _+_, _-_, _≤_, _<_}
@@ -33,7 +33,9 @@ use Rattle.tables.proofs.Lists.{count-said, length-joined, step-joined}
 use Rattle.tables.proofs.Reading.{reads-used}
 use Rattle.tables.proofs.Matches.{freed-is, kept-is}
 use Rattle.paging.specs.Target.{Target, freesOf}
-use Rattle.paging.specs.Kill.{deadOn, emptied}
+use Rattle.paging.specs.Kill.{killedOf, deadOn, emptied}
+use Rattle.paging.specs.declared.kill.Killed.{Killed}
+use Rattle.paging.specs.declared.kill.Killed.the-variants.{Freed, Kept}
 
 -- stored tables are as long as before
 pub stored-as-long : (g : Geometry) (U : State) (t w : List ℕ) → w ≡ stored g U t → length w ≡ length t
@@ -82,6 +84,10 @@ module _ {g : Geometry} {t : List ℕ} {s x : ℕ} (A : Target g t s x) where
         mark = S .mark;
       }
 
+  -- the answer when these blocks are freed
+  abbrev answer : List ℕ → Killed
+  answer l = killedOf (viewOf g t .birth) l
+
   module _ (l : ℕ) (e : l ≡ getD t (pageCell s x) 0) where
     link-is : stateOf g t .view .page s x ≡ l
     unfolding stateOf
@@ -90,18 +96,15 @@ module _ {g : Geometry} {t : List ℕ} {s x : ℕ} (A : Target g t s x) where
     pub link-le : l ≤ blocks g
     link-le = omega (arith, e, Ranges.page-cell-le (A .ready) s (A .live) x (A .page))
 
-    pub link-small : l ≤ 2048
-    link-small = omega (arith, link-le, A .ready .roomy .inside .blocks-most)
-
     pub emptied-none : l ≡ 0 → t ≡ stored g (emptied g t s x) t
     unfolding emptied erase eraseAt
     emptied-none z =
         holds-first (A .ready) .is ∙
         ap (λ k. stored g (withView (stateOf g t) (eraseAt (stateOf g t .view) s x k)) t) (sym (link-is ∙ z))
 
-    pub none-freed : l ≡ 0 → 0 ≡ length (freesOf g t s x)
-    unfolding erased
-    none-freed z = sym (ap (λ k. length (erased (stateOf g t .view) s k)) (link-is ∙ z))
+    pub none-answer : l ≡ 0 → Kept ≡ killedOf (viewOf g t .birth) (freesOf g t s x)
+    unfolding erased killedOf
+    none-answer z = sym (ap (λ k. answer (erased (stateOf g t .view) s k)) (link-is ∙ z))
 
     -- there is a block; v is its birth as it was read, p and q the numbers of the record's pred and base
     module _ (used : l ≡ 0 → ⊥) where
@@ -120,11 +123,11 @@ module _ {g : Geometry} {t : List ℕ} {s x : ℕ} (A : Target g t s x) where
           let k : suc (l - 1) ≡ stateOf g t .view .page s x = omega (arith, link-is) in
           ap killedBy (sym d) ∙ ap (λ k. withView (stateOf g t) (eraseAt (stateOf g t .view) s x k)) k
 
-      erased-as : (f : Fate) → itsFate ≡ f → length (freesOf g t s x) ≡ length (freedOne (l - 1) f)
+      answer-as : (f : Fate) → itsFate ≡ f → answer (freedOne (l - 1) f) ≡ answer (freesOf g t s x)
       unfolding erased
-      erased-as f d =
-          let k : stateOf g t .view .page s x ≡ suc (l - 1) = omega (arith, link-is) in
-          ap (λ k. length (erased (stateOf g t .view) s k)) k ∙ ap (λ f. length (freedOne (l - 1) f)) d
+      answer-as f d =
+          let k : suc (l - 1) ≡ stateOf g t .view .page s x = omega (arith, link-is) in
+          ap (λ f. answer (freedOne (l - 1) f)) (sym d) ∙ ap (λ k. answer (erased (stateOf g t .view) s k)) k
 
       emptied-page : Holds g t (withPage (stateOf g t) s x 0) (set t (pageCell s x) 0)
       emptied-page = step-page g t (A .ready .roomy) (holds-first (A .ready)) s x 0 (A .slot) (A .page)
@@ -151,9 +154,9 @@ module _ {g : Geometry} {t : List ℕ} {s x : ℕ} (A : Target g t s x) where
               eu ∙ step-freed g t (A .ready .roomy) emptied-page (l - 1) block-in .is ∙
               ap (λ U. stored g U t) (freed-is (stateOf g t) s x (l - 1) ∙ killed-as freed fate-is)
 
-          pub freed-count : 1 ≡ length (freesOf g t s x)
-          unfolding freedOne
-          freed-count = sym (erased-as freed fate-is)
+          pub freed-answer : Freed (l - 1) v ≡ killedOf (viewOf g t .birth) (freesOf g t s x)
+          unfolding freedOne killedOf stateOf
+          freed-answer = ap (Freed (l - 1)) (sym birth-is) ∙ answer-as freed fate-is
 
         module _ (old : v ≤ p) (q : ℕ) (eq : q ≡ baseNum (viewOf g t) s) where
           kept-fate : v ≤ q → itsFate ≡ kept
@@ -163,9 +166,9 @@ module _ {g : Geometry} {t : List ℕ} {s x : ℕ} (A : Target g t s x) where
           pub emptied-kept : v ≤ q → set t (pageCell s x) 0 ≡ stored g (emptied g t s x) t
           emptied-kept h = emptied-page .is ∙ ap (λ U. stored g U t) (kept-is (stateOf g t) s x (l - 1) ∙ killed-as kept (kept-fate h))
 
-          pub kept-count : v ≤ q → 0 ≡ length (freesOf g t s x)
-          unfolding freedOne
-          kept-count h = sym (erased-as kept (kept-fate h))
+          pub kept-answer : v ≤ q → Kept ≡ killedOf (viewOf g t .birth) (freesOf g t s x)
+          unfolding freedOne killedOf
+          kept-answer h = answer-as kept (kept-fate h)
 
           -- it joins the record's deadlist
           module _ (dies : q < v) where
@@ -173,9 +176,9 @@ module _ {g : Geometry} {t : List ℕ} {s x : ℕ} (A : Target g t s x) where
             unfolding stateOf
             marked-fate = fate-marked _ _ _ (omega (arith, birth-is)) (omega (arith, birth-is))
 
-            pub marked-count : 0 ≡ length (freesOf g t s x)
-            unfolding freedOne
-            marked-count = sym (erased-as marked marked-fate)
+            pub marked-answer : Kept ≡ killedOf (viewOf g t .birth) (freesOf g t s x)
+            unfolding freedOne killedOf
+            marked-answer = answer-as marked marked-fate
 
             abbrev list : List ℕ
             list = stateOf g t .view .list s

@@ -1,4 +1,4 @@
--- The record that a call names, and R: what stands on a page.
+-- The record that a call names, and R: what stands on a page, with its birth.
 use mathlib.Core.Path.{_≡_, refl, sym, ap, _∙_}
 use mathlib.Core.Bool.{Bool, true, false, cond, true≢false, false≢true}
 use mathlib.Core.List.{List, [], _∷_}
@@ -6,6 +6,7 @@ use Prim.Native.Nat.{ℕ, suc, pred, _-_, _≤_, _<_}
 use native.Mathlib.Omega.{arith}
 use lib.Dec.{eqb}
 use lib.ListN.{length, getD, set}
+use lib.Seq.{sets}
 use borrow.Author.Tests.{le-leb, lt-leb, eq-eqb, ne-eqb}
 use Rattle.answer.specs.Reply.{refused, replyOf}
 use Rattle.answer.specs.Refusal.{NoneHolds}
@@ -15,9 +16,10 @@ use Rattle.geometry.specs.Limits.{blocks}
 use Rattle.model.specs.declared.Call.the-variants.{Read}
 use Rattle.model.specs.Lists.{onPage}
 use Rattle.model.specs.Actions.{slotOf}
-use Rattle.model.specs.Calls.{slot, conditions}
+use Rattle.model.specs.Calls.{slot, conditions, result}
 use Rattle.model.specs.Held.{erased}
-use Rattle.model.specs.Layout.{openCell, pageCell, viewOf, stateOf}
+use Rattle.model.specs.Layout.{openCell, pageCell, birthCell, viewOf, stateOf}
+use Rattle.model.specs.Results.{paired}
 use Rattle.model.proofs.Fine.{Fine, slot-named}
 use Rattle.tables.specs.Ready.{Ready, OutLong}
 use Rattle.tables.specs.Outcome.{replied, outLeft}
@@ -106,16 +108,18 @@ module _ (g : Geometry) (t : List ℕ) (n x w : ℕ) (ew : w ≡ x) where
           Fields.page-is g t (l - 1) v (Ranges.slot-in R (l - 1) (named-live R n l e used)) (omega arith) ∙ sym eb
 
       pub read-empty : (out : List ℕ) → b ≡ 0 → (replyOf (Done 0) out ≡ replied g t (Read n x)) × (out ≡ outLeft g t out (Read n x))
-      unfolding onPage
+      unfolding onPage paired
       read-empty out z =
-          let r : onPage (stateOf g t .view .page (slot (stateOf g t) n) x) ≡ [] = ap onPage (on-page ∙ z) in
-          Answers.done-out g t (Read n x) read-none-holds 0 out out (sym (ap length r)) (omega arith) (sym (ap (λ l. lib.Seq.sets out 0 l) r))
+          let r : result g (stateOf g t) (Read n x) ≡ [] = ap (λ l. paired (stateOf g t .view .birth) (onPage l)) (on-page ∙ z) in
+          Answers.done-out g t (Read n x) read-none-holds 0 out out (sym (ap length r)) (omega arith) (sym (ap (sets out 0) r))
 
-      pub read-one : (out : List ℕ) → OutLong g out → (b ≡ 0 → ⊥) →
-          (replyOf (Done 1) (set out 0 (b - 1)) ≡ replied g t (Read n x)) × (set out 0 (b - 1) ≡ outLeft g t out (Read n x))
-      unfolding onPage
-      read-one out long nz =
+      -- there is a block; c is its birth as it was read
+      pub read-one : (c : ℕ) (out : List ℕ) → c ≡ getD t (birthCell (g .records) (b - 1)) 0 → OutLong g out → (b ≡ 0 → ⊥) →
+          (replyOf (Done 2) (set (set out 0 (b - 1)) 1 c) ≡ replied g t (Read n x)) × (set (set out 0 (b - 1)) 1 c ≡ outLeft g t out (Read n x))
+      unfolding onPage paired stateOf
+      read-one c out ec long nz =
           let d : b ≡ suc (b - 1) = omega arith in
-          let r : onPage (stateOf g t .view .page (slot (stateOf g t) n) x) ≡ (b - 1) ∷ [] = ap onPage (on-page ∙ d) in
-          Answers.done-out g t (Read n x) read-none-holds 1 out (set out 0 (b - 1)) (sym (ap length r)) (omega arith)
-          (sym (ap (λ l. lib.Seq.sets out 0 l) r))
+          let f : viewOf g t .birth (b - 1) ≡ c = Fields.birth-is g t (b - 1) (omega (arith, read-le)) ∙ sym ec in
+          let r : result g (stateOf g t) (Read n x) ≡ (b - 1) ∷ c ∷ [] =
+          ap (λ l. paired (viewOf g t .birth) (onPage l)) (on-page ∙ d) ∙ ap (λ k. (b - 1) ∷ k ∷ []) f in
+          Answers.done-out g t (Read n x) read-none-holds 2 out (set (set out 0 (b - 1)) 1 c) (sym (ap length r)) (omega arith) (sym (ap (sets out 0) r))

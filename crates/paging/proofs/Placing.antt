@@ -30,7 +30,7 @@ use Rattle.tables.proofs.Reading.{reads-counter, reads-writes}
 use Rattle.tables.proofs.Matches.{place-is}
 use Rattle.paging.specs.Target.{Target}
 use Rattle.paging.specs.Kill.{emptied}
-use Rattle.paging.specs.Place.{Storable, Spot, placed, filled}
+use Rattle.paging.specs.Place.{Storable, FreeAt, placed, filled}
 use Rattle.paging.proofs.Killing
 
 -- tables that hold a state can be stored into
@@ -102,7 +102,7 @@ turn-put {g} {t} k a o h r w m ec ew er em =
 
 -- ── all of it ──
 
-module _ {g : Geometry} {t : List ℕ} {s x a o : ℕ} (A : Target g t s x) (P : Spot g t a o) where
+module _ {g : Geometry} {t : List ℕ} {s x a o : ℕ} (A : Target g t s x) (P : FreeAt g t a o) where
   abbrev b : ℕ
   b = a * g .per + o
 

@@ -1,4 +1,4 @@
--- The search of a free block, on the lent tables.
+-- The search of a free block, on the lent tables, and what its answer tells.
 use mathlib.Core.Path.{_≡_, refl, sym, ap, ap₂, _∙_}
 use mathlib.Core.Bool.{Bool, cond}
 use mathlib.Core.List.{List}
@@ -10,7 +10,7 @@ use lib.Seq.{getD-take, getD-drop, length-take-le}
 use Rattle.geometry.specs.declared.Geometry.{Geometry}
 use Rattle.geometry.specs.Limits.{blocks}
 use Rattle.choice.specs.declared.Found.{Found}
-use Rattle.choice.specs.declared.Found.the-variants.{At}
+use Rattle.choice.specs.declared.Found.the-variants.{At, Nothing}
 use Rattle.choice.specs.Search.{orElse, firstFree, inArena, inArenas, chosen}
 use Rattle.choice.specs.Words.{freeIn, markIn, wordOf, Searchable}
 use Rattle.choice.proofs.Ranges.{block-inside}
@@ -20,6 +20,8 @@ use Rattle.model.specs.Calls.{found}
 use Rattle.model.specs.Layout.{freeWord, viewOf, stateOf}
 use Rattle.tables.specs.Ready.{Ready}
 use Rattle.tables.proofs.Fields
+use Rattle.paging.specs.Place.{spotOf}
+use Rattle.paging.specs.declared.place.Spot.the-variants as spot
 
 -- ── the choice depends on the blocks and marks of the store alone ──
 
@@ -89,11 +91,33 @@ module _ {g : Geometry} {t : List ℕ} (R : Ready g t) where
     kind-low = h;
   }
 
-  pub search-is : (r : Found) (c k v : ℕ) → c ≡ getD t 7 0 → k ≡ v →
-      r ≡ chosen (freeIn (take 64 (drop 64 t))) (markIn (take 16 (drop 16 t))) (g .arenas) (g .per) (c + k) → r ≡ found g (stateOf g t) v
-  unfolding found markIn
-  search-is r c k v e ek d =
-      d ∙ chosen-same (freeIn words) (available (stateOf g t .view)) (markIn marks) (stateOf g t .mark) (g .arenas) (g .per)
-      free-at mark-at (λ a l. omega (arith, mark-at a l, R .range .marks a)) (c + k) (R .roomy .inside .arenas-least) ∙
-      ap (λ f. chosen (available (stateOf g t .view)) (stateOf g t .mark) (g .arenas) (g .per) f)
-      (omega (arith, Fields.counter-is g t))
+  -- r is the choice, v the kind, n the number of the record that is written
+  module _ (r : Found) (c k v n : ℕ) (e : c ≡ getD t 7 0) (ek : k ≡ v)
+      (d : r ≡ chosen (freeIn (take 64 (drop 64 t))) (markIn (take 16 (drop 16 t))) (g .arenas) (g .per) (c + k)) where
+    found-is : r ≡ found g (stateOf g t) v
+    unfolding found markIn
+    found-is =
+        d ∙ chosen-same (freeIn words) (available (stateOf g t .view)) (markIn marks) (stateOf g t .mark) (g .arenas) (g .per)
+        free-at mark-at (λ a l. omega (arith, mark-at a l, R .range .marks a)) (c + k) (R .roomy .inside .arenas-least) ∙
+        ap (λ f. chosen (available (stateOf g t .view)) (stateOf g t .mark) (g .arenas) (g .per) f)
+        (omega (arith, Fields.counter-is g t))
+
+    pub search-at : (a o : ℕ) → r ≡ At a o → spot.At a o n ≡ spotOf n (found g (stateOf g t) v)
+    unfolding spotOf
+    search-at a o f = ap (spotOf n) (sym f ∙ found-is)
+
+    pub search-nothing : r ≡ Nothing → spot.Nothing ≡ spotOf n (found g (stateOf g t) v)
+    unfolding spotOf
+    search-nothing f = ap (spotOf n) (sym f ∙ found-is)
+
+-- ── what was found, told by the answer ──
+
+pub found-at : (n : ℕ) (f : Found) (a o v : ℕ) → spotOf n f ≡ spot.At a o v → (f ≡ At a o) × (v ≡ n)
+unfolding spotOf
+found-at n (At b p) a o v e = (cc, cc)
+found-at n Nothing a o v e = absurd (let z : _≡_ {A = ℕ} 0 1 = cc in omega arith)
+
+pub found-nothing : (n : ℕ) (f : Found) → spotOf n f ≡ spot.Nothing → f ≡ Nothing
+unfolding spotOf
+found-nothing n (At b p) e = absurd (let z : _≡_ {A = ℕ} 0 1 = cc in omega arith)
+found-nothing n Nothing e = refl

@@ -5,13 +5,16 @@ use Prim.Native.Nat.{ℕ, _+_, _*_, _≤_, _<_}
 use lib.ListN.{length}
 use Rattle.geometry.specs.declared.Geometry.{Geometry}
 use Rattle.geometry.specs.Limits.{blocks}
-use Rattle.choice.specs.declared.Found.the-variants.{At}
+use Rattle.choice.specs.declared.Found.{Found}
+use Rattle.choice.specs.declared.Found.the-variants.{At, Nothing}
 use Rattle.model.specs.State.{State, withView}
 use Rattle.model.specs.SoundStore.{MadeFor}
 use Rattle.model.specs.Effects.{place, write}
 use Rattle.model.specs.Calls.{given}
 use Rattle.model.specs.Layout.{viewOf, stateOf}
 use Rattle.tables.specs.Ready.{Roomy, FreeWords}
+use Rattle.paging.specs.declared.place.Spot.{Spot}
+use Rattle.paging.specs.declared.place.Spot.the-variants as spot
 
 -- tables with room, made for g, that say which blocks are free and no deadlist longer than there are pages: what single stores ask
 pub record Storable (g : Geometry) (t : List ℕ) : Type 0 where
@@ -21,11 +24,16 @@ pub record Storable (g : Geometry) (t : List ℕ) : Type 0 where
   pub short : (s : ℕ) → length (viewOf g t .list s) ≤ g .pages
 
 -- the block at offset o of arena a is free
-pub record Spot (g : Geometry) (t : List ℕ) (a o : ℕ) : Type 0 where
+pub record FreeAt (g : Geometry) (t : List ℕ) (a o : ℕ) : Type 0 where
   pub arena : a < g .arenas
   pub offset : o < g .per
   pub block : a * g .per + o < blocks g
   pub free : viewOf g t .birth (a * g .per + o) ≡ 0
+
+-- what was found, with the birth of a block that a write of record n is given
+unfoldable pub spotOf : ℕ → Found → Spot
+spotOf n (At a o) = spot.At a o n
+spotOf n Nothing = spot.Nothing
 
 -- the state T with block b on page x of the record in slot s
 unfoldable pub placed : State → ℕ → ℕ → ℕ → State

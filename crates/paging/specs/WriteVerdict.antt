@@ -1,4 +1,4 @@
--- What the verdict of a W says: the refusal that is replied, or that no condition holds, the slot of the record and the place of the block.
+-- What the verdict of a W says: the refusal that is replied, or that no condition holds, the slot of the record, the place of the block and its birth.
 use mathlib.Core.Path.{_≡_}
 use mathlib.Core.List.{List}
 use Prim.Native.Nat.{ℕ}
@@ -15,5 +15,5 @@ use Rattle.paging.specs.declared.write.Verdict.the-variants.{Refused, Ac
 
 abbrev pub Judged : Geometry → List ℕ → ℕ → ℕ → ℕ → Verdict → Type 0
 Judged g t n x k (Refused r) = replied g t (Write n x k) ≡ refused r
-Judged g t n x k (Accept s a o) =
-    NoneHolds (conditions g (stateOf g t) (Write n x k)) × (slot (stateOf g t) n ≡ s) × (found g (stateOf g t) k ≡ At a o)
+Judged g t n x k (Accept s a o birth) =
+    NoneHolds (conditions g (stateOf g t) (Write n x k)) × (slot (stateOf g t) n ≡ s) × (found g (stateOf g t) k ≡ At a o) × (birth ≡ n)

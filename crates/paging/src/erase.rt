@@ -9,18 +9,18 @@ ghost use Rattle.log.specs.Word.{writeAt, bytesOf, released};
 ghost use Rattle.model.specs.declared.Call.the-variants.{Erase};
 ghost use Rattle.model.specs.Actions.{doE};
 ghost use Rattle.model.specs.Calls.{acted};
-ghost use Rattle.model.specs.Layout.{stateOf, stored};
+ghost use Rattle.model.specs.Layout.{viewOf, stateOf, stored};
+ghost use Rattle.model.specs.Results.{paired};
 ghost use Rattle.tables.specs.Ready.{Ready, OutLong, LogLong};
 ghost use Rattle.tables.specs.Outcome.{replied, tablesLeft, logLeft, outLeft};
 ghost use Rattle.paging.specs.Target.{Target, freesOf};
 ghost use Rattle.paging.specs.EraseVerdict.{Judged};
+use crate::kill::Killed;
 use crate::kill::kill_on;
 use crate::words::log_one;
 use answer::Answer;
 use geometry::Geometry;
 use tables::cells::OPEN;
-use tables::cells::PAGES;
-use tables::cells::ROW;
 use tables::cells::USED;
 use tables::find::slot_of;
 use tables::find::wide;
@@ -57,7 +57,7 @@ fn erase_verdict(t: &[u32], g: Geometry, n: u32, page: u32) -> Verdict
     Verdict::Accept(s)
 }
 
-// Empties page x of the open record in slot s: a block that is freed goes into the log and the result.
+// Empties page x of the open record in slot s: a block that is freed goes into the log, and with its birth into the result.
 fn erase_page(
     g: Geometry,
     t: &mut [u32],
@@ -67,19 +67,19 @@ fn erase_page(
     x: usize,
 ) -> usize
     requires { ⌜ Target g (now t) s x × (length (freesOf g (now t) s x) ≤ g .words - getD (now t) 9 0) × LogLong g (now log) × OutLong g (now out) ⌝ }
-    ensures count { λ r. ⌜ r ≡ length (freesOf g (now (t .entry)) s x) ⌝ }
+    ensures count { λ r. ⌜ r ≡ 2 * length (freesOf g (now (t .entry)) s x) ⌝ }
     ensures tables { λ r. ⌜ now (t .exit) ≡ stored g (acted (stateOf g (now (t .entry))) (doE s x) (length (map released (freesOf g (now (t .entry)) s x)))) (now (t .entry)) ⌝ }
     ensures log { λ r. ⌜ now (log .exit) ≡ writeAt (now (log .entry)) (8 * stateOf g (now (t .entry)) .used) (bytesOf (map released (freesOf g (now (t .entry)) s x))) ⌝ }
-    ensures out { λ r. ⌜ now (out .exit) ≡ sets (now (out .entry)) 0 (freesOf g (now (t .entry)) s x) ⌝ }
+    ensures out { λ r. ⌜ now (out .exit) ≡ sets (now (out .entry)) 0 (paired (viewOf g (now (t .entry)) .birth) (freesOf g (now (t .entry)) s x)) ⌝ }
 {
-    let link = wide(t[PAGES + ROW * s + x]);
-    if kill_on(t, g, s, x) == 1 {
-        let b = link - 1;
-        log_one(t, log, (b * 16384 + 2) as u64);
-        out[0] = b as u32;
-        return 1;
-    }
-    0
+    let killed = kill_on(t, g, s, x);
+    let Killed::Freed(b, birth) = killed else {
+        return 0;
+    };
+    log_one(t, log, (b * 16384 + 2) as u64);
+    out[0] = b as u32;
+    out[1] = birth;
+    2
 }
 
 pub fn erase(

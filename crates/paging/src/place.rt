@@ -1,14 +1,16 @@
 // A free block goes on a page: its search, its birth, and the mark and the turn that it moves.
 ghost use mathlib.Core.Path.{_≡_};
 ghost use Prim.Native.Nat.{_+_, _*_, _<_, _≤_};
-ghost use lib.ListN.{length, getD};
+ghost use lib.ListN.{getD};
 ghost use Rattle.geometry.specs.Limits.{blocks};
 ghost use Rattle.choice.specs.declared.Found.the-variants.{At};
 ghost use Rattle.model.specs.Calls.{found, given};
 ghost use Rattle.model.specs.Layout.{viewOf, stateOf, stored};
 ghost use Rattle.tables.specs.Ready.{Ready};
 ghost use Rattle.paging.specs.Target.{Target, freesOf};
-ghost use Rattle.paging.specs.Place.{Storable, Spot, placed, filled};
+ghost use Rattle.paging.specs.Kill.{killedOf};
+ghost use Rattle.paging.specs.Place.{Storable, FreeAt, spotOf, placed, filled};
+use crate::kill::Killed;
 use crate::kill::kill_on;
 use choice::Found;
 use choice::Turn;
@@ -26,19 +28,29 @@ use tables::cells::ROW;
 use tables::cells::WRITES;
 use tables::find::wide;
 
-// The block that a write of the kind is given.
-pub fn search(t: &[u32], g: Geometry, kind: u32) -> Found
+// Where the block stands that a write is given, with its birth: an arena, an offset in it, and the number of the record that is written.
+pub enum Spot {
+    At(usize, usize, u32),
+    Nothing,
+}
+
+// The block that a write of the kind is given, and its birth: it is born in the open record of that number.
+pub fn search(t: &[u32], g: Geometry, number: u32, kind: u32) -> Spot
     requires { ⌜ Ready g (now t) × (kind ≤ 2) ⌝ }
-    ensures { λ r. ⌜ r ≡ found g (stateOf g (now (t .entry))) kind ⌝ }
+    ensures { λ r. ⌜ r ≡ spotOf number (found g (stateOf g (now (t .entry))) kind) ⌝ }
 {
-    choose(
+    let found = choose(
         &t[FREE..FREE + 64],
         &t[MARKS..MARKS + 16],
         g.arenas,
         g.per,
         wide(t[COUNTER]),
         wide(kind),
-    )
+    );
+    match found {
+        Found::At(a, o) => Spot::At(a, o, number),
+        Found::Nothing => Spot::Nothing,
+    }
 }
 
 // Block b, born in the record in slot s, goes on its empty page x.
@@ -70,14 +82,13 @@ fn turn_on(t: &mut [u32], g: Geometry, a: usize, o: usize)
 }
 
 // The block at offset o of arena a goes on page x of the record in slot s; the block that was there is killed.
-// How many blocks are freed: 1 or 0.
-pub fn fill_page(t: &mut [u32], g: Geometry, s: usize, x: usize, a: usize, o: usize) -> usize
-    requires { ⌜ Target g (now t) s x × Spot g (now t) a o ⌝ }
-    ensures count { λ r. ⌜ r ≡ length (freesOf g (now (t .entry)) s x) ⌝ }
+pub fn fill_page(t: &mut [u32], g: Geometry, s: usize, x: usize, a: usize, o: usize) -> Killed
+    requires { ⌜ Target g (now t) s x × FreeAt g (now t) a o ⌝ }
+    ensures freed { λ r. ⌜ r ≡ killedOf (viewOf g (now (t .entry)) .birth) (freesOf g (now (t .entry)) s x) ⌝ }
     ensures tables { λ r. ⌜ now (t .exit) ≡ stored g (filled g (now (t .entry)) s x a o) (now (t .entry)) ⌝ }
 {
-    let frees = kill_on(t, g, s, x);
+    let killed = kill_on(t, g, s, x);
     put_block(t, g, s, x, a * g.per + o);
     turn_on(t, g, a, o);
-    frees
+    killed
 }

@@ -1,4 +1,4 @@
-// R: the block on a page.
+// R: the block on a page, with its birth.
 ghost use mathlib.Core.Path.{_≡_};
 ghost use Rattle.answer.specs.Reply.{replyOf};
 ghost use Rattle.model.specs.declared.Call.the-variants.{Read};
@@ -8,6 +8,7 @@ use answer::Answer;
 use geometry::Geometry;
 use tables::cells::PAGES;
 use tables::cells::ROW;
+use tables::cells::ROWS;
 use tables::find::slot_of;
 use tables::find::wide;
 
@@ -23,10 +24,12 @@ pub fn read(g: Geometry, t: &[u32], out: &mut [u32], n: u32, page: u32) -> Answe
     if link == 0 {
         return Answer::Refused(8);
     }
-    let b = wide(t[PAGES + ROW * (link - 1) + wide(page)]);
-    if b == 0 {
+    let there = wide(t[PAGES + ROW * (link - 1) + wide(page)]);
+    if there == 0 {
         return Answer::Done(0);
     }
-    out[0] = (b - 1) as u32;
-    Answer::Done(1)
+    let b = there - 1;
+    out[0] = b as u32;
+    out[1] = t[PAGES + ROWS * g.records + b];
+    Answer::Done(2)
 }

@@ -10,31 +10,31 @@ ghost use Rattle.log.specs.Word.{writeAt, bytesOf, allocated, released};
 ghost use Rattle.model.specs.declared.Call.the-variants.{Write};
 ghost use Rattle.model.specs.Actions.{doW};
 ghost use Rattle.model.specs.Calls.{acted, given};
-ghost use Rattle.model.specs.Layout.{stateOf, stored};
+ghost use Rattle.model.specs.Layout.{viewOf, stateOf, stored};
+ghost use Rattle.model.specs.Results.{paired};
 ghost use Rattle.tables.specs.Ready.{Ready, OutLong, LogLong};
 ghost use Rattle.tables.specs.Outcome.{replied, tablesLeft, logLeft, outLeft};
 ghost use Rattle.paging.specs.Target.{Target, freesOf};
-ghost use Rattle.paging.specs.Place.{Spot};
+ghost use Rattle.paging.specs.Place.{FreeAt};
 ghost use Rattle.paging.specs.WriteVerdict.{Judged};
+use crate::kill::Killed;
+use crate::place::Spot;
 use crate::place::fill_page;
 use crate::place::search;
 use crate::words::log_one;
 use crate::words::log_two;
 use answer::Answer;
-use choice::Found;
 use geometry::Geometry;
 use tables::cells::OPEN;
-use tables::cells::PAGES;
-use tables::cells::ROW;
 use tables::cells::USED;
 use tables::find::slot_of;
 use tables::find::wide;
 use tables::links::frees_on;
 
-// What a write meets: a refusal, or the slot of its record and the place of its block.
+// What a write meets: a refusal, or the slot of its record, the place of its block and the block's birth.
 pub enum Verdict {
     Refused(u8),
-    Accept(usize, usize, usize),
+    Accept(usize, usize, usize, u32),
 }
 
 fn write_verdict(t: &[u32], g: Geometry, n: u32, page: u32, kind: u32) -> Verdict
@@ -55,22 +55,22 @@ fn write_verdict(t: &[u32], g: Geometry, n: u32, page: u32, kind: u32) -> Verdic
     if t[OPEN + s] == 0 {
         return Verdict::Refused(9);
     }
-    let found = search(t, g, kind);
-    let Found::At(a, o) = found else {
+    let spot = search(t, g, n, kind);
+    let Spot::At(a, o, birth) = spot else {
         return Verdict::Refused(13);
     };
     // Two words are enough: at most one block is freed.
     let unused = g.words - wide(t[USED]);
     if 1 < unused {
-        return Verdict::Accept(s, a, o);
+        return Verdict::Accept(s, a, o, birth);
     }
     if unused < 1 + frees_on(t, g, s, wide(page)) {
         return Verdict::Refused(14);
     }
-    Verdict::Accept(s, a, o)
+    Verdict::Accept(s, a, o, birth)
 }
 
-// The block at offset o of arena a goes on page x of the open record in slot s: into the log and the result, behind it the block freed.
+// The block at offset o of arena a, with its birth, goes on page x of the open record in slot s: into the log and the result, behind it the block freed.
 fn write_page(
     g: Geometry,
     t: &mut [u32],
@@ -80,25 +80,26 @@ fn write_page(
     x: usize,
     a: usize,
     o: usize,
+    birth: u32,
 ) -> usize
-    requires { ⌜ Target g (now t) s x × Spot g (now t) a o × (suc (length (freesOf g (now t) s x)) ≤ g .words - getD (now t) 9 0) × LogLong g (now log) × OutLong g (now out) ⌝ }
-    ensures count { λ r. ⌜ r ≡ suc (length (freesOf g (now (t .entry)) s x)) ⌝ }
+    requires { ⌜ Target g (now t) s x × FreeAt g (now t) a o × (suc (length (freesOf g (now t) s x)) ≤ g .words - getD (now t) 9 0) × LogLong g (now log) × OutLong g (now out) ⌝ }
+    ensures count { λ r. ⌜ r ≡ 2 + 2 * length (freesOf g (now (t .entry)) s x) ⌝ }
     ensures tables { λ r. ⌜ now (t .exit) ≡ stored g (given g (acted (stateOf g (now (t .entry))) (doW s x (a * g .per + o)) (suc (length (map released (freesOf g (now (t .entry)) s x))))) (At a o)) (now (t .entry)) ⌝ }
     ensures log { λ r. ⌜ now (log .exit) ≡ writeAt (now (log .entry)) (8 * stateOf g (now (t .entry)) .used) (bytesOf (allocated (a * g .per + o) ∷ map released (freesOf g (now (t .entry)) s x))) ⌝ }
-    ensures out { λ r. ⌜ now (out .exit) ≡ sets (now (out .entry)) 0 ((a * g .per + o) ∷ freesOf g (now (t .entry)) s x) ⌝ }
+    ensures out { λ r. ⌜ now (out .exit) ≡ sets (now (out .entry)) 0 ((a * g .per + o) ∷ birth ∷ paired (viewOf g (now (t .entry)) .birth) (freesOf g (now (t .entry)) s x)) ⌝ }
 {
-    let link = wide(t[PAGES + ROW * s + x]);
-    let frees = fill_page(t, g, s, x, a, o);
+    let killed = fill_page(t, g, s, x, a, o);
     let b = a * g.per + o;
     out[0] = b as u32;
-    if frees == 1 {
-        let old = link - 1;
-        log_two(t, log, (b * 16384 + 1) as u64, (old * 16384 + 2) as u64);
-        out[1] = old as u32;
+    out[1] = birth;
+    let Killed::Freed(old, was) = killed else {
+        log_one(t, log, (b * 16384 + 1) as u64);
         return 2;
-    }
-    log_one(t, log, (b * 16384 + 1) as u64);
-    1
+    };
+    log_two(t, log, (b * 16384 + 1) as u64, (old * 16384 + 2) as u64);
+    out[2] = old as u32;
+    out[3] = was;
+    4
 }
 
 pub fn write(
@@ -119,8 +120,8 @@ pub fn write(
     let verdict = write_verdict(t, g, n, page, kind);
     match verdict {
         Verdict::Refused(k) => Answer::Refused(k),
-        Verdict::Accept(s, a, o) => {
-            Answer::Done(write_page(g, t, log, out, s, wide(page), a, o))
+        Verdict::Accept(s, a, o, birth) => {
+            Answer::Done(write_page(g, t, log, out, s, wide(page), a, o, birth))
         }
     }
 }

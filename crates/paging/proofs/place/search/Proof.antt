@@ -1,4 +1,4 @@
--- The search, on the parts of the tables that it is lent.
+-- The choice, on the parts of the tables that it is lent; the birth is beside it.
 use native.Mathlib.Omega.{arith}
 use borrow.Author.Needs.{needs}
 use Rattle.paging.proofs.Searching
@@ -41,8 +41,30 @@ wide-requires-2 c κs = search needs
 choose-requires : tie.Need-choose-requires
 choose-requires c κs = Searching.search-fine (c .before .before .before .before .before .before .pre .0) _ _ (c .before .wide .ensures) (omega arith)
 
+enum-known-found : tie.Need-enum-known-found
+enum-known-found c = search needs
+
+enum-told : tie.Need-enum-told
+enum-told c = search needs
+
 returns : tie.Need-returns
-returns c = Searching.search-is (c .before .before .before .before .before .before .before .pre .0) _ _ _ _ (c .before .before .wide .ensures) (c .before .wide2 .ensures) (c .choose .ensures)
+returns c =
+    let at-found = c .before in
+    let at-choose = at-found .before .before in
+    let at-wide2 = at-choose .before in
+    let at-wide = at-wide2 .before in
+    let start = at-wide .before .before .before .before .before in
+    Searching.search-at (start .pre .0) _ _ _ _ _ (at-wide .wide .ensures) (at-wide2 .wide2 .ensures) (at-choose .choose .ensures) _ _
+    (at-found .found .given .1)
+
+returns-2 : tie.Need-returns-2
+returns-2 c =
+    let at-choose = c .before .before in
+    let at-wide2 = at-choose .before in
+    let at-wide = at-wide2 .before in
+    let start = at-wide .before .before .before .before .before in
+    Searching.search-nothing (start .pre .0) _ _ _ _ _ (at-wide .wide .ensures) (at-wide2 .wide2 .ensures) (at-choose .choose .ensures)
+    (c .enum-told .given .1)
 
 pub search-spec : {M : Type 1} → statement M
 search-spec =
@@ -60,4 +82,7 @@ search-spec =
     wide-requires
     wide-requires-2
     choose-requires
-    returns)
+    enum-known-found
+    enum-told
+    returns
+    returns-2)

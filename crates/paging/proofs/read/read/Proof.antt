@@ -1,6 +1,8 @@
--- R: two refusals, an empty page, a block.
+-- R: two refusals, an empty page, a block with its birth.
 use native.Mathlib.Omega.{arith}
 use borrow.Author.Needs.{needs}
+use mathlib.Core.Path.{refl}
+use lib.ListN.{length-set}
 use Rattle.paging.proofs.Answers
 use Rattle.paging.proofs.Looking
 use Rattle.paging.proofs.read.read.Statement.{statement}
@@ -52,8 +54,8 @@ returns-3 c =
     let start = at-wide .before .before .before in
     Looking.read-empty _ _ _ _ _ (at-wide .wide .ensures) (start .pre .0) _ (at-if1 .if1 .left) (at-slot-of .slot-of .ensures .0) (at-if2 .if2 .left) _ _ (at-wide2 .wide2 .ensures) (c .before .wide3 .ensures) _ (c .if3 .taken)
 
-sub-out : tie.Need-sub-out
-sub-out c = search needs
+sub-b : tie.Need-sub-b
+sub-b c = search needs
 
 cast-out : tie.Need-cast-out
 cast-out c =
@@ -63,23 +65,82 @@ cast-out c =
     let at-if1 = at-slot-of .before in
     let at-wide = at-if1 .before .before in
     let start = at-wide .before .before .before in
-    omega (arith, Looking.read-le _ _ _ _ _ (at-wide .wide .ensures) (start .pre .0) _ (at-if1 .if1 .left) (at-slot-of .slot-of .ensures .0) (at-if2 .if2 .left) _ _ (at-wide2 .wide2 .ensures) (c .before .wide3 .ensures))
+    omega (
+      arith,
+      Looking.read-le _ _ _ _ _ (at-wide .wide .ensures) (start .pre .0) _ (at-if1 .if1 .left) (at-slot-of .slot-of .ensures .0)
+          (at-if2 .if2 .left) _ _ (at-wide2 .wide2 .ensures) (c .before .wide3 .ensures),
+    )
 
 slice-write-out : tie.Need-slice-write-out
 slice-write-out c = search needs
+
+mul-out : tie.Need-mul-out
+mul-out c = search needs
+
+add-out : tie.Need-add-out
+add-out c = search needs
+
+add-out-2 : tie.Need-add-out-2
+add-out-2 c =
+    let at-wide2 = c .before .before .before .before in
+    let at-if2 = at-wide2 .before in
+    let at-slot-of = at-if2 .before in
+    let at-if1 = at-slot-of .before in
+    let at-wide = at-if1 .before .before in
+    let start = at-wide .before .before .before in
+    omega (
+      arith,
+      Looking.read-le _ _ _ _ _ (at-wide .wide .ensures) (start .pre .0) _ (at-if1 .if1 .left) (at-slot-of .slot-of .ensures .0)
+          (at-if2 .if2 .left) _ _ (at-wide2 .wide2 .ensures) (c .before .before .wide3 .ensures),
+    )
+
+mul-out-2 : tie.Need-mul-out-2
+mul-out-2 c =
+    let at-wide2 = c .before .before .before .before in
+    let at-if2 = at-wide2 .before in
+    let at-slot-of = at-if2 .before in
+    let at-if1 = at-slot-of .before in
+    let at-wide = at-if1 .before .before in
+    let start = at-wide .before .before .before in
+    omega (
+      arith,
+      Looking.read-le _ _ _ _ _ (at-wide .wide .ensures) (start .pre .0) _ (at-if1 .if1 .left) (at-slot-of .slot-of .ensures .0)
+          (at-if2 .if2 .left) _ _ (at-wide2 .wide2 .ensures) (c .before .before .wide3 .ensures),
+    )
+
+shared-slice-read-out : tie.Need-shared-slice-read-out
+shared-slice-read-out c =
+    let at-wide2 = c .before .before .before .before .before in
+    let at-if2 = at-wide2 .before in
+    let at-slot-of = at-if2 .before in
+    let at-if1 = at-slot-of .before in
+    let at-wide = at-if1 .before .before in
+    let start = at-wide .before .before .before in
+    omega (
+      arith,
+      Looking.read-le _ _ _ _ _ (at-wide .wide .ensures) (start .pre .0) _ (at-if1 .if1 .left) (at-slot-of .slot-of .ensures .0)
+          (at-if2 .if2 .left) _ _ (at-wide2 .wide2 .ensures) (c .before .before .before .wide3 .ensures),
+    )
+
+slice-write-out-2 : tie.Need-slice-write-out-2
+slice-write-out-2 c =
+    let at-wide = c .before .before .before .before .before .before .before .before .before .before in
+    let start = at-wide .before .before .before in
+    simp length-set (omega (arith, start .pre .1))
 
 same-length : tie.Need-same-length
 same-length c = search needs
 
 returns-4 : tie.Need-returns-4
 returns-4 c =
-    let at-wide2 = c .before .before .before in
+    let at-wide2 = c .before .before .before .before .before in
     let at-if2 = at-wide2 .before in
     let at-slot-of = at-if2 .before in
     let at-if1 = at-slot-of .before in
     let at-wide = at-if1 .before .before in
     let start = at-wide .before .before .before in
-    Looking.read-one _ _ _ _ _ (at-wide .wide .ensures) (start .pre .0) _ (at-if1 .if1 .left) (at-slot-of .slot-of .ensures .0) (at-if2 .if2 .left) _ _ (at-wide2 .wide2 .ensures) (c .before .wide3 .ensures) _ (start .pre .1) (c .if3 .left)
+    Looking.read-one _ _ _ _ _ (at-wide .wide .ensures) (start .pre .0) _ (at-if1 .if1 .left) (at-slot-of .slot-of .ensures .0) (at-if2 .if2 .left) _ _
+    (at-wide2 .wide2 .ensures) (c .before .before .before .wide3 .ensures) _ _ refl (start .pre .1) (c .before .before .if3 .left)
 
 pub read-spec : {M : Type 1} → statement M
 read-spec =
@@ -98,8 +159,14 @@ read-spec =
     shared-slice-read-wide
     wide-requires-3
     returns-3
-    sub-out
+    sub-b
     cast-out
     slice-write-out
+    mul-out
+    add-out
+    add-out-2
+    mul-out-2
+    shared-slice-read-out
+    slice-write-out-2
     same-length
     returns-4)

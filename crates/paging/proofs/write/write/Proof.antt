@@ -18,8 +18,19 @@ wide-requires : tie.Need-wide-requires
 wide-requires c κs = search needs
 
 write-page-requires : tie.Need-write-page-requires
-write-page-requires c κs = let j = Giving.judged-accept _ _ _ _ _ _ _ _ _ (c .before .before .before .before .before .before .before .write-verdict .ensures) (c .before .before .before .before .before .verdict2 .given .1) in let R = c .before .before .before .before .before .before .before .before .before .before .before .before .pre .0 in let w = c .wide .ensures in
-    (Giving.write-target R _ _ _ _ _ _ _ j w, Giving.write-spot R _ _ _ _ _ _ _ j w, Giving.write-fits R _ _ _ _ _ _ _ j w, c .before .before .before .before .before .before .before .before .before .before .before .before .pre .1, c .before .before .before .before .before .before .before .before .before .before .before .before .pre .2)
+write-page-requires c κs =
+    let at-verdict2 = c .before .before .before .before .before in
+    let at-write-verdict = at-verdict2 .before .before in
+    let start = at-write-verdict .before .before .before .before .before in
+    let j = Giving.judged-accept _ _ _ _ _ _ _ _ _ _ (at-write-verdict .write-verdict .ensures) (at-verdict2 .verdict2 .given .1) in
+    let R = start .pre .0 in
+    let w = c .wide .ensures in (
+      Giving.write-target R _ _ _ _ _ _ _ _ j w,
+      Giving.write-spot R _ _ _ _ _ _ _ _ j w,
+      Giving.write-fits R _ _ _ _ _ _ _ _ j w,
+      start .pre .1,
+      start .pre .2,
+    )
 
 same-length : tie.Need-same-length
 same-length c = search needs
@@ -45,12 +56,12 @@ returns-2 c =
     let at-verdict2 = at-wide .before .before .before .before .before in
     let at-write-verdict = at-verdict2 .before .before in
     let start = at-write-verdict .before .before .before .before .before in
-    let j = Giving.judged-accept _ _ _ _ _ _ _ _ _ (at-write-verdict .write-verdict .ensures) (at-verdict2 .verdict2 .given .1) in
+    let j = Giving.judged-accept _ _ _ _ _ _ _ _ _ _ (at-write-verdict .write-verdict .ensures) (at-verdict2 .verdict2 .given .1) in
     let R = start .pre .0 in
     let w = at-wide .wide .ensures in
     let p = at-write-page .write-page .ensures in
-    let o = Giving.write-out R _ _ _ _ _ _ _ j w (start .args .out .now) _ _ (start .pre .2) (p .0) (p .1 .1 .1) in
-    (o .0, (Giving.write-tables R _ _ _ _ _ _ _ j w _ (p .1 .0), (Giving.write-log R _ _ _ _ _ _ _ j w (start .args .log .now) _ (p .1 .1 .0), o .1)))
+    let o = Giving.write-out R _ _ _ _ _ _ _ _ j w (start .args .out .now) _ _ (start .pre .2) (p .0) (p .1 .1 .1) in
+    (o .0, (Giving.write-tables R _ _ _ _ _ _ _ _ j w _ (p .1 .0), (Giving.write-log R _ _ _ _ _ _ _ _ j w (start .args .log .now) _ (p .1 .1 .0), o .1)))
 
 pub write-spec : {M : Type 1} → statement M
 write-spec =

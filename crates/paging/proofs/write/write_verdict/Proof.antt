@@ -1,4 +1,4 @@
--- The refusals of W in their order, or the slot and the place of the block.
+-- The refusals of W in their order, or the slot, the place of the block and its birth.
 use native.Mathlib.Omega.{arith}
 use borrow.Author.Needs.{needs}
 use mathlib.Core.Path.{refl}
@@ -41,8 +41,8 @@ returns-4 c = Giving.write-9 _ _ _ _ _ _ (c .before .before .before .before .bef
 search-requires : tie.Need-search-requires
 search-requires c κs = search needs
 
-enum-known-found : tie.Need-enum-known-found
-enum-known-found c = search needs
+enum-known-spot : tie.Need-enum-known-spot
+enum-known-spot c = search needs
 
 enum-told : tie.Need-enum-told
 enum-told c = search needs
@@ -57,7 +57,9 @@ returns-5 c =
     let at-if1 = at-if2 .before in
     let at-wide = at-if1 .before .before in
     let start = at-wide .before .before in
-    Giving.write-13 _ _ _ _ _ _ (at-wide .wide .ensures) (at-if1 .if1 .left) (at-if2 .if2 .left) _ (at-slot-of .slot-of .ensures .0) (start .pre) (at-if3 .if3 .left) (at-if4 .if4 .left) _ (at-search .search .ensures) (c .enum-told .given .1)
+    Giving.write-13 _ _ _ _ _ _ (at-wide .wide .ensures) (at-if1 .if1 .left) (at-if2 .if2 .left) _ (at-slot-of .slot-of .ensures .0) (start .pre)
+    (at-if3 .if3 .left) (at-if4 .if4 .left) _
+    (at-search .search .ensures) (c .enum-told .given .1)
 
 shared-slice-read-wide : tie.Need-shared-slice-read-wide
 shared-slice-read-wide c = search needs
@@ -71,8 +73,8 @@ sub-unused c = omega (arith, Looking.used-le (c .before .before .before .before 
 returns-6 : tie.Need-returns-6
 returns-6 c =
     let at-wide2 = c .before .before in
-    let at-found = at-wide2 .before .before .before in
-    let at-search = at-found .before .before in
+    let at-spot = at-wide2 .before .before .before in
+    let at-search = at-spot .before .before in
     let at-if4 = at-search .before in
     let at-if3 = at-if4 .before .before in
     let at-slot-of = at-if3 .before in
@@ -80,7 +82,9 @@ returns-6 c =
     let at-if1 = at-if2 .before in
     let at-wide = at-if1 .before .before in
     let start = at-wide .before .before in
-    Giving.write-accepts _ _ _ _ _ _ (at-wide .wide .ensures) (at-if1 .if1 .left) (at-if2 .if2 .left) _ (at-slot-of .slot-of .ensures .0) (start .pre) (at-if3 .if3 .left) (at-if4 .if4 .left) _ (at-search .search .ensures) _ _ (at-found .found .given .1) _ _ _ (at-wide2 .wide2 .ensures) refl refl (Erasing.two-enough _ _ _ _ (c .if5 .taken))
+    Giving.write-accepts _ _ _ _ _ _ (at-wide .wide .ensures) (at-if1 .if1 .left) (at-if2 .if2 .left) _ (at-slot-of .slot-of .ensures .0) (start .pre)
+    (at-if3 .if3 .left) (at-if4 .if4 .left) _ (at-search .search .ensures) _ _ _ (at-spot .spot .given .1) _ _ _
+    (at-wide2 .wide2 .ensures) refl refl (Erasing.two-enough _ _ _ _ (c .if5 .taken))
 
 wide-requires-3 : tie.Need-wide-requires-3
 wide-requires-3 c κs = search needs
@@ -101,8 +105,8 @@ returns-7 : tie.Need-returns-7
 returns-7 c =
     let at-wide3 = c .before .before in
     let at-wide2 = at-wide3 .before .before .before in
-    let at-found = at-wide2 .before .before .before in
-    let at-search = at-found .before .before in
+    let at-spot = at-wide2 .before .before .before in
+    let at-search = at-spot .before .before in
     let at-if4 = at-search .before in
     let at-if3 = at-if4 .before .before in
     let at-slot-of = at-if3 .before in
@@ -110,14 +114,16 @@ returns-7 c =
     let at-if1 = at-if2 .before in
     let at-wide = at-if1 .before .before in
     let start = at-wide .before .before in
-    Giving.write-14 _ _ _ _ _ _ (at-wide .wide .ensures) (at-if1 .if1 .left) (at-if2 .if2 .left) _ (at-slot-of .slot-of .ensures .0) (start .pre) (at-if3 .if3 .left) (at-if4 .if4 .left) _ (at-search .search .ensures) _ _ (at-found .found .given .1) _ _ _ (at-wide2 .wide2 .ensures) (at-wide3 .wide3 .ensures) (c .before .frees-on .ensures) (c .if6 .taken)
+    Giving.write-14 _ _ _ _ _ _ (at-wide .wide .ensures) (at-if1 .if1 .left) (at-if2 .if2 .left) _ (at-slot-of .slot-of .ensures .0) (start .pre)
+    (at-if3 .if3 .left) (at-if4 .if4 .left) _ (at-search .search .ensures) _ _ _ (at-spot .spot .given .1) _ _ _
+    (at-wide2 .wide2 .ensures) (at-wide3 .wide3 .ensures) (c .before .frees-on .ensures) (c .if6 .taken)
 
 returns-8 : tie.Need-returns-8
 returns-8 c =
     let at-wide3 = c .before .before in
     let at-wide2 = at-wide3 .before .before .before in
-    let at-found = at-wide2 .before .before .before in
-    let at-search = at-found .before .before in
+    let at-spot = at-wide2 .before .before .before in
+    let at-search = at-spot .before .before in
     let at-if4 = at-search .before in
     let at-if3 = at-if4 .before .before in
     let at-slot-of = at-if3 .before in
@@ -125,7 +131,9 @@ returns-8 c =
     let at-if1 = at-if2 .before in
     let at-wide = at-if1 .before .before in
     let start = at-wide .before .before in
-    Giving.write-accepts _ _ _ _ _ _ (at-wide .wide .ensures) (at-if1 .if1 .left) (at-if2 .if2 .left) _ (at-slot-of .slot-of .ensures .0) (start .pre) (at-if3 .if3 .left) (at-if4 .if4 .left) _ (at-search .search .ensures) _ _ (at-found .found .given .1) _ _ _ (at-wide2 .wide2 .ensures) (at-wide3 .wide3 .ensures) (c .before .frees-on .ensures) (c .if6 .left)
+    Giving.write-accepts _ _ _ _ _ _ (at-wide .wide .ensures) (at-if1 .if1 .left) (at-if2 .if2 .left) _ (at-slot-of .slot-of .ensures .0) (start .pre)
+    (at-if3 .if3 .left) (at-if4 .if4 .left) _ (at-search .search .ensures) _ _ _ (at-spot .spot .given .1) _ _ _
+    (at-wide2 .wide2 .ensures) (at-wide3 .wide3 .ensures) (c .before .frees-on .ensures) (c .if6 .left)
 
 pub write-verdict-spec : {M : Type 1} → statement M
 write-verdict-spec =
@@ -142,7 +150,7 @@ write-verdict-spec =
     shared-slice-read-if4
     returns-4
     search-requires
-    enum-known-found
+    enum-known-spot
     enum-told
     returns-5
     shared-slice-read-wide
