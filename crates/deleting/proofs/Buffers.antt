@@ -32,6 +32,9 @@ get-in (c ∷ m) o j (suc i) h l =
     ap (λ k. getD (sets (set o j c) (suc j) m) k 0) (let z : j + suc i ≡ suc j + i = omega arith in z) ∙
     get-in m (set o j c) (suc j) i (omega arith) (omega (arith, length-set o j c))
 
+pub get-first : (m o : List ℕ) (k : ℕ) → k < length m → k < length o → getD (sets o 0 m) k 0 ≡ getD m k 0
+get-first m o k h l = ap (λ j. getD (sets o 0 m) j 0) (let z : k ≡ 0 + k = omega arith in z) ∙ get-in m o 0 k h (omega arith)
+
 -- one list behind another, and one more number
 pub sets-append : (l o m : List ℕ) (j : ℕ) → sets (sets o j l) (j + length l) m ≡ sets o j (l ++ m)
 sets-append [] o m j = ap (λ k. sets o k m) (let z : j + 0 ≡ j = omega arith in z)

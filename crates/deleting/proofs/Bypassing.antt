@@ -32,7 +32,7 @@ use Rattle.tables.proofs.Steps.{Holds, holds-as, holds-first, step-prev}
 use Rattle.tables.proofs.Lists.{step-list, rest-said}
 use Rattle.tables.proofs.Reading.{reads-prev}
 use Rattle.deleting.specs.Stages.{younger, older, bypassed}
-use Rattle.deleting.proofs.Buffers.{get-before, get-behind, get-in, sets-append, sets-over, take-sets}
+use Rattle.deleting.proofs.Buffers.{get-before, get-behind, get-in, get-first, sets-append, sets-over, take-sets}
 use Rattle.deleting.proofs.Sifting.{length-sorted}
 use Rattle.deleting.proofs.Parting.{parts, freed-is}
 use Rattle.deleting.proofs.Joining.{row-apart}
@@ -168,8 +168,7 @@ module _ {g : Geometry} {t₀ : List ℕ} (R : Ready g t₀) (s n : ℕ) (asks :
         pub sort-below : (k : ℕ) → k < count → getD o₁ k 0 < blocks g
         sort-below k h =
             let m : k < length Y = omega arith in
-            let e : getD o₁ k 0 ≡ getD Y k 0 =
-            ap (λ (u : List ℕ). getD u k 0) eo ∙ ap (λ j. getD (sets o₀ 0 Y) j 0) (let z : k ≡ 0 + k = omega arith in z) ∙ get-in Y o₀ 0 k m (omega arith) in
+            let e : getD o₁ k 0 ≡ getD Y k 0 = ap (λ (u : List ℕ). getD u k 0) eo ∙ get-first Y o₀ k m (omega arith) in
             rw e (Ranges.entry-in R n (getD Y k 0) (of-keep (λ b. ltb p (K .birth b)) (getD Y k 0) (K .list n) (Ranges.in-getD Y k m) .0))
 
         pub sort-out : (o₂ : List ℕ) → o₂ ≡ sets o₁ 0 (sortedOnto (viewOf g t₁ .birth) [] (take count o₁)) → o₂ ≡ sets o₀ 0 (unlinked (viewOf g t₀) s n)

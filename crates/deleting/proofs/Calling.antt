@@ -19,6 +19,7 @@ use Rattle.model.specs.View.{View, predNum}
 use Rattle.model.specs.Effects.{unlinked, youngAt, pruned}
 use Rattle.model.specs.Actions.{slotOf, follower, forked, doD, Asks, deleteAt, delete}
 use Rattle.model.specs.Held.{heldCount, deleted, frees}
+use Rattle.model.specs.Results.{paired}
 use Rattle.model.specs.State.{State, withView, withUsed}
 use Rattle.model.specs.Calls.{slot, short, conditions, result, written, acted, effect}
 use Rattle.model.specs.Layout.{viewOf, stateOf, headerNumber, stored}
@@ -38,7 +39,7 @@ use Rattle.deleting.specs.Stages.{bypassed, unhooked}
 use Rattle.deleting.specs.Verdict.{verdictOf}
 use Rattle.deleting.specs.declared.delete.Verdict.{Verdict}
 use Rattle.deleting.specs.declared.delete.Verdict.the-variants.{Accept}
-use Rattle.deleting.proofs.Buffers.{take-sets}
+use Rattle.deleting.proofs.Pairing.{firsts, take-paired, firsts-paired}
 use Rattle.deleting.proofs.Parting.{unlinked-short}
 use Rattle.deleting.proofs.Logging.{freed, map-length}
 use Rattle.deleting.proofs.Verdicts.{ready-fine, acceptance}
@@ -148,7 +149,7 @@ module _ (g : Geometry) (t : List ℕ) (R : Ready g t) (r : ℕ) (v : Verdict) (
         Fields.blocks-is g t,
       )
 
-  pub accept-out : (out : List ℕ) → OutLong g out → length (deleted (viewOf g t) s f) ≤ length out
+  pub accept-out : (out : List ℕ) → OutLong g out → 2 * length (deleted (viewOf g t) s f) ≤ length out
   accept-out out h = omega (arith, frees-few)
 
   -- the words that are written
@@ -163,10 +164,18 @@ module _ (g : Geometry) (t : List ℕ) (R : Ready g t) (r : ℕ) (v : Verdict) (
   accept-words =
       omega (arith, ltb-false (g .words - T .used) (length (written g T (Delete r))) (told .2), words-are, R .range .used)
 
-  pub accept-reply : replied g t (Delete r) ≡ accepted (deleted (viewOf g t) s f)
+  -- what the result is
+  abbrev numbers : List ℕ
+  numbers = paired (K .birth) (deleted K s f)
+
+  result-is : result g T (Delete r) ≡ numbers
+  unfolding stateOf
+  result-is = ap (paired (K .birth)) frees-are
+
+  pub accept-reply : replied g t (Delete r) ≡ accepted (paired (viewOf g t .birth) (deleted (viewOf g t) s f))
   unfolding replied
   accept-reply =
-      decide-accepts (conditions g T (Delete r)) (result g T (Delete r)) (told .0, (told .1, (told .2, tt))) ∙ ap accepted frees-are
+      decide-accepts (conditions g T (Delete r)) (result g T (Delete r)) (told .0, (told .1, (told .2, tt))) ∙ ap accepted result-is
 
   -- the tables when the record is deleted
   module _ (t₁ : List ℕ) (e₁ : t₁ ≡ stored g (withView (stateOf g t) (deleteAt (viewOf g t) s f)) t) where
@@ -196,7 +205,7 @@ module _ (g : Geometry) (t : List ℕ) (R : Ready g t) (r : ℕ) (v : Verdict) (
           };
         }
 
-    -- n blocks are freed, and out₁ lists them
+    -- n blocks are freed, and out₁ lists them with their births
     module _ (n : ℕ) (en : n ≡ length (deleted (viewOf g t) s f)) where
       acted-is : withUsed (withView T (delete K s)) (T .used + n) ≡ effect g T (Delete r)
       unfolding acted stateOf
@@ -210,22 +219,25 @@ module _ (g : Geometry) (t : List ℕ) (R : Ready g t) (r : ℕ) (v : Verdict) (
           ap (λ u. set t₁ 9 (u + n)) accept-used ∙ step-used g t (R .roomy) held (T .used + n) .is ∙
           rw accept-reply (ap (λ U. stored g U t) acted-is)
 
-      module _ (out : List ℕ) (long : OutLong g out) (out₁ : List ℕ) (eo : out₁ ≡ sets out 0 (deleted (viewOf g t) s f)) where
-        listed : take n out₁ ≡ deleted K s f
-        listed = ap (take n) eo ∙ take-sets out (deleted K s f) n en (accept-out out long)
+      module _ (out : List ℕ) (long : OutLong g out) (out₁ : List ℕ)
+          (eo : out₁ ≡ sets out 0 (paired (viewOf g t .birth) (deleted (viewOf g t) s f))) where
+        pub accept-room : 2 * n ≤ length out₁
+        accept-room = omega (arith, ap length eo, length-sets out 0 numbers, accept-out out long)
 
-        pub accept-room : n ≤ length out₁
-        accept-room = omega (arith, ap length eo, length-sets out 0 (deleted K s f), accept-out out long)
-
-        pub accept-done : replyOf (Done n) out₁ ≡ replied g t (Delete r)
+        pub accept-done : replyOf (Done (2 * n)) out₁ ≡ replied g t (Delete r)
         unfolding replyOf
-        accept-done = ap accepted listed ∙ sym accept-reply
+        accept-done =
+            ap (λ (u : List ℕ). accepted (take (2 * n) u)) eo ∙ ap accepted (take-paired (K .birth) out (deleted K s f) (accept-out out long) n en) ∙
+            sym accept-reply
 
         pub accept-left : out₁ ≡ outLeft g t out (Delete r)
         unfolding outLeft
-        accept-left = eo ∙ rw accept-reply (ap (sets out 0) (sym frees-are))
+        accept-left = eo ∙ rw accept-reply (ap (sets out 0) (sym result-is))
+
+        blocks-are : firsts n out₁ ≡ deleted K s f
+        blocks-are = ap (firsts n) eo ∙ firsts-paired (K .birth) out (deleted K s f) (accept-out out long) n en
 
         pub accept-log : (log log₁ : List ℕ) → log₁ ≡ writeAt log (8 * getD t₁ 9 0) (freed n out₁) → log₁ ≡ logLeft g t log (Delete r)
         unfolding logLeft
         accept-log log log₁ el =
-            el ∙ ap₂ (λ (u : ℕ) (l : List ℕ). writeAt log (8 * u) (bytesOf (map released l))) accept-used (listed ∙ sym frees-are) ∙ rw accept-reply
+            el ∙ ap₂ (λ (u : ℕ) (l : List ℕ). writeAt log (8 * u) (bytesOf (map released l))) accept-used (blocks-are ∙ sym frees-are) ∙ rw accept-reply

@@ -13,6 +13,7 @@ ghost use Rattle.model.specs.Actions.{doD, Asks, follower, deleteAt};
 ghost use Rattle.model.specs.State.{withView};
 ghost use Rattle.model.specs.Held.{deleted};
 ghost use Rattle.model.specs.Layout.{viewOf, stateOf, stored};
+ghost use Rattle.model.specs.Results.{paired, blocksIn};
 ghost use Rattle.tables.specs.Ready.{Roomy, Ready, OutLong, LogLong};
 ghost use Rattle.tables.specs.Outcome.{replied, tablesLeft, logLeft, outLeft};
 ghost use Rattle.deleting.specs.Stages.{unhooked, freedAll};
@@ -27,6 +28,8 @@ use log::word::append;
 use tables::births::free_block;
 use tables::cells::LENGTH;
 use tables::cells::NUMBER;
+use tables::cells::PAGES;
+use tables::cells::ROWS;
 use tables::cells::USED;
 use tables::find::follower_of;
 use tables::find::is_forked;
@@ -84,16 +87,16 @@ fn delete_verdict(t: &[u32], g: Geometry, number: u32) -> Verdict
     Verdict::Accept(s, follower)
 }
 
-// The words of the first n blocks of `out`, freed in order, behind the used words.
+// The words of the first n blocks of `out`, each with its birth behind it, freed in order, behind the used words.
 fn log_frees(t: &mut [u32], log: &mut [u8], out: &[u32], n: usize)
-    requires { ⌜ (10 ≤ length (now t)) × (n ≤ length (now out)) × (8 * (getD (now t) 9 0 + n) ≤ length (now log)) × (getD (now t) 9 0 + n ≤ 8192) ⌝ }
+    requires { ⌜ (10 ≤ length (now t)) × (2 * n ≤ length (now out)) × (8 * (getD (now t) 9 0 + n) ≤ length (now log)) × (getD (now t) 9 0 + n ≤ 8192) ⌝ }
     ensures tables { λ _. ⌜ now (t .exit) ≡ set (now (t .entry)) 9 (getD (now (t .entry)) 9 0 + n) ⌝ }
-    ensures log { λ _. ⌜ now (log .exit) ≡ writeAt (now (log .entry)) (8 * getD (now (t .entry)) 9 0) (bytesOf (map released (take n (now (out .entry))))) ⌝ }
+    ensures log { λ _. ⌜ now (log .exit) ≡ writeAt (now (log .entry)) (8 * getD (now (t .entry)) 9 0) (bytesOf (map released (blocksIn (take (2 * n) (now (out .entry)))))) ⌝ }
 {
     let used = wide(t[USED]);
     let mut i: usize = 0;
     while i < n {
-        append(log, 8 * (used + i), (wide(out[i]) * 16384 + 2) as u64);
+        append(log, 8 * (used + i), (wide(out[2 * i]) * 16384 + 2) as u64);
         i += 1;
     }
     t[USED] = (used + n) as u32;
@@ -113,33 +116,49 @@ fn unhook(g: Geometry, t: &mut [u32], out: &mut [u32], s: usize, link: usize) ->
     delete_next(t, g, out, s, link - 1, p)
 }
 
-// Frees the first n blocks of `out`.
+// Puts behind each of the first n blocks of `out` its birth. From the last on: a block moves behind all that are still to be moved.
+fn pair_births(t: &[u32], g: Geometry, out: &mut [u32], n: usize)
+    requires { ⌜ Roomy g (now t) × (2 * n ≤ length (now out)) × ((k : ℕ) → k < n → getD (now out) k 0 < blocks g) ⌝ }
+    ensures { λ _. ⌜ now (out .exit) ≡ sets (now (out .entry)) 0 (paired (viewOf g (now (t .entry)) .birth) (take n (now (out .entry)))) ⌝ }
+{
+    let mut i = n;
+    while 0 < i {
+        i -= 1;
+        let b = out[i];
+        out[2 * i] = b;
+        out[2 * i + 1] = t[PAGES + ROWS * g.records + wide(b)];
+    }
+}
+
+// Frees the first n blocks of `out`, each with its birth behind it.
 fn free_all(g: Geometry, t: &mut [u32], out: &[u32], n: usize)
-    requires { ⌜ Roomy g (now t) × (n ≤ length (now out)) × ((k : ℕ) → k < n → getD (now out) k 0 < blocks g) ⌝ }
-    ensures { λ _. ⌜ now (t .exit) ≡ freedAll (g .records) (now (t .entry)) (take n (now (out .entry))) ⌝ }
+    requires { ⌜ Roomy g (now t) × (2 * n ≤ length (now out)) × ((k : ℕ) → k < n → getD (now out) (2 * k) 0 < blocks g) ⌝ }
+    ensures { λ _. ⌜ now (t .exit) ≡ freedAll (g .records) (now (t .entry)) (blocksIn (take (2 * n) (now (out .entry)))) ⌝ }
 {
     let mut i: usize = 0;
     while i < n {
-        free_block(t, g, wide(out[i]));
+        free_block(t, g, wide(out[2 * i]));
         i += 1;
     }
 }
 
-// Deletes the record in slot s, with the link of the one that follows; returns how many blocks are freed.
+// Deletes the record in slot s, with the link of the one that follows. The freed blocks are written to `out`, each with its birth behind it. Returns how
+// many they are. `out` may be a part of a buffer: no more is asked of it than room for them.
 fn delete_record(g: Geometry, t: &mut [u32], out: &mut [u32], s: usize, link: usize) -> usize
-    requires { ⌜ Ready g (now t) × (length (deleted (viewOf g (now t)) s link) ≤ length (now out)) × Asks (viewOf g (now t)) (doD s) × (follower (viewOf g (now t)) s ≡ link) ⌝ }
+    requires { ⌜ Ready g (now t) × (2 * length (deleted (viewOf g (now t)) s link) ≤ length (now out)) × Asks (viewOf g (now t)) (doD s) × (follower (viewOf g (now t)) s ≡ link) ⌝ }
     ensures count { λ r. ⌜ r ≡ length (deleted (viewOf g (now (t .entry))) s link) ⌝ }
     ensures tables { λ r. ⌜ now (t .exit) ≡ stored g (withView (stateOf g (now (t .entry))) (deleteAt (viewOf g (now (t .entry))) s link)) (now (t .entry)) ⌝ }
-    ensures out { λ r. ⌜ now (out .exit) ≡ sets (now (out .entry)) 0 (deleted (viewOf g (now (t .entry))) s link) ⌝ }
+    ensures out { λ r. ⌜ now (out .exit) ≡ sets (now (out .entry)) 0 (paired (viewOf g (now (t .entry)) .birth) (deleted (viewOf g (now (t .entry))) s link)) ⌝ }
 {
     let count = unhook(g, t, out, s, link);
+    pair_births(t, g, out, count);
     free_all(g, t, out, count);
     t[LENGTH + s] = 0;
     t[NUMBER + s] = 0;
     count
 }
 
-// D: the record leaves the store; the numbers of the result are the freed blocks.
+// D: the record leaves the store; the numbers of the result are the freed blocks, each with its birth behind it.
 pub fn delete(g: Geometry, t: &mut [u32], log: &mut [u8], out: &mut [u32], number: u32) -> Answer
     requires { ⌜ Ready g (now t) × LogLong g (now log) × OutLong g (now out) ⌝ }
     ensures reply { λ r. ⌜ replyOf r (now (out .exit)) ≡ replied g (now (t .entry)) (Delete number) ⌝ }
@@ -153,7 +172,7 @@ pub fn delete(g: Geometry, t: &mut [u32], log: &mut [u8], out: &mut [u32], numbe
         Verdict::Accept(s, follower) => {
             let n = delete_record(g, t, out, s, follower);
             log_frees(t, log, out, n);
-            Answer::Done(n)
+            Answer::Done(2 * n)
         }
     }
 }

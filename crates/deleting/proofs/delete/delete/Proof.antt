@@ -29,10 +29,12 @@ delete-record-requires c κs =
 
 log-frees-requires : tie.Need-log-frees-requires
 log-frees-requires c κs =
-    let told = c .before .before .before .before .before .before .before .before .before .before .before .before .before .delete-verdict .ensures in
-    let accepted = c .before .before .before .before .before .before .before .before .before .before .before .verdict2 .given .1 in
-    let made = c .before .before .before .before .before .before .before .delete-record .ensures in
-    let start = c .before .before .before .before .before .before .before .before .before .before .before .before .before .before .before .before .before .before in
+    let at-record = c .before .before .before .before .before .before .before in
+    let at-verdict = at-record .before .before .before .before .before .before in
+    let start = at-verdict .before .before .before .before .before in
+    let told = at-verdict .delete-verdict .ensures in
+    let accepted = at-record .before .before .before .before .verdict2 .given .1 in
+    let made = at-record .delete-record .ensures in
     let u = Calling.accept-used _ _ (start .pre .0) _ _ told _ _ accepted _ (made .1 .0) in
     let w = Calling.accept-words _ _ (start .pre .0) _ _ told _ _ accepted in
     let l = Calling.accept-length _ _ (start .pre .0) _ _ told _ _ accepted _ (made .1 .0) in
@@ -43,11 +45,25 @@ log-frees-requires c κs =
     let n = made .0 in
     (omega arith, o, omega arith, omega arith)
 
+mul-t25 : tie.Need-mul-t25
+mul-t25 c =
+    let at-record = c .before .before .before .before .before .before .before .before .before .before .before .before in
+    let at-verdict = at-record .before .before .before .before .before .before in
+    let start = at-verdict .before .before .before .before .before in
+    let told = at-verdict .delete-verdict .ensures in
+    let accepted = at-record .before .before .before .before .verdict2 .given .1 in
+    let made = at-record .delete-record .ensures in
+    let w = Calling.accept-words _ _ (start .pre .0) _ _ told _ _ accepted in
+    let k = start .pre .0 .roomy .inside .words-most in
+    let n = made .0 in
+    omega arith
+
 same-length : tie.Need-same-length
 same-length c = search needs
 
 returns : tie.Need-returns
-returns c = let e = Verdicts.refusal _ _ _ _ (c .before .before .before .delete-verdict .ensures) _ (c .before .verdict .given .1) in
+returns c =
+    let e = Verdicts.refusal _ _ _ _ (c .before .before .before .delete-verdict .ensures) _ (c .before .verdict .given .1) in
     (Calling.refuse-reply _ _ _ _ e _, (Calling.refuse-tables _ _ _ _ e, (Calling.refuse-log _ _ _ _ e _, Calling.refuse-out _ _ _ _ e _)))
 
 same-length-2 : tie.Need-same-length-2
@@ -61,11 +77,13 @@ same-length-4 c = search needs
 
 returns-2 : tie.Need-returns-2
 returns-2 c =
-    let told = c .before .before .before .before .before .before .before .before .before .before .before .before .before .before .before .before .before .before .delete-verdict .ensures in
-    let accepted = c .before .before .before .before .before .before .before .before .before .before .before .before .before .before .before .before .verdict2 .given .1 in
-    let made = c .before .before .before .before .before .before .before .before .before .before .before .before .delete-record .ensures in
-    let logged = c .before .before .before .before .log-frees .ensures in
-    let start = c .before .before .before .before .before .before .before .before .before .before .before .before .before .before .before .before .before .before .before .before .before .before .before in (
+    let at-record = c .before .before .before .before .before .before .before .before .before .before .before .before in
+    let at-verdict = at-record .before .before .before .before .before .before in
+    let start = at-verdict .before .before .before .before .before in
+    let told = at-verdict .delete-verdict .ensures in
+    let accepted = at-record .before .before .before .before .verdict2 .given .1 in
+    let made = at-record .delete-record .ensures in
+    let logged = c .before .before .before .before .log-frees .ensures in (
       Calling.accept-done _ _ (start .pre .0) _ _ told _ _ accepted _ (made .1 .0) _ (made .0) _ (start .pre .2) _ (made .1 .1),
       (
         logged .0 ∙ Calling.accept-tables _ _ (start .pre .0) _ _ told _ _ accepted _ (made .1 .0) _ (made .0),
@@ -85,6 +103,7 @@ delete-spec =
     enum-known-verdict-2
     delete-record-requires
     log-frees-requires
+    mul-t25
     same-length
     returns
     same-length-2

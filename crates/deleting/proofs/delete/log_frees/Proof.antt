@@ -3,8 +3,7 @@ use native.Mathlib.Omega.{arith}
 use borrow.Author.Needs.{needs}
 use mathlib.Core.Path.{_≡_, refl, ap, _∙_}
 use Prim.Native.Nat.{_+_, _-_, _*_, _≤_}
-use lib.ListN.{length, length-set}
-use lib.ListN.{set}
+use lib.ListN.{length, set, length-set}
 use Rattle.log.specs.Word.{writeAt}
 use Rattle.deleting.proofs.Logging
 use Rattle.deleting.proofs.Logging.{freed}
@@ -38,6 +37,9 @@ mul-append c = omega arith
 mul-wide : tie.Need-mul-wide Inv-loop μ-loop
 mul-wide c = omega arith
 
+mul-wide-2 : tie.Need-mul-wide-2 Inv-loop μ-loop
+mul-wide-2 c = omega arith
+
 shared-slice-read-wide : tie.Need-shared-slice-read-wide Inv-loop μ-loop
 shared-slice-read-wide c = omega arith
 
@@ -45,10 +47,10 @@ wide-requires-2 : tie.Need-wide-requires-2 Inv-loop μ-loop
 wide-requires-2 c κs = search needs
 
 mul-append-2 : tie.Need-mul-append-2 Inv-loop μ-loop
-mul-append-2 c = omega (arith, c .before .shared-slice-known2 .given (c .before .before .before .before .loop .i))
+mul-append-2 c = omega (arith, c .before .shared-slice-known2 .given (2 * c .before .before .before .before .loop .i))
 
 add-append-2 : tie.Need-add-append-2 Inv-loop μ-loop
-add-append-2 c = omega (arith, c .before .shared-slice-known2 .given (c .before .before .before .before .loop .i))
+add-append-2 c = omega (arith, c .before .shared-slice-known2 .given (2 * c .before .before .before .before .loop .i))
 
 append-requires : tie.Need-append-requires Inv-loop μ-loop
 append-requires c κs = omega arith
@@ -64,7 +66,8 @@ loop-again c =
     let turn = c .before .before .before .before .before .before .before .loop in (
       omega arith,
       Logging.turn-length _ _ _ _ (omega arith) (c .before .before .append .ensures .1) ∙ turn .inv .1,
-      Logging.freed-turn _ _ _ _ _ _ (omega arith) (omega arith) (turn .inv .2) _ (c .before .before .before .wide2 .ensures) (c .before .before .append .ensures .1),
+      Logging.freed-turn _ _ _ _ _ (turn .i) (omega arith) (omega arith) (turn .inv .2) _ (c .before .before .before .wide2 .ensures)
+          (c .before .before .append .ensures .1),
     )
 
 add-t : tie.Need-add-t Inv-loop μ-loop
@@ -101,6 +104,7 @@ log-frees-spec =
     add-append
     mul-append
     mul-wide
+    mul-wide-2
     shared-slice-read-wide
     wide-requires-2
     mul-append-2
