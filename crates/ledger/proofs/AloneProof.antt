@@ -6,7 +6,6 @@ use mathlib.Core.List.{List, [], _∷_, _++_, map}
 use Prim.Native.Nat.{ℕ, _+_}
 use native.Mathlib.Omega.{arith}
 use lib.Dec.{eqb}
-use lib.ListN.{getD}
 use Rattle.answer.specs.Reply.{Reply, accepted, refused}
 use Rattle.answer.specs.Refusal.{leaves, NoneBefore}
 use Rattle.answer.proofs.Decided.{decide-accepted}
@@ -15,9 +14,10 @@ use Rattle.geometry.specs.Limits.{Inside, blocks}
 use Rattle.model.specs.Actions.{slotOf}
 use Rattle.model.specs.Calls.{slot}
 use Rattle.model.specs.Book.{Book, OnPage, accept, enter}
+use Rattle.model.specs.Results.{blocksIn, numbersOf}
 use Rattle.model.specs.State.{State, fresh}
 use Rattle.model.specs.History.{Entry, eventsOf, events, firstGiven, entryOf, told, bookFrom, book, stateFrom, historyFrom}
-use Rattle.model.specs.HistoryFacts.{HistoryFacts, givenIn, freedIn, different, Sealed}
+use Rattle.model.specs.HistoryFacts.{HistoryFacts, givenIn, freedIn, different, Sealed, Names, LastGave}
 use Rattle.model.specs.Model.{Screened, screenedConditions, answer, modelAfter, model}
 use Rattle.model.specs.declared.Call.{Call}
 use Rattle.model.specs.declared.Call.the-variants.{Begin, Write, Erase, Seal, Fork, Delete, Read, Barrier, Compress, FreeList, Estimate}
@@ -27,7 +27,7 @@ use Rattle.model.proofs.WholeList.{WholeList, each-list}
 use Rattle.model.proofs.WholeListProof.{whole-list}
 use Rattle.model.proofs.HistoryFactsProof.{history-facts}
 use Rattle.ledger.specs.BookReading.{isThere, mayBeWritten}
-use Rattle.ledger.specs.Ledger.{Ledger, account, refusalsOf, says, keeps, step}
+use Rattle.ledger.specs.Ledger.{Ledger, account, refusalsOf, says, blockGiven, keeps, step}
 use Rattle.ledger.specs.Alone.{clerk, LedgerDemand, LedgerBook}
 use Rattle.ledger.proofs.Tells.{Tells, fresh-tells}
 use Rattle.ledger.proofs.CallsTold.{there-told}
@@ -38,8 +38,8 @@ use Rattle.ledger.proofs.ToldProof.{plain, plain-told, noted-step, afte
 
 -- the book is told the block that a W gave, and reads it for no other call
 told-block : (g : Geometry) (L : Ledger) (B : Book) (c : Call) →
-    accept (g .pages) B c (getD (account g L c .result) 0 0) ≡ accept (g .pages) B c (firstGiven (eventsOf c (accepted (account g L c .result))))
-unfolding account
+    accept (g .pages) B c (blockGiven (account g L c .result)) ≡ accept (g .pages) B c (firstGiven (eventsOf c (accepted (numbersOf (account g L c .result)))))
+unfolding account blockGiven numbersOf blocksIn
 told-block g L B Begin = refl
 told-block g L B (Write r x k) = refl
 told-block g L B (Erase r x) = refl
@@ -60,7 +60,7 @@ book-step g L c = go (says g L c) refl
     go (refused n) e = refl
     go (accepted l) e =
         told-block g L (L .book) c ∙
-        ap (λ (m : List ℕ). accept (g .pages) (L .book) c (firstGiven (eventsOf c (accepted m)))) (decide-accepted (refusalsOf g L c) (account g L c .result) l e .1)
+        ap (λ (m : List ℕ). accept (g .pages) (L .book) c (firstGiven (eventsOf c (accepted m)))) (decide-accepted (refusalsOf g L c) (numbersOf (account g L c .result)) l e .1)
 
 book-from : (g : Geometry) (l : List Call) (L : Ledger) → stateFrom (clerk g) L l .book ≡ bookFrom (g .pages) (L .book) (historyFrom (clerk g) L l)
 book-from g [] L = refl
@@ -159,6 +159,10 @@ module _ (g : Geometry) (inside : Inside g) where
         room = λ c i l ec ac e.
             W .room (plain c) (plain i) l ec (same-answer before c ∙ ac)
             (subst (λ k. answer g (stateFrom (model g) (fresh g) k) (plain i) ≡ refused 14) (plains-append before (c ∷ [])) (same-answer (before ++ (c ∷ [])) i ∙ e));
+        birth-is = λ i b v n.
+            let e : entryOf (clerk g) (L before) i ≡ entryOf (model g) (T before) (plain i) = λ j. record { call = i; answer = sym (same-answer before i) j } in
+            subst (LastGave b v) (ap (historyFrom (model g) (fresh g)) (sym (plains-append before (i ∷ []))) ∙ side (before ++ (i ∷ [])) .2)
+            (W .birth-is (plain i) b v (subst (Names b v) e n));
       }
 
 -- DEMAND 3 AND THE TWO FACTS, OF THE LEDGER ALONE

@@ -12,6 +12,7 @@ use Rattle.answer.proofs.Cases.{cases, either}
 use Rattle.geometry.specs.declared.Geometry.{Geometry}
 use Rattle.geometry.specs.Limits.{Inside}
 use Rattle.model.specs.Lists.{keepIf}
+use Rattle.model.specs.Results.{numbersOf}
 use Rattle.model.specs.View.{predNum}
 use Rattle.model.specs.Deadlists.{shard}
 use Rattle.model.specs.Held.{bit, tally, shardsAbove, shardsFreed}
@@ -69,7 +70,7 @@ shards-told g L T inside fine t r n =
         ap (λ (k : List ℕ). ltb 0 (length k)) (shard-told g L T t m u (suc (p + i)) hu en)))
 
 pub estimate-answered : (r : ℕ) → Answered (Estimate r)
-unfolding says account
+unfolding says account numbersOf
 estimate-answered r g L T inside fine t =
     let none : ltb (g .words - length (L .log)) 0 ≡ false = le-ltb (g .words - length (L .log)) 0 (omega arith) in
     let there : not (isThere (L .book) r) ≡ eqb (slotOf (T .view) r) 0 = there-told (T .view) (L .book) r (fine .sound) (t .book) in

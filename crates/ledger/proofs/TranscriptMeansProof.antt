@@ -21,11 +21,12 @@ use Rattle.script.specs.declared.parse.Six.{Six}
 use Rattle.script.specs.declared.parse.Parsed.{Parsed}
 use Rattle.script.specs.declared.parse.Parsed.the-variants.{Store, Asks, No}
 use Rattle.script.specs.Parse.{opens, callLine, parsed}
-use Rattle.script.specs.ReplyText.{replyText}
+use Rattle.model.specs.Results.{numbersOf}
 use Rattle.ledger.specs.Ledger.{Ledger, account, says}
-use Rattle.ledger.specs.Transcript.{Runner, without-store, with-store, asked, lineSays, lineLeaves, printed, left}
+use Rattle.ledger.specs.Transcript.{Runner, without-store, with-store, asked, lineSays, lineGives, lineText, lineLeaves, printed, left}
 use Rattle.ledger.specs.TranscriptMeans.{LineRefused, TranscriptMeans}
 use Rattle.ledger.proofs.Parts.{parts, parts-left}
+use Rattle.ledger.proofs.LineSpelled.{line-gives, line-spelled}
 
 -- ── what the ledger says is from 5 on ──
 
@@ -60,7 +61,7 @@ unfolding says
 says-from g L c n e =
     let a = account g L c in
     let t : Bool = ltb (g .words - length (a .leaving .log)) (length (a .words)) in
-    decide-from 5 (a .refusals ++ ((14, t) ∷ [])) (a .result) n (from-five g L c t) e
+    decide-from 5 (a .refusals ++ ((14, t) ∷ [])) (numbersOf (a .result)) n (from-five g L c t) e
 
 -- ── how a line may be refused ──
 
@@ -124,11 +125,11 @@ no-call R l h = cases h (λ e. rw e) (λ k. rw (lt-ltb 80 (length l) k))
 
 each : (R : Runner) (before : List (List ℕ)) (l : List ℕ) (behind : List (List ℕ)) →
     printed R (before ++ (l ∷ behind)) ≡
-    printed R before ++ (replyText (lineSays (left R before) (parsed l)) ++ printed (left R (before ++ (l ∷ []))) behind)
+    printed R before ++ (lineText (left R before) (parsed l) ++ printed (left R (before ++ (l ∷ []))) behind)
 unfolding printed left
 each R before l behind =
     parts R before (l ∷ behind) ∙
-    ap (λ (Q : Runner). printed R before ++ (replyText (lineSays (left R before) (parsed l)) ++ printed Q behind)) (sym (parts-left R before (l ∷ [])))
+    ap (λ (Q : Runner). printed R before ++ (lineText (left R before) (parsed l) ++ printed Q behind)) (sym (parts-left R before (l ∷ [])))
 
 -- ── there is a store from the first accepted store line on ──
 
@@ -157,7 +158,7 @@ store-has R before l between x e i =
 
 afresh : (R : Runner) (l : List ℕ) (behind : List (List ℕ)) (x : Six) → parsed l ≡ Store x → Inside (asked x) →
     printed R (l ∷ behind) ≡ printed without-store (l ∷ behind)
-unfolding printed lineSays lineLeaves
+unfolding printed lineSays lineGives lineLeaves
 afresh R l behind x e i = rw (e, inside-fits (asked x) i)
 
 leaves : (R : Runner) (l : List ℕ) (x : Six) → parsed l ≡ Store x → (Inside (asked x) → ⊥) → left R (l ∷ []) ≡ R
@@ -168,6 +169,8 @@ leaves R l x e h = rw (e, store-says x h)
 pub transcript-means : TranscriptMeans
 transcript-means = record {
   each = each;
+  gives = line-gives;
+  spelled = line-spelled;
   refusals = line-refused;
   no-call = no-call;
   made = λ R before l between x e i p f.

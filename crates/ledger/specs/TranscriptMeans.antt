@@ -4,15 +4,16 @@ use mathlib.Core.Logic.{_⊎_, _↔_}
 use mathlib.Core.List.{List, [], _∷_, _++_}
 use Prim.Native.Nat.{ℕ, _<_}
 use lib.ListN.{length}
-use Rattle.answer.specs.Reply.{refused}
+use Rattle.answer.specs.Reply.{accepted, refused}
 use Rattle.geometry.specs.Limits.{Inside}
 use Rattle.model.specs.declared.Call.{Call}
 use Rattle.script.specs.declared.parse.Six.{Six}
 use Rattle.script.specs.declared.parse.Parsed.{Parsed}
 use Rattle.script.specs.declared.parse.Parsed.the-variants.{Store, Asks, No}
 use Rattle.script.specs.Parse.{parsed}
-use Rattle.script.specs.ReplyText.{replyText}
-use Rattle.ledger.specs.Transcript.{Runner, without-store, asked, lineSays, printed, left}
+use Rattle.model.specs.Results.{numbersOf}
+use Rattle.script.specs.ReplyText.{spellingOf, replyText}
+use Rattle.ledger.specs.Transcript.{Runner, without-store, asked, lineSays, lineGives, lineText, printed, left}
 
 -- how a line may be refused, whatever stands before it (5 to 14: `says`)
 pub record LineRefused (R : Runner) (p : Parsed) : Type 0 where
@@ -29,7 +30,10 @@ pub record TranscriptMeans : Type 0 where
   -- "Output per line" (10.6): the replies stand in the lines' order, each as the lines before it say
   pub each : (R : Runner) (before : List (List ℕ)) (l : List ℕ) (behind : List (List ℕ)) →
       printed R (before ++ (l ∷ behind)) ≡
-      printed R before ++ (replyText (lineSays (left R before) (parsed l)) ++ printed (left R (before ++ (l ∷ []))) behind)
+      printed R before ++ (lineText (left R before) (parsed l) ++ printed (left R (before ++ (l ∷ []))) behind)
+  -- what an accepted line gives are the numbers of its reply, and they are spelled as those of its call
+  pub gives : (R : Runner) (p : Parsed) (ns : List ℕ) → lineSays R p ≡ accepted ns → numbersOf (lineGives R p) ≡ ns
+  pub spelled : (R : Runner) (p : Parsed) → lineText R p ≡ replyText (spellingOf p) (lineSays R p)
   pub refusals : (R : Runner) (p : Parsed) → LineRefused R p
   -- "An empty or longer line is no call" (10.2)
   pub no-call : (R : Runner) (l : List ℕ) → (l ≡ []) ⊎ (80 < length l) → lineSays R (parsed l) ≡ refused 1

@@ -1,0 +1,88 @@
+-- What a line prints is its reply, its numbers spelled as those of its call.
+use mathlib.Core.Path.{_≡_, refl, sym, ap, _∙_}
+use mathlib.Core.Bool.{Bool, true, false, cond}
+use mathlib.Core.List.{List, [], _∷_, _++_, map, flatMap}
+use Prim.Native.Nat.{ℕ}
+use Rattle.answer.specs.Reply.{Reply, accepted, refused}
+use Rattle.answer.proofs.Decided.{decide-accepted}
+use Rattle.geometry.specs.declared.Geometry.{Geometry}
+use Rattle.geometry.specs.Limits.{fits}
+use Rattle.model.specs.Lists.{keepIf}
+use Rattle.model.specs.Results.{Item, plain, born, bornIn, itemsOf, numbersOf, spelling}
+use Rattle.model.specs.declared.Call.{Call}
+use Rattle.model.specs.declared.Call.the-variants.{Begin, Write, Erase, Seal, Fork, Delete, Read, Barrier, Compress, FreeList, Estimate}
+use Rattle.script.specs.declared.parse.Six.{Six}
+use Rattle.script.specs.declared.parse.Parsed.{Parsed}
+use Rattle.script.specs.declared.parse.Parsed.the-variants.{Store, Asks, No}
+use Rattle.script.specs.ReplyText.{itemsText, spellingOf, replyText}
+use Rattle.ledger.specs.BookReading.{blockOn}
+use Rattle.ledger.specs.Ledger.{Ledger, withBirths, isFree, young, freedBy, picked, runsIn, account, refusalsOf, says}
+use Rattle.ledger.specs.Transcript.{Runner, without-store, with-store, asked, lineSays, lineGives, textOf, lineText}
+
+-- ── the items of an account, by the spelling of its call ──
+
+items-born : (L : Ledger) (bs : List ℕ) → bornIn (numbersOf (withBirths L bs)) ≡ withBirths L bs
+unfolding withBirths numbersOf bornIn
+items-born L [] = refl
+items-born L (b ∷ bs) = ap {B = List Item} (λ l. born b (L .birth b) ∷ l) (items-born L bs)
+
+items-runs : (l : List (ℕ × ℕ)) → map plain (numbersOf (flatMap (λ s. plain (s .0) ∷ plain (s .1) ∷ []) l)) ≡ flatMap (λ s. plain (s .0) ∷ plain (s .1) ∷ []) l
+unfolding flatMap numbersOf
+items-runs [] = refl
+items-runs (s ∷ l) = ap {B = List Item} (λ m. plain (s .0) ∷ plain (s .1) ∷ m) (items-runs l)
+
+items-told : (g : Geometry) (L : Ledger) (c : Call) → itemsOf (spelling c) (numbersOf (account g L c .result)) ≡ account g L c .result
+unfolding account itemsOf numbersOf bornIn
+items-told g L Begin = refl
+items-told g L (Write r x k) = ap {B = List Item} (λ l. born (picked g L k) r ∷ l) (items-born L (keepIf (young L r) (blockOn (L .book) r x)))
+items-told g L (Erase r x) = items-born L (keepIf (young L r) (blockOn (L .book) r x))
+items-told g L (Seal r) = refl
+items-told g L (Fork r) = refl
+items-told g L (Delete r) = items-born L (freedBy g L r)
+items-told g L (Read r x) = items-born L (blockOn (L .book) r x)
+items-told g L Barrier = refl
+items-told g L Compress = refl
+items-told g L FreeList = items-runs (runsIn g (isFree L))
+items-told g L (Estimate r) = refl
+
+-- ── a line ──
+
+call-gives : (g : Geometry) (L : Ledger) (c : Call) (ns : List ℕ) → says g L c ≡ accepted ns → numbersOf (account g L c .result) ≡ ns
+unfolding says
+call-gives g L c ns e = decide-accepted (refusalsOf g L c) (numbersOf (account g L c .result)) ns e .1
+
+call-spelled : (g : Geometry) (L : Ledger) (c : Call) → textOf (says g L c) (account g L c .result) ≡ replyText (spelling c) (says g L c)
+unfolding textOf replyText
+call-spelled g L c = go (says g L c) refl
+  where
+    go : (A : Reply) → says g L c ≡ A → textOf A (account g L c .result) ≡ replyText (spelling c) A
+    go (refused k) e = refl
+    go (accepted ns) e =
+        ap (λ (l : List Item). 43 ∷ (itemsText l ++ (10 ∷ [])))
+        (sym (items-told g L c) ∙ ap (itemsOf (spelling c)) (call-gives g L c ns e))
+
+store-spelled : (x : Six) (t : Bool) → textOf (cond t (accepted []) (refused 2)) [] ≡ replyText (spellingOf (Store x)) (cond t (accepted []) (refused 2))
+unfolding textOf replyText spellingOf itemsOf
+store-spelled x true = refl
+store-spelled x false = refl
+
+pub line-spelled : (R : Runner) (p : Parsed) → lineText R p ≡ replyText (spellingOf p) (lineSays R p)
+unfolding lineSays lineGives spellingOf textOf replyText
+line-spelled R No = refl
+line-spelled R (Store x) = store-spelled x (fits (asked x))
+line-spelled without-store (Asks c) = refl
+line-spelled (with-store g L) (Asks c) = call-spelled g L c
+
+store-gives : (t : Bool) (ns : List ℕ) → cond t (accepted []) (refused 2) ≡ accepted ns → [] ≡ ns
+store-gives true ns e = cc
+store-gives false ns e = absurd (not e)
+  where
+    not : refused 2 ≡ accepted ns → ⊥
+    not d = let z : _≡_ {A = ℕ} 0 1 = cc in let w : ⊥ = omega native.Mathlib.Omega.arith in w
+
+pub line-gives : (R : Runner) (p : Parsed) (ns : List ℕ) → lineSays R p ≡ accepted ns → numbersOf (lineGives R p) ≡ ns
+unfolding lineSays lineGives numbersOf
+line-gives R No ns e = cc
+line-gives R (Store x) ns e = store-gives (fits (asked x)) ns e
+line-gives without-store (Asks c) ns e = cc
+line-gives (with-store g L) (Asks c) ns e = call-gives g L c ns e
