@@ -1,7 +1,7 @@
 //! What scripts made from seeds reach: how many of the scripts, and how many of their lines.
 use crate::store::{Call, Reply, Store};
 use crate::{generate, script};
-use std::collections::BTreeMap;
+use std::collections::{BTreeMap, BTreeSet};
 
 /// How many bases lie below a record.
 fn depth(store: &Store, r: u64) -> usize {
@@ -50,6 +50,21 @@ fn deleted(store: &Store, freed: usize, was_last: bool, was_asked: bool) -> Reac
     ]
 }
 
+/// The blocks that a result names, each with its birth behind it.
+fn named(c: Call, given: &[u64]) -> Reached {
+    let births: BTreeSet<u64> = given.iter().skip(1).step_by(2).copied().collect();
+    let other = |r: u64| births.iter().any(|&v| v != r);
+    let largest = births.last().copied().unwrap_or(0);
+    vec![
+        (matches!(c, Call::Write(r, ..) | Call::Erase(r, _) if other(r)), "W or E that frees a block born in another record"),
+        (matches!(c, Call::Read(r, _) if other(r)), "R of a block born in another record"),
+        (matches!(c, Call::Delete(_)) && births.len() > 1, "D that frees blocks of 2 births or more"),
+        (matches!(c, Call::Delete(r) if other(r)), "D that frees a block born in another record"),
+        (largest > 99, "a birth of 3 digits in a result"),
+        (largest > 999, "a birth of 4 digits in a result"),
+    ]
+}
+
 /// A Q of record r.
 fn estimated(store: &Store, r: u64, said: &[u64]) -> Reached {
     let line = &store.lines[store.line_of(r)];
@@ -81,11 +96,14 @@ fn instances(store: &Store, c: Call, reply: &Reply, was_last: bool, was_asked: b
     };
     let mut reached = match c {
         Call::Write(r, ..) | Call::Erase(r, _) => written(store, r),
-        Call::Delete(_) => deleted(store, given.len(), was_last, was_asked),
+        Call::Delete(_) => deleted(store, given.len() / 2, was_last, was_asked),
         Call::Estimate(r) => estimated(store, r, given),
         Call::Seal(r) => sealed(store, r),
         _ => vec![],
     };
+    if c.gives_blocks() {
+        reached.extend(named(c, given));
+    }
     let logs = matches!(c, Call::Write(..) | Call::Erase(..) | Call::Delete(_) | Call::Barrier);
     reached.push((logs && store.g.words - (store.log.len() as u64) < 3, "log words left: under 3"));
     reached

@@ -45,7 +45,7 @@ fn parse(line: &[u8]) -> Option<Line> {
 /// The replies to a script.
 pub fn run(text: &[u8]) -> Vec<u8> {
     let mut out = Vec::new();
-    each_reply(text, |_, _, reply| put(&mut out, reply));
+    each_reply(text, |_, call, reply| put(&mut out, call.is_some_and(|c| c.gives_blocks()), reply));
     out
 }
 
@@ -77,13 +77,14 @@ pub fn each_reply(text: &[u8], mut seen: impl FnMut(Option<&Store>, Option<Call>
     }
 }
 
-/// A reply as a line.
-fn put(out: &mut Vec<u8>, reply: &Reply) {
+/// A reply as a line; a block and its birth have a colon between them.
+fn put(out: &mut Vec<u8>, are_blocks: bool, reply: &Reply) {
     match reply {
         Ok(numbers) => {
             out.push(b'+');
-            for n in numbers {
-                out.extend(format!(" {n}").bytes());
+            for (i, n) in numbers.iter().enumerate() {
+                let separator = if are_blocks && i % 2 == 1 { ':' } else { ' ' };
+                out.extend(format!("{separator}{n}").bytes());
             }
         }
         Err(n) => out.extend(format!("- {n}").bytes()),

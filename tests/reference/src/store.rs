@@ -48,6 +48,13 @@ pub enum Call {
     Estimate(u64),
 }
 
+impl Call {
+    /// Whether the numbers of a result are blocks, each with its birth behind it.
+    pub fn gives_blocks(&self) -> bool {
+        matches!(self, Call::Write(..) | Call::Erase(..) | Call::Delete(_) | Call::Read(..))
+    }
+}
+
 pub struct Record {
     pub open: bool,
     pub pages: Vec<Option<u64>>,
@@ -135,10 +142,12 @@ impl Store {
         self.g.words - self.log.len() as u64
     }
 
-    fn free(&mut self, b: u64) {
+    /// Gives the block and the birth that it had.
+    fn free(&mut self, b: u64) -> [u64; 2] {
         assert!(!self.on_a_page(b), "a freed block is on no page");
-        assert!(self.births.remove(&b).is_some(), "a freed block was held");
+        let birth = self.births.remove(&b).expect("a freed block was held");
         self.log.push(b * 16384 + 2);
+        [b, birth]
     }
 
     /// Would emptying this page free its block? The crude way: no other page of any record has it.
@@ -150,18 +159,17 @@ impl Store {
         if others { None } else { Some(b) }
     }
 
-    /// The block has left the page; it is freed, or stands on the deadlist of r, or another line keeps it.
-    fn kill(&mut self, r: u64, b: u64) -> bool {
+    /// The block has left the page; it is freed, or stands on the deadlist of r, or another line keeps it. Gives a freed block and its birth.
+    fn kill(&mut self, r: u64, b: u64) -> Vec<u64> {
         if !self.on_a_page(b) {
-            self.free(b);
-            return true;
+            return self.free(b).to_vec();
         }
         let birth = self.births[&b];
         let base = self.lines[self.line_of(r)].base;
         if birth > base {
             self.records.get_mut(&r).unwrap().dead.entry(birth).or_default().push(b);
         }
-        false
+        vec![]
     }
 
     fn room(&self) -> Result<(), u32> {
@@ -234,7 +242,7 @@ impl Store {
                     return Err(5);
                 }
                 self.open(r)?;
-                Ok(self.records[&r].pages[page as usize].into_iter().collect())
+                Ok(self.records[&r].pages[page as usize].into_iter().flat_map(|b| [b, self.births[&b]]).collect())
             }
             Call::Barrier => {
                 if self.unused() < 1 {
@@ -274,11 +282,9 @@ impl Store {
         assert!(self.births.insert(b, r).is_none());
         self.log.push(b * 16384 + 1);
         let old = self.records.get_mut(&r).unwrap().pages[page as usize].replace(b);
-        let mut given = vec![b];
+        let mut given = vec![b, r];
         if let Some(old) = old {
-            if self.kill(r, old) {
-                given.push(old);
-            }
+            given.extend(self.kill(r, old));
         }
         Ok(given)
     }
@@ -294,10 +300,7 @@ impl Store {
             return Err(14);
         }
         let old = self.records.get_mut(&r).unwrap().pages[page as usize].take();
-        match old {
-            Some(b) if self.kill(r, b) => Ok(vec![b]),
-            _ => Ok(vec![]),
-        }
+        Ok(old.map_or(vec![], |b| self.kill(r, b)))
     }
 
     /// The blocks that only r has, the crude way.
@@ -343,10 +346,7 @@ impl Store {
                 dead.entry(birth).or_default().extend(list);
             }
         }
-        for &b in &freed {
-            self.free(b);
-        }
-        Ok(freed)
+        Ok(freed.into_iter().flat_map(|b| self.free(b)).collect())
     }
 
     /// Blocks and words the crude way: each block that only r has is a free, and each free a word. Shards: the births above r's pred that blocks on
@@ -396,10 +396,10 @@ impl Store {
     }
 }
 
-/// A D straight behind a Q of its record has the Q's refusal, or frees so many blocks and writes so many words as the Q said; 14 where so many words
-/// were not left.
+/// A D straight behind a Q of its record has the Q's refusal, or frees so many blocks, a pair of numbers each, and writes so many words as the Q
+/// said; 14 where so many words were not left.
 fn kept(said: &Reply, reply: &Reply, unused: u64, written: u64) {
-    let done = reply.as_ref().map(|freed| (freed.len() as u64, written));
+    let done = reply.as_ref().map(|freed| (freed.len() as u64 / 2, written));
     let expected = match said {
         Err(number) => Err(number),
         Ok(numbers) if unused < numbers[1] => Err(&14),
