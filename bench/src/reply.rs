@@ -1,14 +1,15 @@
-//! Replies as text: the digits of small numbers stand in a table, and up to eight bytes are written in one store.
-use crate::store::Reply;
+//! Replies as text: the digits of numbers stand in a table, and up to eight bytes are written in one store.
+use crate::store::{birth, block, Reply};
 
-/// The text of each number below 2,048 behind a space, the first byte lowest; how long it is stands in the highest byte.
-static SPELT: [u64; 2048] = spelt();
+/// The text of each number below 10,000: a space, its digits and a line feed, the first byte lowest. How long it is without the line feed stands in
+/// the highest byte. A script of 65,536 bytes leads to no other numbers.
+static SPELT: [u64; 10_000] = spelt();
 
-const fn spelt() -> [u64; 2048] {
-    let mut table = [0; 2048];
+const fn spelt() -> [u64; 10_000] {
+    let mut table = [0; 10_000];
     let mut n = 0;
-    while n < 2048 {
-        let mut text = 0;
+    while n < 10_000 {
+        let mut text = b'\n' as u64;
         let mut len = 1;
         let mut rest = n;
         while len == 1 || rest > 0 {
@@ -22,60 +23,68 @@ const fn spelt() -> [u64; 2048] {
     table
 }
 
-#[inline(always)]
-fn put_eight(out: &mut [u8], at: usize, bytes: u64) {
-    out[at..at + 8].copy_from_slice(&bytes.to_le_bytes());
-}
-
-/// Writes a space and a number; returns the position behind it. Up to eight bytes are written.
-#[inline(always)]
-fn put_number(out: &mut [u8], at: usize, n: u32) -> usize {
-    match SPELT.get(n as usize) {
-        Some(&text) => {
-            put_eight(out, at, text);
-            at + (text >> 56) as usize
-        }
-        None => put_large(out, at, n),
-    }
-}
-
-/// As `put_number`, for numbers of at most seven digits.
-fn put_large(out: &mut [u8], at: usize, n: u32) -> usize {
-    let mut text = 0;
-    let mut len = 0;
+/// As in the table, for a number that is not in it, of at most six digits; the line feed may take the highest byte.
+#[cold]
+fn spelt_large(n: u32) -> (u64, usize) {
+    let mut text = b'\n' as u64;
+    let mut len = 1;
     let mut rest = n;
     while rest > 0 {
         text = text << 8 | (b'0' as u64 + rest as u64 % 10);
         rest /= 10;
         len += 1;
     }
-    put_eight(out, at, text << 8 | b' ' as u64);
-    at + 1 + len
+    (text << 8 | b' ' as u64, len)
 }
 
-/// A sign, a number below 2,048 and a line feed in one store.
 #[inline(always)]
-fn put_line(out: &mut [u8], at: usize, sign: u8, text: u64) -> usize {
-    let len = (text >> 56) as usize;
-    put_eight(out, at, sign as u64 | text << 8 | (b'\n' as u64) << (8 + 8 * len));
-    at + len + 2
+fn text_of(n: u32) -> (u64, usize) {
+    match SPELT.get(n as usize) {
+        Some(&text) => (text, (text >> 56) as usize),
+        None => spelt_large(n),
+    }
+}
+
+#[inline(always)]
+fn put_eight(out: &mut [u8], at: usize, bytes: u64) {
+    out[at..at + 8].copy_from_slice(&bytes.to_le_bytes());
+}
+
+/// Writes a space, a number and a line feed; returns the position of the line feed. The same below.
+#[inline(always)]
+fn put_number(out: &mut [u8], at: usize, n: u32) -> usize {
+    let (text, len) = text_of(n);
+    put_eight(out, at, text);
+    at + len
+}
+
+/// A block, a colon and its birth.
+#[inline(always)]
+fn put_block(out: &mut [u8], at: usize, entry: u32) -> usize {
+    let between = put_number(out, at, block(entry));
+    let (text, len) = text_of(birth(entry));
+    put_eight(out, between, text ^ (b' ' ^ b':') as u64);
+    between + len
 }
 
 /// Writes a reply; returns the position behind it.
 #[inline(always)]
 pub fn put_reply(out: &mut [u8], at: usize, reply: Reply, given: &[u32]) -> usize {
+    out[at] = if let Reply::Refused(_) = reply { b'-' } else { b'+' };
+    let at = at + 1;
     let end = match reply {
-        Reply::Refused(k) => return put_line(out, at, b'-', SPELT[k as usize & 15]),
-        Reply::One(n) if n < 2048 => return put_line(out, at, b'+', SPELT[n as usize & 2047]),
-        Reply::Nothing => at + 1,
-        Reply::One(n) => put_large(out, at + 1, n),
-        Reply::Two(n, m) => {
-            let between = put_number(out, at + 1, n);
-            put_number(out, between, m)
+        Reply::Refused(n) | Reply::Number(n) => put_number(out, at, n),
+        Reply::Block(entry) => put_block(out, at, entry),
+        Reply::Two(entry, old) => {
+            let between = put_block(out, at, entry);
+            put_block(out, between, old)
         }
-        Reply::Many(count) => given[..count].iter().fold(at + 1, |end, &n| put_number(out, end, n)),
+        Reply::Nothing | Reply::Numbers(0) | Reply::Blocks(0) => {
+            out[at] = b'\n';
+            at
+        }
+        Reply::Numbers(count) => given[..count].iter().fold(at, |end, &n| put_number(out, end, n)),
+        Reply::Blocks(count) => given[..count].iter().fold(at, |end, &entry| put_block(out, end, entry)),
     };
-    out[at] = b'+';
-    out[end] = b'\n';
     end + 1
 }

@@ -26,20 +26,10 @@ fn same(c: Call) -> fast::Call {
     }
 }
 
-fn numbers(store: &fast::Store, reply: fast::Reply) -> Result<Vec<u64>, u32> {
-    let given = match reply {
-        fast::Reply::Refused(k) => return Err(k),
-        fast::Reply::Nothing => vec![],
-        fast::Reply::One(n) => vec![n],
-        fast::Reply::Two(n, m) => vec![n, m],
-        fast::Reply::Many(count) => store.out[..count].to_vec(),
-    };
-    Ok(given.iter().map(|&n| n as u64).collect())
-}
-
 fn agree_on(unproved: &mut fast::Store, reference: &mut Store, c: Call, seed: u64) {
     let reply = unproved.call(same(c));
-    assert_eq!(numbers(unproved, reply), reference.call(c), "seed {seed}: {c:?}");
+    let result = unproved.result(reply).map(|numbers| numbers.iter().map(|&n| n as u64).collect());
+    assert_eq!(result, reference.call(c), "seed {seed}: {c:?}");
     let log: Vec<u8> = reference.log.iter().flat_map(|w| w.to_be_bytes()).collect();
     assert!(unproved.log_bytes() == log, "seed {seed}: the log behind {c:?}");
 }

@@ -1,7 +1,7 @@
 //! Stores for a stranger's call, made by calls of the library. The unproved store does each call too, and the results are compared.
 use crate::library::Lent;
 use bench::generate::Dice;
-use bench::store::{Call, Geometry, Reply, Store};
+use bench::store::{Call, Geometry, Store};
 
 pub struct Filled {
     pub lent: Lent,
@@ -15,13 +15,8 @@ impl Filled {
     }
 
     fn call(&mut self, c: Call) {
-        let expected: Result<Vec<u32>, u32> = match self.store.call(c) {
-            Reply::Refused(k) => Err(k),
-            Reply::Nothing => Ok(vec![]),
-            Reply::One(n) => Ok(vec![n]),
-            Reply::Two(n, m) => Ok(vec![n, m]),
-            Reply::Many(count) => Ok(self.store.out[..count].to_vec()),
-        };
+        let reply = self.store.call(c);
+        let expected = self.store.result(reply);
         let given = self.lent.call(c).map(|count| self.lent.out[..count].to_vec());
         assert!(given == expected, "the library answers {given:?}, the unproved store {expected:?}");
     }
