@@ -17,6 +17,8 @@
  *
  * Every function returns SOGVECT_DONE (0), or the number of the reason why it refused the call. Where several reasons are true it is the smallest.
  * A done call sets *count to how many numbers its result has; they stand at the start of `out`, and the rest of `out` is as it was.
+ * A block that sogvect_write, _erase, _delete or _read names is a pair of numbers in `out`, the block and behind it its birth: the number of the record
+ * that was open when the block was given. A freed block's birth is the one that it had. *count counts both numbers. No other result has births.
  * A refused call changes nothing: tables, log, out and *count are as they were.
  *
  * The six numbers of a geometry come first in every call, and are those that the store was made from:
@@ -100,13 +102,14 @@ uint32_t sogvect_begin(size_t arenas, size_t per, size_t pages, size_t records, 
                        uint32_t *tables, size_t tables_len, uint8_t *log, size_t log_len, uint32_t *out, size_t out_len,
                        size_t *count);
 
-/* Puts a free block on a page of open record n; kind is 0 to 2. Result: the block, and after it the block that was there before if that is free now.
+/* Puts a free block on a page of open record n; kind is 0 to 2. Result: a pair, the block and its birth, which is n;
+ * and after it the block that was there before and its birth, if that block is free now. So *count becomes 2 or 4.
  * Refusals: 2, 3, 4, 5, 6, 8, 9, 13, 14. */
 uint32_t sogvect_write(size_t arenas, size_t per, size_t pages, size_t records, size_t turn, size_t words,
                        uint32_t *tables, size_t tables_len, uint8_t *log, size_t log_len, uint32_t *out, size_t out_len,
                        uint32_t n, uint32_t page, uint32_t kind, size_t *count);
 
-/* Empties a page of open record n. Result: the block that was there if it is free now, else nothing.
+/* Empties a page of open record n. Result: a pair, the block that was there and its birth, if that block is free now, else nothing.
  * Refusals: 2, 3, 4, 5, 8, 9, 14. */
 uint32_t sogvect_erase(size_t arenas, size_t per, size_t pages, size_t records, size_t turn, size_t words,
                        uint32_t *tables, size_t tables_len, uint8_t *log, size_t log_len, uint32_t *out, size_t out_len,
@@ -124,13 +127,13 @@ uint32_t sogvect_fork(size_t arenas, size_t per, size_t pages, size_t records, s
                       uint32_t *tables, size_t tables_len, uint8_t *log, size_t log_len, uint32_t *out, size_t out_len,
                       uint32_t n, size_t *count);
 
-/* Deletes record n, open or sealed. Result: the blocks that are free now, none to all of them.
+/* Deletes record n, open or sealed. Result: a pair for each block that is free now, none to all of them: the block and the birth that it had.
  * Refusals: 2, 3, 4, 8, 10, 14. */
 uint32_t sogvect_delete(size_t arenas, size_t per, size_t pages, size_t records, size_t turn, size_t words,
                         uint32_t *tables, size_t tables_len, uint8_t *log, size_t log_len, uint32_t *out, size_t out_len,
                         uint32_t n, size_t *count);
 
-/* Reads a page of record n. Result: the block on it, or nothing.
+/* Reads a page of record n. Result: a pair, the block on it and its birth, or nothing.
  * Refusals: 2, 3, 4, 5, 8. */
 uint32_t sogvect_read(size_t arenas, size_t per, size_t pages, size_t records, size_t turn, size_t words,
                       uint32_t *tables, size_t tables_len, uint8_t *log, size_t log_len, uint32_t *out, size_t out_len,
@@ -156,14 +159,14 @@ uint32_t sogvect_free_list(size_t arenas, size_t per, size_t pages, size_t recor
 
 /* Says what the delete of record n would do, and changes nothing but out. Result, three numbers: how many blocks the delete would free, how many log
  * words it would write, and how many non-empty shards with a birth above n's pred the record that follows n in its line has, 0 where none follows
- * (docs/RULES.md, 1.5, 1.8 and 3.12). A sogvect_delete straight after it, if done, frees exactly that many blocks.
+ * (docs/RULES.md, 1.5, 1.8 and 3.12). A sogvect_delete straight after it, if done, frees exactly that many blocks, and its *count is twice that.
  * Refusals: 2, 3, 4, 8, 10. */
 uint32_t sogvect_estimate(size_t arenas, size_t per, size_t pages, size_t records, size_t turn, size_t words,
                           uint32_t *tables, size_t tables_len, uint8_t *log, size_t log_len, uint32_t *out, size_t out_len,
                           uint32_t n, size_t *count);
 
-/* Reads a log of any length, of no store or of one whose tables are lost. Result: the blocks that are held at its end, rising.
- * A store's own log has more bytes than it uses; number 9 of its tables says how many words are used.
+/* Reads a log of any length, of no store or of one whose tables are lost. Result: the blocks that are held at its end, rising,
+ * one number each: a log has no births. A store's own log has more bytes than it uses; number 9 of its tables says how many words are used.
  * Refusals: 2, 3 (out too short), 7. */
 uint32_t sogvect_log_read(size_t arenas, size_t per, size_t pages, size_t records, size_t turn, size_t words,
                           const uint8_t *log, size_t log_len, uint32_t *out, size_t out_len, size_t *count);
@@ -180,7 +183,8 @@ uint32_t sogvect_log_compact(size_t arenas, size_t per, size_t pages, size_t rec
                              const uint8_t *log, size_t log_len, uint8_t *out, size_t out_len, size_t *count);
 
 /* Serves a script part by part, for a host that receives scripts from strangers. A script is a text of calls, one a line; the reply to each line is a line:
- * `+` and the result's numbers, or `-` and the refusal (docs/RULES.md, section 10). A store line makes the store; run, tables, log and out hold it.
+ * `+` and the result's numbers, a colon between a block and its birth, or `-` and the refusal (docs/RULES.md, section 10). A store line makes the store;
+ * run, tables, log and out hold it.
  *
  *   run       SOGVECT_SCRIPT_RUN numbers: what the script has between two parts. All 0 before the first part; what tables and log hold then is of no matter
  *   tables, log, out   at least the lengths that are enough for every geometry

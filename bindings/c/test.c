@@ -52,26 +52,27 @@ static int gives(uint32_t code, size_t n, const uint32_t *numbers) {
         EXPECT((call) == (number) && count == SIZE_MAX - 1); \
     } while (0)
 
+/* A block in a result is two numbers, the block and its birth. */
 static void every_call(void) {
     EXPECT(sogvect_make(STORE) == SOGVECT_DONE);
     GIVES(sogvect_begin(STORE, &count), 1);
-    GIVES(sogvect_write(STORE, 1, 4, SOGVECT_DATA, &count), 0);
-    GIVES(sogvect_write(STORE, 1, 3, SOGVECT_PIVOT, &count), 3);
-    GIVES(sogvect_read(STORE, 1, 4, &count), 0);
+    GIVES(sogvect_write(STORE, 1, 4, SOGVECT_DATA, &count), 0, 1);
+    GIVES(sogvect_write(STORE, 1, 3, SOGVECT_PIVOT, &count), 3, 1);
+    GIVES(sogvect_read(STORE, 1, 4, &count), 0, 1);
     GIVES_NOTHING(sogvect_read(STORE, 1, 2, &count));
     GIVES(sogvect_seal(STORE, 1, &count), 2);
-    GIVES(sogvect_write(STORE, 2, 4, SOGVECT_LEAF, &count), 1);
-    GIVES(sogvect_write(STORE, 2, 4, SOGVECT_LEAF, &count), 2, 1);
+    GIVES(sogvect_write(STORE, 2, 4, SOGVECT_LEAF, &count), 1, 2);
+    GIVES(sogvect_write(STORE, 2, 4, SOGVECT_LEAF, &count), 2, 2, 1, 2);
     GIVES(sogvect_fork(STORE, 1, &count), 3);
     GIVES_NOTHING(sogvect_erase(STORE, 3, 4, &count));
-    GIVES(sogvect_erase(STORE, 2, 4, &count), 2);
+    GIVES(sogvect_erase(STORE, 2, 4, &count), 2, 2);
     GIVES_NOTHING(sogvect_barrier(STORE, &count));
     GIVES(sogvect_free_list(STORE, &count), 1, 2, 4, 2);
     REFUSES(sogvect_estimate(STORE, 1, &count), SOGVECT_FORKED);
     GIVES(sogvect_estimate(STORE, 3, &count), 0, 0, 0);
     GIVES_NOTHING(sogvect_delete(STORE, 3, &count));
     GIVES(sogvect_estimate(STORE, 1, &count), 1, 1, 1);
-    GIVES(sogvect_delete(STORE, 1, &count), 0);
+    GIVES(sogvect_delete(STORE, 1, &count), 0, 1);
     GIVES(sogvect_compress(STORE, &count), 2);
     GIVES(sogvect_free_list(STORE, &count), 0, 3, 4, 2);
 }
@@ -110,7 +111,7 @@ static void script(void) {
     static uint32_t its_tables[SOGVECT_TABLES_NUMBERS_MOST], its_out[SOGVECT_OUT_NUMBERS_MOST];
     static uint8_t its_log[SOGVECT_LOG_BYTES_MOST], replies[65536];
     const char *text = "store 2 3 5 4 7 20\nB\nW 1 4 0\nno call\nL";
-    const char *said = "+\n+ 1\n+ 0\n- 1\n+ 1 2 3 3\n";
+    const char *said = "+\n+ 1\n+ 0:1\n- 1\n+ 1 2 3 3\n";
     uint32_t run[SOGVECT_SCRIPT_RUN] = {0};
     size_t at = 0, bytes = 0;
 #define PART(tables_len) \

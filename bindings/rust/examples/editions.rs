@@ -1,5 +1,10 @@
 //! Two editions of a book that share a page: what each has, what a delete would free, and what it frees. Run: cargo run --example editions
-use sogvect::{log_read, Geometry, Memory, Refusal, DATA, LEAF};
+use sogvect::{log_read, Block, Geometry, Memory, Refusal, DATA, LEAF};
+
+/// Blocks as text, each with its birth.
+fn spelled(blocks: impl IntoIterator<Item = Block>) -> String {
+    blocks.into_iter().map(|block| block.to_string()).collect::<Vec<_>>().join(" ")
+}
 
 fn main() -> Result<(), Refusal> {
     let g = Geometry { arenas: 2, per: 8, pages: 4, records: 8, turn: 16, words: 64 };
@@ -16,13 +21,13 @@ fn main() -> Result<(), Refusal> {
     store.erase(g, next, 1)?;
     for (name, record) in [("first", first), ("next", next), ("fork", other)] {
         let pages: Result<Vec<_>, _> = (0..4).map(|page| store.read(g, record, page)).collect();
-        println!("{name} (record {record}): {:?}", pages?);
+        println!("{name} (record {record}) has {}", spelled(pages?.into_iter().flatten()));
     }
 
     println!("deleting the forked record: {}", store.delete(g, first).unwrap_err());
-    println!("deleting the fork frees {:?}", store.delete(g, other)?);
+    println!("deleting the fork frees {}", spelled(store.delete(g, other)?));
     println!("deleting the first would do this: {:?}", store.estimate(g, first)?);
-    println!("it frees {:?}", store.delete(g, first)?);
+    println!("it frees {}", spelled(store.delete(g, first)?));
     println!("free now: {:?}", store.free_list(g)?);
     println!("the log has {} words", store.compress(g)?);
     let used = 8 * store.tables[9] as usize;

@@ -7,7 +7,7 @@
 //! and refuses what is not sound ([`Refusal`]), and a refused call changes nothing.
 //!
 //! ```
-//! use sogvect::{Geometry, Memory, Written, DATA};
+//! use sogvect::{Block, Geometry, Memory, Written, DATA};
 //!
 //! let g = Geometry { arenas: 1, per: 4, pages: 2, records: 4, turn: 8, words: 10 };
 //! let (mut tables, mut log, mut out) = (vec![0; g.tables_len()], vec![0; g.log_len()], vec![0; g.out_len()]);
@@ -15,11 +15,11 @@
 //! store.make(g)?;
 //! let first = store.begin(g)?;
 //! let written = store.write(g, first, 0, DATA)?;
-//! assert_eq!(written, Written { block: 0, freed: None });
+//! assert_eq!(written, Written { block: Block { number: 0, birth: first }, freed: None });
 //! let second = store.seal(g, first)?;
 //! store.write(g, second, 0, DATA)?;
-//! assert_eq!(store.read(g, first, 0)?, Some(0));
-//! assert_eq!(store.read(g, second, 0)?, Some(1));
+//! assert_eq!(store.read(g, first, 0)?, Some(Block { number: 0, birth: first }));
+//! assert_eq!(store.read(g, second, 0)?, Some(Block { number: 1, birth: second }));
 //! assert_eq!(store.free_list(g)?, [(2, 2)]);
 //! # Ok::<(), sogvect::Refusal>(())
 //! ```
@@ -27,10 +27,12 @@
 //! A whole script of calls as text, replies as text, is served by [`Script`].
 #![warn(missing_docs)]
 
+mod block;
 pub mod raw;
 mod refusal;
 mod script;
 
+pub use block::Block;
 pub use refusal::Refusal;
 pub use script::{script_part, Part, Script, SCRIPT_LOG, SCRIPT_OUT, SCRIPT_REPLIES, SCRIPT_RUN, SCRIPT_TABLES};
 
@@ -96,10 +98,10 @@ pub struct Memory<'a> {
 /// What a write gave and freed.
 #[derive(Clone, Copy, Debug, PartialEq, Eq, Hash)]
 pub struct Written {
-    /// The block that is on the page now.
-    pub block: u32,
+    /// The block that is on the page now. Its birth is the number of the record.
+    pub block: Block,
     /// The block that was there before, if it is free now.
-    pub freed: Option<u32>,
+    pub freed: Option<Block>,
 }
 
 /// What a delete would do.
@@ -180,14 +182,14 @@ impl Memory<'_> {
     /// Refusals: 2, 3, 4, 5, 6, 8, 9, 13, 14.
     pub fn write(&mut self, g: Geometry, n: u32, page: u32, kind: u32) -> Result<Written, Refusal> {
         let numbers = call!(sogvect_write, self, g, n, page, kind)?;
-        Ok(Written { block: numbers[0], freed: numbers.get(1).copied() })
+        Ok(Written { block: Block::of(&numbers[..2]), freed: numbers.get(2..4).map(Block::of) })
     }
 
     /// Empties a page of open record `n`. Gives the block that was there, if it is free now.
     ///
     /// Refusals: 2, 3, 4, 5, 8, 9, 14.
-    pub fn erase(&mut self, g: Geometry, n: u32, page: u32) -> Result<Option<u32>, Refusal> {
-        Ok(call!(sogvect_erase, self, g, n, page)?.first().copied())
+    pub fn erase(&mut self, g: Geometry, n: u32, page: u32) -> Result<Option<Block>, Refusal> {
+        Ok(call!(sogvect_erase, self, g, n, page)?.get(..2).map(Block::of))
     }
 
     /// Seals open record `n`; an open record with the same pages follows it in its line. Gives the new record's number.
@@ -204,18 +206,18 @@ impl Memory<'_> {
         Ok(call!(sogvect_fork, self, g, n)?[0])
     }
 
-    /// Deletes record `n`, open or sealed. Gives the blocks that are free now, in the result buffer.
+    /// Deletes record `n`, open or sealed. Gives the blocks that are free now, in the order in which they were freed.
     ///
     /// Refusals: 2, 3, 4, 8, 10, 14.
-    pub fn delete(&mut self, g: Geometry, n: u32) -> Result<&[u32], Refusal> {
-        call!(sogvect_delete, self, g, n)
+    pub fn delete(&mut self, g: Geometry, n: u32) -> Result<Vec<Block>, Refusal> {
+        Ok(call!(sogvect_delete, self, g, n)?.chunks_exact(2).map(Block::of).collect())
     }
 
     /// Gives the block on a page of record `n`, if there is one.
     ///
     /// Refusals: 2, 3, 4, 5, 8.
-    pub fn read(&mut self, g: Geometry, n: u32, page: u32) -> Result<Option<u32>, Refusal> {
-        Ok(call!(sogvect_read, self, g, n, page)?.first().copied())
+    pub fn read(&mut self, g: Geometry, n: u32, page: u32) -> Result<Option<Block>, Refusal> {
+        Ok(call!(sogvect_read, self, g, n, page)?.get(..2).map(Block::of))
     }
 
     /// Adds a barrier to the log.
@@ -248,7 +250,8 @@ impl Memory<'_> {
     }
 }
 
-/// Reads a log of any length and gives the blocks that are held at its end, rising, in `out` (at least [`Geometry::out_len`] numbers).
+/// Reads a log of any length and gives the blocks that are held at its end, rising, in `out` (at least [`Geometry::out_len`] numbers). A log has no
+/// births.
 ///
 /// The used part of a store's own log is the first `8 * tables[9]` bytes.
 ///
@@ -293,7 +296,19 @@ pub fn log_compact<'a>(g: Geometry, log: &[u8], out: &'a mut [u8]) -> Result<&'a
     let mut count: usize = 0;
     // SAFETY: the pointers and lengths are those of a shared slice, of an exclusive one, and of a local for the count.
     let code = unsafe {
-        raw::sogvect_log_compact(g.arenas, g.per, g.pages, g.records, g.turn, g.words, log.as_ptr(), log.len(), out.as_mut_ptr(), out.len(), &mut count)
+        raw::sogvect_log_compact(
+            g.arenas,
+            g.per,
+            g.pages,
+            g.records,
+            g.turn,
+            g.words,
+            log.as_ptr(),
+            log.len(),
+            out.as_mut_ptr(),
+            out.len(),
+            &mut count,
+        )
     };
     Refusal::check(code).map(|()| &out[..8 * count])
 }

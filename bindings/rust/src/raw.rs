@@ -1,4 +1,5 @@
 //! The functions of libsogvect.a as they are, with slices as a pointer and a length. `include/sogvect.h` says what each does.
+//! A block that `sogvect_write`, `sogvect_erase`, `sogvect_delete` or `sogvect_read` names is two numbers of the result buffer, the block and its birth.
 //!
 //! Every pointer has to be aligned and valid for its length, not null even where the length is 0, and what is lent as `*mut` may overlap nothing else that is lent.
 
@@ -39,7 +40,7 @@ calls! {
     sogvect_fork(n);
     /// Record n leaves the store.
     sogvect_delete(n);
-    /// The block on a page of record n.
+    /// The block on a page of record n, and its birth.
     sogvect_read(n, page);
     /// A barrier in the log.
     sogvect_barrier();
@@ -68,7 +69,7 @@ extern "C" {
         out_len: usize,
     ) -> u32;
 
-    /// The blocks held at the end of a log.
+    /// The blocks held at the end of a log, one number each.
     pub fn sogvect_log_read(
         arenas: usize,
         per: usize,

@@ -59,7 +59,7 @@ pub fn script_part(text: &[u8], at: usize, run: &mut [u32], memory: &mut Memory<
 /// while let Some(part) = script.part(text, &mut at) {
 ///     replies.extend_from_slice(part);
 /// }
-/// assert_eq!(replies, b"+\n+ 1\n+ 0\n+ 0\n- 1\n");
+/// assert_eq!(replies, b"+\n+ 1\n+ 0:1\n+ 0:1\n- 1\n");
 /// ```
 #[derive(Clone, Debug)]
 pub struct Script {

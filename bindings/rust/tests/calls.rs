@@ -1,7 +1,16 @@
 //! Every call on valid memory: the listing (section 11 of the rules), longer scripts, and arguments that would show a wrong declaration.
 mod common;
 use common::{bare, every_call, numbers, refused, small, Call, Owned, MARK, MARKS, SMALL};
-use sogvect::{Estimate, Geometry, Memory, Refusal, Written, DATA};
+use sogvect::{Block, Estimate, Geometry, Memory, Refusal, Written, DATA};
+
+const fn block(number: u32, birth: u32) -> Block {
+    Block { number, birth }
+}
+
+/// A write that frees nothing.
+const fn given(number: u32, birth: u32) -> Written {
+    Written { block: block(number, birth), freed: None }
+}
 
 /// The listing (section 11 of the rules), with typed results.
 #[test]
@@ -11,28 +20,52 @@ fn listing() {
     let mut s = m.lend();
     assert_eq!(s.make(g), Ok(()));
     assert_eq!(s.begin(g), Ok(1));
-    assert_eq!(s.write(g, 1, 0, DATA), Ok(Written { block: 0, freed: None }));
+    assert_eq!(s.write(g, 1, 0, DATA), Ok(given(0, 1)));
     assert_eq!(s.seal(g, 1), Ok(2));
-    assert_eq!(s.write(g, 2, 0, DATA), Ok(Written { block: 1, freed: None }));
-    assert_eq!(s.write(g, 2, 0, DATA), Ok(Written { block: 2, freed: Some(1) }));
+    assert_eq!(s.write(g, 2, 0, DATA), Ok(given(1, 2)));
+    assert_eq!(s.write(g, 2, 0, DATA), Ok(Written { block: block(2, 2), freed: Some(block(1, 2)) }));
     assert_eq!(s.fork(g, 1), Ok(3));
     assert_eq!(s.delete(g, 1), Err(Refusal::FORKED));
     assert_eq!(s.erase(g, 3, 0), Ok(None));
-    assert_eq!(s.delete(g, 3), Ok(&[][..]));
-    assert_eq!(s.delete(g, 1), Ok(&[0][..]));
+    assert_eq!(s.delete(g, 3), Ok(vec![]));
+    assert_eq!(s.delete(g, 1), Ok(vec![block(0, 1)]));
     assert_eq!(m.words(), [0x1, 0x4001, 0x8001, 0x4002, 0x2]);
     let mut s = m.lend();
     assert_eq!(s.compress(g), Ok(2));
     assert_eq!(m.words(), [0x8001, 0x3]);
     let mut s = m.lend();
-    assert_eq!(s.write(g, 2, 1, DATA), Ok(Written { block: 3, freed: None }));
+    assert_eq!(s.write(g, 2, 1, DATA), Ok(given(3, 2)));
     assert_eq!(s.free_list(g), Ok(vec![(0, 2)]));
     assert_eq!(s.delete(g, 9), Err(Refusal::NO_RECORD));
     assert_eq!(s.write(g, 2, 2, DATA), Err(Refusal::NO_PAGE));
-    assert_eq!(s.read(g, 2, 1), Ok(Some(3)));
-    assert_eq!(s.erase(g, 2, 1), Ok(Some(3)));
+    assert_eq!(s.read(g, 2, 1), Ok(Some(block(3, 2))));
+    assert_eq!(s.erase(g, 2, 1), Ok(Some(block(3, 2))));
     assert_eq!(s.read(g, 2, 1), Ok(None));
     assert_eq!(s.barrier(g), Ok(()));
+}
+
+/// A block has the birth that it was given with, whichever record names or frees it: record 3 frees a block of 2, which is gone.
+#[test]
+fn births() {
+    let g = Geometry { arenas: 1, per: 8, pages: 3, records: 3, turn: 8, words: 18 };
+    let mut m = Owned::made(g);
+    let mut s = m.lend();
+    assert_eq!(s.begin(g), Ok(1));
+    assert_eq!(s.write(g, 1, 0, DATA), Ok(given(0, 1)));
+    assert_eq!(s.seal(g, 1), Ok(2));
+    assert_eq!(s.write(g, 2, 1, DATA), Ok(given(1, 2)));
+    assert_eq!(s.write(g, 2, 2, DATA), Ok(given(2, 2)));
+    assert_eq!(s.seal(g, 2), Ok(3));
+    assert_eq!(s.delete(g, 2), Ok(vec![]));
+    assert_eq!(s.read(g, 3, 0), Ok(Some(block(0, 1))));
+    assert_eq!(s.read(g, 3, 1), Ok(Some(block(1, 2))));
+    assert_eq!(s.write(g, 3, 1, DATA), Ok(Written { block: block(3, 3), freed: Some(block(1, 2)) }));
+    assert_eq!(s.erase(g, 3, 2), Ok(Some(block(2, 2))));
+    assert_eq!(s.write(g, 3, 2, DATA), Ok(given(4, 3)));
+    assert_eq!(s.erase(g, 3, 0), Ok(None));
+    assert_eq!(s.delete(g, 1), Ok(vec![block(0, 1)]));
+    assert_eq!(s.delete(g, 3), Ok(vec![block(3, 3), block(4, 3)]));
+    assert_eq!(block(2047, 999_999).to_string(), "2047:999999");
 }
 
 /// A script line as the call it spells, if it spells one.
@@ -61,9 +94,11 @@ fn geometry_of(line: &str) -> Geometry {
     Geometry { arenas: n[0], per: n[1], pages: n[2], records: n[3], turn: n[4], words: n[5] }
 }
 
-fn spelled(reply: Result<Vec<u32>, Refusal>) -> String {
+/// A reply as a line; of blocks each second number is a birth.
+fn spelled(reply: Result<Vec<u32>, Refusal>, are_blocks: bool) -> String {
+    let separator = |i: usize| if are_blocks && i % 2 == 1 { ':' } else { ' ' };
     match reply {
-        Ok(numbers) => numbers.iter().fold(String::from("+"), |text, n| format!("{text} {n}")),
+        Ok(numbers) => numbers.iter().enumerate().fold(String::from("+"), |text, (i, n)| format!("{text}{}{n}", separator(i))),
         Err(refusal) => format!("- {}", refusal.number()),
     }
 }
@@ -82,11 +117,11 @@ fn script(text: &str, replies: &str, logs: Option<&str>) {
         }
         if line.starts_with("store ") {
             let asked = geometry_of(line);
-            assert_eq!(spelled(store.make(asked).map(|()| vec![])), reply, "line {i}: {line}");
+            assert_eq!(spelled(store.make(asked).map(|()| vec![]), false), reply, "line {i}: {line}");
             g = if reply == "+" { Some(asked) } else { g };
         } else {
             let (g, call) = (g.expect("a store"), parsed(line).expect("a call"));
-            assert_eq!(spelled(numbers(&mut store, g, call)), reply, "line {i}: {line}");
+            assert_eq!(spelled(numbers(&mut store, g, call), call.gives_blocks()), reply, "line {i}: {line}");
         }
         made += 1;
         if let Some(words) = words {
@@ -195,10 +230,10 @@ fn own_numbers_whole() {
     refused(&mut m, SMALL, Call::W(2, 4, 1), 9);
     refused(&mut m, SMALL, Call::R(3, 0), 8);
     let mut s = m.lend();
-    assert_eq!(s.write(SMALL, 4, 3, 1), Ok(Written { block: 4, freed: None }));
-    assert_eq!(s.read(SMALL, 4, 3), Ok(Some(4)));
+    assert_eq!(s.write(SMALL, 4, 3, 1), Ok(given(4, 4)));
+    assert_eq!(s.read(SMALL, 4, 3), Ok(Some(block(4, 4))));
     assert_eq!(s.read(SMALL, 4, 1), Ok(None));
-    assert_eq!(s.erase(SMALL, 4, 3), Ok(Some(4)));
+    assert_eq!(s.erase(SMALL, 4, 3), Ok(Some(block(4, 4))));
 }
 
 /// The count is written whole, and nothing beside it; the result buffer beyond the result stays.
@@ -273,7 +308,7 @@ fn refusals_at_the_end() {
     refused(&mut m, g, Call::D(1), 14);
     assert_eq!(m.lend().estimate(g, 1), Ok(Estimate { blocks: 2, words: 2, shards: 0 }));
     assert_eq!(m.lend().compress(g), Ok(3));
-    assert_eq!(m.lend().erase(g, 1, 0), Ok(Some(0)));
+    assert_eq!(m.lend().erase(g, 1, 0), Ok(Some(block(0, 1))));
     m.tables[6] = 999_999;
     refused(&mut m, g, Call::B, 12);
     refused(&mut m, g, Call::S(1), 12);

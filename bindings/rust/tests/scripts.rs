@@ -104,9 +104,9 @@ const BEGINNING: &[u8] = b"store 1 4 2 4 8 10\nB\nW 1 0 0\n";
 /// A store with a record and a block, as a first part leaves it.
 fn begun() -> Lent {
     let mut lent = Lent::new();
-    assert_eq!(lent.part(BEGINNING, 0), Ok(Part { at: BEGINNING.len(), count: 10 }));
-    assert_eq!(&lent.replies[..10], b"+\n+ 1\n+ 0\n");
-    assert!(lent.replies[10..].iter().all(|&b| b == MARK));
+    assert_eq!(lent.part(BEGINNING, 0), Ok(Part { at: BEGINNING.len(), count: 12 }));
+    assert_eq!(&lent.replies[..12], b"+\n+ 1\n+ 0:1\n");
+    assert!(lent.replies[12..].iter().all(|&b| b == MARK));
     assert_eq!(lent.run, [1, 1, 4, 2, 4, 8, 10]);
     lent
 }
@@ -114,18 +114,31 @@ fn begun() -> Lent {
 #[test]
 fn a_second_part_goes_on() {
     let mut lent = begun();
-    assert_eq!(lent.part(b"R 1 0\nL", 0), Ok(Part { at: 8, count: 10 }));
-    assert_eq!(&lent.replies[..10], b"+ 0\n+ 1 3\n");
+    assert_eq!(lent.part(b"R 1 0\nL", 0), Ok(Part { at: 8, count: 12 }));
+    assert_eq!(&lent.replies[..12], b"+ 0:1\n+ 1 3\n");
 }
 
 #[test]
 fn the_least_buffer_has_one_line_a_part() {
     let mut lent = Lent::new();
     lent.replies.truncate(SCRIPT_REPLIES);
-    for (at, end, count) in [(0, 19, 2), (19, 21, 4), (21, 29, 4)] {
+    for (at, end, count) in [(0, 19, 2), (19, 21, 4), (21, 29, 6)] {
         assert_eq!(lent.part(BEGINNING, at), Ok(Part { at: end, count }));
     }
-    assert_eq!(&lent.replies[..4], b"+ 0\n");
+    assert_eq!(&lent.replies[..6], b"+ 0:1\n");
+}
+
+/// Births of one to six digits: the next record has the number behind the last one given.
+#[test]
+fn births_of_any_length() {
+    for n in [2, 9, 10, 99, 100, 999, 1000, 9_999, 10_000, 99_999, 100_000, 999_999] {
+        let mut lent = begun();
+        lent.tables[6] = n - 1;
+        let text = format!("B\nW {n} 1 0\nW {n} 1 0\nR {n} 1\nR 1 0\nE {n} 1\nW {n} 0 0\nD {n}\n");
+        let said = format!("+ {n}\n+ 1:{n}\n+ 2:{n} 1:{n}\n+ 2:{n}\n+ 0:1\n+ 2:{n}\n+ 3:{n}\n+ 3:{n}\n");
+        let part = lent.part(text.as_bytes(), 0).unwrap();
+        assert_eq!(String::from_utf8_lossy(&lent.replies[..part.count]), said);
+    }
 }
 
 #[test]

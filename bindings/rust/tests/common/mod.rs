@@ -1,6 +1,6 @@
 //! What the tests share: owned memory, calls by letter, numbers at random.
 #![allow(dead_code)]
-use sogvect::{raw, Geometry, Memory, Refusal};
+use sogvect::{raw, Block, Geometry, Memory, Refusal};
 
 /// The memory of a store.
 #[derive(Clone, Debug, PartialEq, Eq)]
@@ -56,10 +56,22 @@ pub enum Call {
     Q(u32),
 }
 
+impl Call {
+    /// Whether the numbers of a result are blocks, each with its birth behind it.
+    pub fn gives_blocks(self) -> bool {
+        matches!(self, Call::W(..) | Call::E(..) | Call::D(_) | Call::R(..))
+    }
+}
+
 /// Each call once, on a record and a page.
 pub fn every_call(n: u32, page: u32) -> [Call; 11] {
     use Call::*;
     [B, W(n, page, 1), E(n, page), S(n), F(n), D(n), R(n, page), Y, C, L, Q(n)]
+}
+
+/// The numbers of blocks: two each.
+fn pairs(blocks: impl IntoIterator<Item = Block>) -> Vec<u32> {
+    blocks.into_iter().flat_map(|b| [b.number, b.birth]).collect()
 }
 
 /// The result's numbers, from what the typed function gave.
@@ -68,13 +80,13 @@ pub fn numbers(store: &mut Memory<'_>, g: Geometry, call: Call) -> Result<Vec<u3
         Call::B => vec![store.begin(g)?],
         Call::W(n, page, kind) => {
             let w = store.write(g, n, page, kind)?;
-            [w.block].into_iter().chain(w.freed).collect()
+            pairs([w.block].into_iter().chain(w.freed))
         }
-        Call::E(n, page) => store.erase(g, n, page)?.into_iter().collect(),
+        Call::E(n, page) => pairs(store.erase(g, n, page)?),
         Call::S(n) => vec![store.seal(g, n)?],
         Call::F(n) => vec![store.fork(g, n)?],
-        Call::D(n) => store.delete(g, n)?.to_vec(),
-        Call::R(n, page) => store.read(g, n, page)?.into_iter().collect(),
+        Call::D(n) => pairs(store.delete(g, n)?),
+        Call::R(n, page) => pairs(store.read(g, n, page)?),
         Call::Y => store.barrier(g).map(|()| vec![])?,
         Call::C => vec![store.compress(g)?],
         Call::L => store.free_list(g)?.into_iter().flat_map(|(first, length)| [first, length]).collect(),
