@@ -51,7 +51,7 @@ def ended(name, run, wrote, said=b""):
 
 # A typist sees each reply before the next call, and half a line has none yet.
 run = piped()
-for call, reply in ((b"store 1 4 2 4 8 10\n", b"+\n"), (b"B\n", b"+ 1\n"), (b"W 1", b""), (b" 0 0\nL", b"+ 0\n"), (b"\n", b"+ 1 3\n")):
+for call, reply in ((b"store 1 4 2 4 8 10\n", b"+\n"), (b"B\n", b"+ 1\n"), (b"W 1", b""), (b" 0 0\nL", b"+ 0:1\n"), (b"\n", b"+ 1 3\n")):
     run.stdin.write(call)
     run.stdin.flush()
     until("typed: a call was not read", lambda: bytes_in(run.stdin) == 0)
