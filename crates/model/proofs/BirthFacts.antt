@@ -85,8 +85,8 @@ on-page (suc c) b i = cases i (λ e. ap suc (sym e)) (λ j. absurd j)
 
 -- ── the invariant: each birth in the store is that of the last write that gave its block ──
 
-abbrev pub Told : View → List Entry → Type 0
-Told K h = (b : ℕ) → 0 < K .birth b → LastGave b (K .birth b) h
+abbrev pub Tracked : View → List Entry → Type 0
+Tracked K h = (b : ℕ) → 0 < K .birth b → LastGave b (K .birth b) h
 
 -- an entry that is no accepted W gave nothing
 abbrev writes : Call → ℕ
@@ -124,22 +124,22 @@ other-given : (c : Call) (l : List ℕ) (b q : ℕ) → (b ≡ getD l 0 0 → �
 other-given c l b q n w = n (sym (ap firstOf (w .4)))
 
 -- an action that gives nothing: what is held then has its birth
-quiet : (K : View) (a : Action) (h : List Entry) (e : Entry) → ((b : ℕ) → Gives a b → ⊥) → ((b q : ℕ) → Gave b q e → ⊥) → Told K h → Told (done K a) (h ++ (e ∷ []))
+quiet : (K : View) (a : Action) (h : List Entry) (e : Entry) → ((b : ℕ) → Gives a b → ⊥) → ((b q : ℕ) → Gave b q e → ⊥) → Tracked K h → Tracked (done K a) (h ++ (e ∷ []))
 quiet K a h e n m t b k =
     cases (done-birth K a b k)
     (λ g. absurd (n b g))
     (λ i. subst (λ v. LastGave b v (h ++ (e ∷ []))) (sym i) (kept-last b (K .birth b) h e (m b) (t b (omega (arith, i)))))
 
-module _ (g : Geometry) (inside : Inside g) (T : State) (R : Fine g T) (h : List Entry) (t : Told (T .view) h) where
+module _ (g : Geometry) (inside : Inside g) (T : State) (R : Fine g T) (h : List Entry) (t : Tracked (T .view) h) where
   -- a call whose action gives nothing, or that has none
-  acts : (a : Action) (c : Call) (l : List ℕ) → ((b : ℕ) → Gives a b → ⊥) → writes c ≡ 0 → Told (done (T .view) a) (h ++ (entry c (accepted l) ∷ []))
+  acts : (a : Action) (c : Call) (l : List ℕ) → ((b : ℕ) → Gives a b → ⊥) → writes c ≡ 0 → Tracked (done (T .view) a) (h ++ (entry c (accepted l) ∷ []))
   acts a c l n z = quiet (T .view) a h (entry c (accepted l)) n (no-write c (accepted l) z) t
 
-  looks : (c : Call) (A : Reply) → ((b q : ℕ) → Gave b q (entry c A) → ⊥) → Told (T .view) (h ++ (entry c A ∷ []))
+  looks : (c : Call) (A : Reply) → ((b q : ℕ) → Gave b q (entry c A) → ⊥) → Tracked (T .view) (h ++ (entry c A ∷ []))
   looks c A n b k = kept-last b (T .view .birth b) h (entry c A) (n b) (t b k)
 
   write-told : (r x k : ℕ) (l : List ℕ) → NoneHolds (conditions g T (Write r x k)) → getD l 0 0 ≡ block g T k → l ≡ block g T k ∷ lib.ListN.drop 1 l →
-      Told (done (T .view) (writing g T r x k)) (h ++ (entry (Write r x k) (accepted l) ∷ []))
+      Tracked (done (T .view) (writing g T r x k)) (h ++ (entry (Write r x k) (accepted l) ∷ []))
   write-told r x k l n f d b p =
       let a = writing g T r x k in
       let e : Entry = entry (Write r x k) (accepted l) in
@@ -156,7 +156,7 @@ module _ (g : Geometry) (inside : Inside g) (T : State) (R : Fine g T) (h : List
       let s = kept-last b (K .birth b) h e (λ q. other-given (Write r x k) l b q (λ j. m (j ∙ f))) (t b (omega (arith, i))) in
       subst (λ u. LastGave b u (h ++ (e ∷ []))) (sym i) s))
 
-  effect-told : (c : Call) (l : List ℕ) → NoneHolds (conditions g T c) → result g T c ≡ l → Told (effect g T c .view) (h ++ (entry c (accepted l) ∷ []))
+  effect-told : (c : Call) (l : List ℕ) → NoneHolds (conditions g T c) → result g T c ≡ l → Tracked (effect g T c .view) (h ++ (entry c (accepted l) ∷ []))
   unfolding logged given acted
   effect-told Begin l n e = acts doB Begin l (λ b i. i) refl
   effect-told (Write r x k) l n e =
@@ -171,11 +171,11 @@ module _ (g : Geometry) (inside : Inside g) (T : State) (R : Fine g T) (h : List
   effect-told FreeList l n e = looks FreeList (accepted l) (no-write FreeList (accepted l) refl)
   effect-told (Estimate r) l n e = looks (Estimate r) (accepted l) (no-write (Estimate r) (accepted l) refl)
 
-  pub told-step : (i : Screened) → Told (modelAfter g T i .view) (h ++ (entryOf (model g) T i ∷ []))
+  pub told-step : (i : Screened) → Tracked (modelAfter g T i .view) (h ++ (entryOf (model g) T i ∷ []))
   unfolding modelAfter
   told-step i = go (answer g T i) refl
     where
-      go : (A : Reply) → answer g T i ≡ A → Told (keepOr A T (effect g T (i .call)) .view) (h ++ (entry (i .call) A ∷ []))
+      go : (A : Reply) → answer g T i ≡ A → Tracked (keepOr A T (effect g T (i .call)) .view) (h ++ (entry (i .call) A ∷ []))
       go (refused n) e = looks (i .call) (refused n) (no-refusal (i .call) n)
       go (accepted l) e = let w = accepted-is g T i l e in effect-told (i .call) l (w .0) (w .1)
 
@@ -249,12 +249,12 @@ after-fine g inside T R i = go (answer g T i) refl
     go (refused n) e = R
     go (accepted l) e = effect-fine g inside T R (i .call) (accepted-is g T i l e .0)
 
-told-from : (g : Geometry) → Inside g → (l : List Screened) (T : State) (h : List Entry) → Fine g T → Told (T .view) h →
-    Told (stateFrom (model g) T l .view) (h ++ historyFrom (model g) T l)
-told-from g inside [] T h R t = subst (Told (T .view)) (sym (append-nil h)) t
+told-from : (g : Geometry) → Inside g → (l : List Screened) (T : State) (h : List Entry) → Fine g T → Tracked (T .view) h →
+    Tracked (stateFrom (model g) T l .view) (h ++ historyFrom (model g) T l)
+told-from g inside [] T h R t = subst (Tracked (T .view)) (sym (append-nil h)) t
 told-from g inside (i ∷ l) T h R t =
     let e = entryOf (model g) T i in
-    subst (Told (stateFrom (model g) (modelAfter g T i) l .view)) (append-assoc h (e ∷ []) (historyFrom (model g) (modelAfter g T i) l))
+    subst (Tracked (stateFrom (model g) (modelAfter g T i) l .view)) (append-assoc h (e ∷ []) (historyFrom (model g) (modelAfter g T i) l))
     (told-from g inside l (modelAfter g T i) (h ++ (e ∷ [])) (after-fine g inside T R i) (told-step g inside T R h t i))
 
 -- A BIRTH IS THE NUMBER OF THE RECORD WHOSE WRITE LAST GAVE THE BLOCK
@@ -263,7 +263,7 @@ pub birth-is : (g : Geometry) → Inside g → (before : List Screened) (i : Scr
 unfolding fresh
 birth-is g inside before i b v n =
     let R = reached g inside before .fine in
-    let none : Told (fresh g .view) [] = λ c k. absurd (let z : ⊥ = omega arith in z) in
+    let none : Tracked (fresh g .view) [] = λ c k. absurd (let z : ⊥ = omega arith in z) in
     let t = told-from g inside before (fresh g) [] (fresh-fine g inside) none in
     subst (LastGave b v) (sym (history-append g before (i ∷ []) (fresh g)))
     (next-told g inside (stateAfter g before) R (history g before) t i b v n)

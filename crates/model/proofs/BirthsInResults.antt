@@ -3,7 +3,6 @@ use mathlib.Core.Path.{_≡_, refl, sym, ap, _∙_}
 use mathlib.Core.List.{List, [], _∷_, map}
 use Prim.Native.Nat.{ℕ, _*_, _<_}
 use lib.ListN.{drop}
-use Rattle.answer.specs.Reply.{accepted}
 use Rattle.geometry.specs.declared.Geometry.{Geometry}
 use Rattle.log.specs.Word.{allocated, released, writeAt, bytesOf}
 use Rattle.model.specs.View.{View}
@@ -14,9 +13,9 @@ use Rattle.model.specs.Actions.{Action, Asks}
 use Rattle.model.specs.Held.{frees}
 use Rattle.model.specs.State.{State}
 use Rattle.model.specs.Calls.{slot, block, writing, erasing, deleting, written, result, acted, given}
-use Rattle.model.specs.Layout.{viewOf, stateOf}
-use Rattle.model.specs.Memory.{Memory, wordsUsed, writtenAt, reply, after}
-use Rattle.model.specs.Births.{Stands, Standing, Begins, NamedBy, BirthsInResults, wordsFor, LogAsBefore}
+use Rattle.model.specs.Layout.{stateOf}
+use Rattle.model.specs.Memory.{Memory, wordsUsed, writtenAt}
+use Rattle.model.specs.Births.{InStore, WithBirths, BirthsInResults, wordsFor, LogAsBefore}
 use Rattle.model.specs.declared.Call.{Call}
 use Rattle.model.specs.declared.Call.the-variants.{Begin, Write, Erase, Seal, Fork, Delete, Read, Barrier, Compress, FreeList, Estimate}
 use Rattle.model.proofs.Facts.{born-le}
@@ -25,21 +24,21 @@ use Rattle.model.proofs.HeldFacts.{frees-is}
 use Rattle.model.proofs.ResultFacts.{blocks-in-paired}
 use Rattle.model.proofs.BirthStays.{write-birth}
 use Rattle.model.proofs.BirthFacts.{on-page}
-use Rattle.model.proofs.Fine.{Fine, named-slot, asks-W, asks-E, asks-D}
+use Rattle.model.proofs.Fine.{named-slot, asks-W, asks-E, asks-D}
 use Rattle.model.proofs.Keeps.{accepted-is, accepted-state, accepted-log, sound-fine}
 
 -- ── births ──
 
-stands : (K : View) → Sound K → (b : ℕ) → 0 < K .birth b → Stands K b
-stands K S b h =
+in-store : (K : View) → Sound K → (b : ℕ) → 0 < K .birth b → InStore K b
+in-store K S b h =
     let (s, x, o) = sound-means K S .held b .0 h in
     record { slot = s; page = x; on = o; above = h; given = born-le K S b }
 
-standing : (K : View) (bs l : List ℕ) → Sound K → paired (K .birth) bs ≡ l → ((b : ℕ) → In b bs → 0 < K .birth b) → Standing K l
-standing K bs l S e h = record { these = bs; numbers = sym e; stand = λ b i. stands K S b (h b i) }
+with-births : (K : View) (bs l : List ℕ) → Sound K → paired (K .birth) bs ≡ l → ((b : ℕ) → In b bs → 0 < K .birth b) → WithBirths K l
+with-births K bs l S e h = record { these = bs; numbers = sym e; in-store = λ b i. in-store K S b (h b i) }
 
-freed-standing : (K : View) (a : Action) (l : List ℕ) → Sound K → Asks K a → paired (K .birth) (frees K a) ≡ l → Standing K l
-freed-standing K a l S q e = standing K (frees K a) l S e (λ b i. frees-is K a S q b .0 i .0)
+freed-births : (K : View) (a : Action) (l : List ℕ) → Sound K → Asks K a → paired (K .birth) (frees K a) ≡ l → WithBirths K l
+freed-births K a l S q e = with-births K (frees K a) l S e (λ b i. frees-is K a S q b .0 i .0)
 
 pub births-in-results : BirthsInResults
 unfolding stateOf given acted
@@ -58,27 +57,27 @@ births-in-results g M (Write r x k) l e =
       birth =
           ap (λ (U : State). U .view .birth (block g T k)) (accepted-state g M (Write r x k) l e) ∙
           write-birth (T .view) (slot T r) x (block g T k) ∙ here;
-      freed = freed-standing (T .view) (writing g T r x k) (drop 2 (result g T (Write r x k))) (F .sound) q refl;
+      freed = freed-births (T .view) (writing g T r x k) (drop 2 (result g T (Write r x k))) (F .sound) q refl;
     }
 births-in-results g M (Erase r x) l e =
     let (A, i) = accepted-is g M (Erase r x) l e in
     let T : State = stateOf g (M .tables) in
     let F = sound-fine g (M .tables) (M .log) (A .sound) in
-    freed-standing (T .view) (erasing T r x) l (F .sound) (asks-E g (A .inside) T F r x (A .none)) i
+    freed-births (T .view) (erasing T r x) l (F .sound) (asks-E g (A .inside) T F r x (A .none)) i
 births-in-results g M (Seal r) l e = tt
 births-in-results g M (Fork r) l e = tt
 births-in-results g M (Delete r) l e =
     let (A, i) = accepted-is g M (Delete r) l e in
     let T : State = stateOf g (M .tables) in
     let F = sound-fine g (M .tables) (M .log) (A .sound) in
-    freed-standing (T .view) (deleting T r) l (F .sound) (asks-D g (A .inside) T F r (A .none .0) (A .none .1 .0)) i
+    freed-births (T .view) (deleting T r) l (F .sound) (asks-D g (A .inside) T F r (A .none .0) (A .none .1 .0)) i
 births-in-results g M (Read r x) l e =
     let (A, i) = accepted-is g M (Read r x) l e in
     let T : State = stateOf g (M .tables) in
     let F = sound-fine g (M .tables) (M .log) (A .sound) in
     let live = named-slot g (A .inside) T F r (A .none .1 .0) .0 in
     let p : ℕ = T .view .page (slot T r) x in
-    standing (T .view) (onPage p) l (F .sound) i (λ b j. F .sound .paged (slot T r) x b live (on-page p b j) .born)
+    with-births (T .view) (onPage p) l (F .sound) i (λ b j. F .sound .paged (slot T r) x b live (on-page p b j) .born)
 births-in-results g M Barrier l e = tt
 births-in-results g M Compress l e = tt
 births-in-results g M FreeList l e = tt

@@ -38,7 +38,7 @@ freed-one b freed = omega arith
 freed-one b marked = omega arith
 freed-one b kept = omega arith
 
-erased-one : (K : View) (r l : ℕ) → length (erased K r l) ≤ 1
+pub erased-one : (K : View) (r l : ℕ) → length (erased K r l) ≤ 1
 unfolding erased
 erased-one K r zero = omega arith
 erased-one K r (suc b) = freed-one b (fate (K .birth b) (predNum K r) (baseNum K r))

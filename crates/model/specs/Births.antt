@@ -41,7 +41,7 @@ EventsAre = (g : Geometry) (T : State) (c : Call) → eventsOf c (accepted (resu
 -- ── the numbers of a result that names blocks ──
 
 -- in the store, b is on a page of a record, and its birth is a number that was given
-pub record Stands (K : View) (b : ℕ) : Type 0 where
+pub record InStore (K : View) (b : ℕ) : Type 0 where
   pub slot : ℕ
   pub page : ℕ
   pub on : On K slot page b
@@ -49,25 +49,25 @@ pub record Stands (K : View) (b : ℕ) : Type 0 where
   pub given : K .birth b ≤ K .last
 
 -- the numbers l are blocks that stand in the store, each with its birth there behind it
-pub record Standing (K : View) (l : List ℕ) : Type 0 where
+pub record WithBirths (K : View) (l : List ℕ) : Type 0 where
   pub these : List ℕ
   pub numbers : l ≡ paired (K .birth) these
-  pub stand : (b : ℕ) → In b these → Stands K b
+  pub in-store : (b : ℕ) → In b these → InStore K b
 
 -- a W of record r first gives a block that was free, with the birth that it has from then on, which is r; K is the store before the call, L after it
-pub record Begins (K L : View) (r : ℕ) (l : List ℕ) : Type 0 where
+pub record GivesFirst (K L : View) (r : ℕ) (l : List ℕ) : Type 0 where
   pub first : ℕ
   pub rest : List ℕ
   pub numbers : l ≡ first ∷ r ∷ rest
   pub free : K .birth first ≡ 0
   pub birth : L .birth first ≡ r
-  pub freed : Standing K rest
+  pub freed : WithBirths K rest
 
 abbrev pub NamedBy : View → View → Call → List ℕ → Type 0
-NamedBy K L (Write r x k) l = Begins K L r l
-NamedBy K L (Erase r x) l = Standing K l
-NamedBy K L (Delete r) l = Standing K l
-NamedBy K L (Read r x) l = Standing K l
+NamedBy K L (Write r x k) l = GivesFirst K L r l
+NamedBy K L (Erase r x) l = WithBirths K l
+NamedBy K L (Delete r) l = WithBirths K l
+NamedBy K L (Read r x) l = WithBirths K l
 NamedBy K L Begin l = Unit {0}
 NamedBy K L (Seal r) l = Unit {0}
 NamedBy K L (Fork r) l = Unit {0}

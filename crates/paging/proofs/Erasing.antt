@@ -23,6 +23,7 @@ use Rattle.model.specs.Layout.{openCell, viewOf, stateOf, stored}
 use Rattle.model.specs.Results.{paired}
 use Rattle.model.proofs.Fine.{asks-E}
 use Rattle.model.proofs.ResultFacts.{paired-length}
+use Rattle.model.proofs.ResultSize.{erased-one}
 use Rattle.tables.specs.Ready.{Ready, LogLong, OutLong}
 use Rattle.tables.specs.Outcome.{replied, tablesLeft, logLeft, outLeft}
 use Rattle.tables.proofs.Ranges
@@ -91,26 +92,15 @@ module _ (g : Geometry) (t : List ℕ) (n x w : ℕ) (ew : w ≡ x) where
 
 -- ── what is freed with a page: one block or none ──
 
-fate-few : (b : ℕ) (f : Fate) → length (freedOne b f) ≤ 1
-unfolding freedOne
-fate-few b freed = omega arith
-fate-few b marked = omega arith
-fate-few b kept = omega arith
-
-pub erased-few : (K : View) (s l : ℕ) → length (erased K s l) ≤ 1
-unfolding erased
-erased-few K s zero = omega arith
-erased-few K s (suc b) = fate-few b (fate (K .birth b) (predNum K s) (baseNum K s))
-
 pub few-freed : (K : View) (s l f : ℕ) → f ≡ length (erased K s l) → f ≤ 1
-few-freed K s l f e = omega (arith, erased-few K s l)
+few-freed K s l f e = omega (arith, erased-one K s l)
 
 -- one unused word is enough for an E, two for a W
 pub one-enough : (K : View) (s l u m : ℕ) → u < m → length (erased K s l) ≤ m - u
-one-enough K s l u m h = omega (arith, erased-few K s l)
+one-enough K s l u m h = omega (arith, erased-one K s l)
 
 pub two-enough : (K : View) (s l m : ℕ) → 1 < m → 1 + length (erased K s l) ≤ m
-two-enough K s l m h = omega (arith, erased-few K s l)
+two-enough K s l m h = omega (arith, erased-one K s l)
 
 -- a kill that answers with block b freed it: it was on the page
 fate-told : (h : ℕ → ℕ) (c : ℕ) (f : Fate) (b v : ℕ) → killedOf h (freedOne c f) ≡ Freed b v → (c ≡ b) × (freedOne c f ≡ b ∷ []) × (v ≡ h b)
@@ -244,7 +234,7 @@ module _ {g : Geometry} {t : List ℕ} (R : Ready g t) (n x s w : ℕ) (none : N
       let B : ℕ → ℕ = viewOf g t .birth in
       let q : paired B (freesOf g t s w) ≡ result g (stateOf g t) (Erase n x) = ap (paired B) frees-same in
       Answers.done-out g t (Erase n x) none k out m (e ∙ sym (paired-length B (freesOf g t s w)) ∙ ap length q)
-      (omega (arith, erased-few (stateOf g t .view) s (stateOf g t .view .page s w))) (d ∙ ap (sets out 0) q)
+      (omega (arith, erased-one (stateOf g t .view) s (stateOf g t .view .page s w))) (d ∙ ap (sets out 0) q)
 
   pub erase-tables : (u : List ℕ) → u ≡ stored g (acted (stateOf g t) (doE s w) (length (map released (freesOf g t s w)))) t → u ≡ tablesLeft g t (Erase n x)
   erase-tables u d =

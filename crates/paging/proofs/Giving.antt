@@ -25,6 +25,7 @@ use Rattle.model.specs.Results.{paired}
 use Rattle.model.proofs.ChoiceFacts.{found-free}
 use Rattle.model.proofs.Fine.{asks-W}
 use Rattle.model.proofs.ResultFacts.{paired-length}
+use Rattle.model.proofs.ResultSize.{erased-one}
 use Rattle.tables.specs.Ready.{Ready, LogLong, OutLong}
 use Rattle.tables.specs.Outcome.{replied, tablesLeft, logLeft, outLeft}
 use Rattle.tables.proofs.Ranges
@@ -274,7 +275,7 @@ module _ {g : Geometry} {t : List ℕ} (R : Ready g t) (n x k s a o c w : ℕ)
       (replyOf (Done d) m ≡ replied g t (Write n x k)) × (m ≡ outLeft g t out (Write n x k))
   write-out out m d long e q =
       Answers.done-out g t (Write n x k) (J .0) d out m (omega (arith, paired-length births (freesOf g t s w), ap length result-same))
-      (omega (arith, Erasing.erased-few (stateOf g t .view) s (stateOf g t .view .page s w))) (q ∙ ap (sets out 0) result-same)
+      (omega (arith, erased-one (stateOf g t .view) s (stateOf g t .view .page s w))) (q ∙ ap (sets out 0) result-same)
 
   -- what is left, told by the slot, the page and what was found
   abbrev left : ℕ → ℕ → Found → List ℕ
