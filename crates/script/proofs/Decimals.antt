@@ -1,13 +1,13 @@
--- Laws of decimal digits: one digit or one more, how many there are, and numbers behind spaces.
-use Prim.Native.Nat.{ℕ, zero, suc, _+_, _/_, _%_, _^_, _<_, _≤_}
-use mathlib.Core.Path.{_≡_, refl, sym, ap, _∙_}
-use mathlib.Core.List.{List, [], _∷_, _++_, append-assoc, append-nil}
+-- Laws of decimal digits: one digit or one more, how many there are, and the digits of a small number by fixed point.
+use Prim.Native.Nat.{ℕ, zero, suc, _+_, _*_, _/_, _%_, _^_, _<_, _≤_}
+use mathlib.Core.Path.{_≡_, refl, ap, _∙_}
+use mathlib.Core.List.{List, [], _∷_, _++_}
 use native.Mathlib.Nat.{pow-succ'}
 use native.Mathlib.Omega.{arith}
 use borrow.Author.Tests.{lt-ltb, le-ltb}
 use lib.ListN.{length, length-append}
 use Rattle.answer.proofs.Cases.{cases, lt?}
-use Rattle.script.specs.Decimal.{digits, decimal, spaced}
+use Rattle.script.specs.Decimal.{digits, decimal}
 
 -- what is asked for beyond the digits changes nothing
 digits-same : (k j n : ℕ) → n ≤ k → n ≤ j → digits k n ≡ digits j n
@@ -47,16 +47,34 @@ pub length-four : (n : ℕ) → 1000 ≤ n → n < 10000 → length (decimal n) 
 length-four n h k = omega (arith, length-more n (omega arith), length-three (n / 10) (omega arith) (omega arith))
 
 -- the digits of a number of two, three and four digits
-pub decimal-two : (n : ℕ) → 10 ≤ n → n < 100 → decimal n ≡ (48 + n / 10) ∷ (48 + n % 10) ∷ []
-decimal-two n h k = decimal-more n h ∙ ap (λ (l : List ℕ). l ++ ((48 + n % 10) ∷ [])) (decimal-one (n / 10) (omega arith))
+pub decimal-two : (n : ℕ) → 10 ≤ n → n < 100 → decimal n ≡ (48 + n / 10 % 10) ∷ (48 + n % 10) ∷ []
+decimal-two n h k =
+    let t : n / 10 % 10 ≡ n / 10 = omega arith in
+    rw t (decimal-more n h ∙ ap (λ (l : List ℕ). l ++ ((48 + n % 10) ∷ [])) (decimal-one (n / 10) (omega arith)))
 
-pub decimal-three : (n : ℕ) → 100 ≤ n → n < 1000 → decimal n ≡ (48 + n / 10 / 10) ∷ (48 + n / 10 % 10) ∷ (48 + n % 10) ∷ []
+pub decimal-three : (n : ℕ) → 100 ≤ n → n < 1000 → decimal n ≡ (48 + n / 10 / 10 % 10) ∷ (48 + n / 10 % 10) ∷ (48 + n % 10) ∷ []
 decimal-three n h k =
     decimal-more n (omega arith) ∙ ap (λ (l : List ℕ). l ++ ((48 + n % 10) ∷ [])) (decimal-two (n / 10) (omega arith) (omega arith))
 
-pub decimal-four : (n : ℕ) → 1000 ≤ n → n < 10000 → decimal n ≡ (48 + n / 10 / 10 / 10) ∷ (48 + n / 10 / 10 % 10) ∷ (48 + n / 10 % 10) ∷ (48 + n % 10) ∷ []
+pub decimal-four : (n : ℕ) → 1000 ≤ n → n < 10000
+    → decimal n ≡ (48 + n / 10 / 10 / 10) ∷ (48 + n / 10 / 10 % 10) ∷ (48 + n / 10 % 10) ∷ (48 + n % 10) ∷ []
 decimal-four n h k =
-    decimal-more n (omega arith) ∙ ap (λ (l : List ℕ). l ++ ((48 + n % 10) ∷ [])) (decimal-three (n / 10) (omega arith) (omega arith))
+    let t : n / 10 / 10 / 10 % 10 ≡ n / 10 / 10 / 10 = omega arith in
+    rw (← t) (decimal-more n (omega arith) ∙ ap (λ (l : List ℕ). l ++ ((48 + n % 10) ∷ [])) (decimal-three (n / 10) (omega arith) (omega arith)))
+
+-- the same digits by fixed point: 1000 times 4294968 is 2 to the 32nd and 704 more, which does not add up to another digit
+module _ (n : ℕ) (small : n < 10000) where
+  pub thousands-digit : n * 4294968 / 4294967296 ≡ n / 10 / 10 / 10
+  thousands-digit = omega arith
+
+  pub hundreds-digit : n * 4294968 % 4294967296 * 10 / 4294967296 ≡ n / 10 / 10 % 10
+  hundreds-digit = omega (arith, thousands-digit)
+
+  pub tens-digit : n * 4294968 % 4294967296 * 10 % 4294967296 * 10 / 4294967296 ≡ n / 10 % 10
+  tens-digit = omega (arith, thousands-digit, hundreds-digit)
+
+  pub ones-digit : n * 4294968 % 4294967296 * 10 % 4294967296 * 10 % 4294967296 * 10 / 4294967296 ≡ n % 10
+  ones-digit = omega (arith, thousands-digit, hundreds-digit, tens-digit)
 
 pub length-decimal : (j n : ℕ) → n < 10 ^ suc j → length (decimal n) ≤ suc j
 length-decimal zero n h = omega (arith, length-one n (omega arith))
@@ -65,13 +83,3 @@ length-decimal (suc j) n h =
     cases (lt? n 10)
     (λ e. omega (arith, length-one n e))
     (λ e. omega (arith, length-more n e, length-decimal j (n / 10) (omega arith)))
-
-pub spaced-one : (n : ℕ) → spaced (n ∷ []) ≡ 32 ∷ decimal n
-unfolding spaced
-spaced-one n = ap (λ (l : List ℕ). 32 ∷ l) (append-nil (decimal n))
-
-pub spaced-append : (ns ms : List ℕ) → spaced (ns ++ ms) ≡ spaced ns ++ spaced ms
-unfolding spaced
-spaced-append [] ms = refl
-spaced-append (n ∷ ns) ms =
-    ap (λ (l : List ℕ). 32 ∷ l) (ap (λ (l : List ℕ). decimal n ++ l) (spaced-append ns ms) ∙ sym (append-assoc (decimal n) (spaced ns) (spaced ms)))

@@ -4,13 +4,15 @@ use mathlib.Core.List.{[], _∷_}
 use mathlib.Core.Option.{none, some}
 use Rattle.answer.specs.Reply.{accepted, refused}
 use Rattle.model.specs.declared.Call.the-variants.{Write, Delete, FreeList, Estimate}
+use Rattle.model.specs.declared.Spelling.the-variants.{Numbers, Blocks}
+use Rattle.model.specs.Results.{plain, born, bornIn, itemsOf}
 use Rattle.script.specs.declared.parse.Parsed.{Parsed}
 use Rattle.script.specs.declared.parse.Parsed.the-variants.{Store, Asks}
-use Rattle.script.specs.Decimal.{digits, decimal, spaced}
+use Rattle.script.specs.Decimal.{digits, decimal, led}
 use Rattle.script.specs.Parse.{parsed, opens, callLine, numbersFrom, numberFrom, firstDigit, digitsFrom, countOf, callOf}
 use Rattle.script.specs.Lines.{run, linesOf}
 use Rattle.script.specs.Said.{saidAt}
-use Rattle.script.specs.ReplyText.{replyText, replyRead, numbersRead, insideRead}
+use Rattle.script.specs.ReplyText.{itemText, itemsText, replyText, gave, denied, replyRead, itemsRead, insideRead}
 
 -- `store 1 4 2 4 8 10`
 store-line : parsed (115 ∷ 116 ∷ 111 ∷ 114 ∷ 101 ∷ 32 ∷ 49 ∷ 32 ∷ 52 ∷ 32 ∷ 50 ∷ 32 ∷ 52 ∷ 32 ∷ 56 ∷ 32 ∷ 49 ∷ 48 ∷ [])
@@ -65,35 +67,72 @@ eight-digits : parsed (68 ∷ 32 ∷ 49 ∷ 50 ∷ 51 ∷ 52 ∷ 53 ∷ 54 ∷ 5
 unfolding parsed opens callLine countOf callOf numbersFrom numberFrom firstDigit digitsFrom
 eight-digits = refl
 
--- `+`, `+ 2 1` and `- 10`
-nothing-given : replyText (accepted []) ≡ 43 ∷ 10 ∷ []
-unfolding replyText spaced
+-- `+`, `+ 0 2` of numbers, `+ 0:1` and `+ 2:2 1:2` of blocks with their births, and `- 8`
+nothing-given : replyText Blocks (accepted []) ≡ 43 ∷ 10 ∷ []
+unfolding replyText itemsOf bornIn itemsText
 nothing-given = refl
 
-two-given : replyText (accepted (2 ∷ 1 ∷ [])) ≡ 43 ∷ 32 ∷ 50 ∷ 32 ∷ 49 ∷ 10 ∷ []
-unfolding replyText spaced decimal digits
+numbers-given : replyText Numbers (accepted (0 ∷ 2 ∷ [])) ≡ 43 ∷ 32 ∷ 48 ∷ 32 ∷ 50 ∷ 10 ∷ []
+unfolding replyText itemsOf itemsText itemText led decimal digits
+numbers-given = refl
+
+one-given : replyText Blocks (accepted (0 ∷ 1 ∷ [])) ≡ 43 ∷ 32 ∷ 48 ∷ 58 ∷ 49 ∷ 10 ∷ []
+unfolding replyText itemsOf bornIn itemsText itemText led decimal digits
+one-given = refl
+
+two-given : replyText Blocks (accepted (2 ∷ 2 ∷ 1 ∷ 2 ∷ [])) ≡ 43 ∷ 32 ∷ 50 ∷ 58 ∷ 50 ∷ 32 ∷ 49 ∷ 58 ∷ 50 ∷ 10 ∷ []
+unfolding replyText itemsOf bornIn itemsText itemText led decimal digits
 two-given = refl
 
-ten-refused : replyText (refused 10) ≡ 45 ∷ 32 ∷ 49 ∷ 48 ∷ 10 ∷ []
-unfolding replyText spaced decimal digits
-ten-refused = refl
+eight-refused : replyText Blocks (refused 8) ≡ 45 ∷ 32 ∷ 56 ∷ 10 ∷ []
+unfolding replyText led decimal digits
+eight-refused = refl
 
--- `+ 2 1` reads back; two spaces, a leading zero or no line feed are no reply
-two-read : replyRead (43 ∷ 32 ∷ 50 ∷ 32 ∷ 49 ∷ 10 ∷ []) ≡ some (accepted (2 ∷ 1 ∷ []))
-unfolding replyRead numbersRead insideRead
+-- each reads back
+nothing-read : replyRead (43 ∷ 10 ∷ []) ≡ some (gave [])
+unfolding replyRead itemsRead
+nothing-read = refl
+
+numbers-read : replyRead (43 ∷ 32 ∷ 48 ∷ 32 ∷ 50 ∷ 10 ∷ []) ≡ some (gave (plain 0 ∷ plain 2 ∷ []))
+unfolding replyRead itemsRead insideRead
+numbers-read = refl
+
+one-read : replyRead (43 ∷ 32 ∷ 48 ∷ 58 ∷ 49 ∷ 10 ∷ []) ≡ some (gave (born 0 1 ∷ []))
+unfolding replyRead itemsRead insideRead
+one-read = refl
+
+two-read : replyRead (43 ∷ 32 ∷ 50 ∷ 58 ∷ 50 ∷ 32 ∷ 49 ∷ 58 ∷ 50 ∷ 10 ∷ []) ≡ some (gave (born 2 2 ∷ born 1 2 ∷ []))
+unfolding replyRead itemsRead insideRead
 two-read = refl
 
+eight-read : replyRead (45 ∷ 32 ∷ 56 ∷ 10 ∷ []) ≡ some (denied 8)
+unfolding replyRead itemsRead insideRead
+eight-read = refl
+
+-- two spaces, a leading zero, no line feed, a second colon, a colon with nothing behind it or a refusal with one are no reply
 two-spaces : replyRead (43 ∷ 32 ∷ 32 ∷ 49 ∷ 10 ∷ []) ≡ none
-unfolding replyRead numbersRead insideRead
+unfolding replyRead itemsRead insideRead
 two-spaces = refl
 
 zero-first : replyRead (43 ∷ 32 ∷ 48 ∷ 49 ∷ 10 ∷ []) ≡ none
-unfolding replyRead numbersRead insideRead
+unfolding replyRead itemsRead insideRead
 zero-first = refl
 
 no-feed : replyRead (43 ∷ 32 ∷ 49 ∷ []) ≡ none
-unfolding replyRead numbersRead insideRead
+unfolding replyRead itemsRead insideRead
 no-feed = refl
+
+second-colon : replyRead (43 ∷ 32 ∷ 49 ∷ 58 ∷ 50 ∷ 58 ∷ 51 ∷ 10 ∷ []) ≡ none
+unfolding replyRead itemsRead insideRead
+second-colon = refl
+
+no-birth : replyRead (43 ∷ 32 ∷ 49 ∷ 58 ∷ 10 ∷ []) ≡ none
+unfolding replyRead itemsRead insideRead
+no-birth = refl
+
+birth-refused : replyRead (45 ∷ 32 ∷ 56 ∷ 58 ∷ 49 ∷ 10 ∷ []) ≡ none
+unfolding replyRead itemsRead insideRead
+birth-refused = refl
 
 -- `B`, an empty line, `L` with no line feed behind it; and nothing behind the last line feed
 three-lines : linesOf (66 ∷ 10 ∷ 10 ∷ 76 ∷ []) ≡ (66 ∷ []) ∷ [] ∷ (76 ∷ []) ∷ []

@@ -5,7 +5,7 @@ pub mod Reading
 pub mod Opening
 pub mod Decimals
 pub mod Printing
-pub mod Spelling
+pub mod Digits
 pub mod Saying
 pub mod LinesFacts
 pub mod OnePass

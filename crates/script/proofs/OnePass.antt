@@ -16,14 +16,14 @@ use Rattle.script.specs.declared.parse.Parsed.the-variants.{Asks}
 use Rattle.script.specs.declared.reader.Line.the-variants.{Part, Done}
 use Rattle.script.specs.declared.said.Said.{Said}
 use Rattle.script.specs.declared.said.Near.{Near}
-use Rattle.script.specs.Decimal.{decimal, spaced}
+use Rattle.script.specs.Decimal.{decimal, led, spaced}
 use Rattle.script.specs.Lines.{run, lineAt, NoFeed}
 use Rattle.script.specs.Parse.{numberFrom, opens, countOf, callOf, callLine, parsed}
 use Rattle.script.specs.Grammar.{numbers, spelled, AllSmall}
 use Rattle.script.specs.Said.{saidAt, Agrees, Tells}
 use Rattle.script.proofs.Runs.{run-here, run-end}
 use Rattle.script.proofs.Decimals.{length-decimal}
-use Rattle.script.proofs.Spelling.{AllDigits, digit-range, decimal-means, number-spelt}
+use Rattle.script.proofs.Digits.{AllDigits, digit-range, decimal-means, number-spelt}
 use Rattle.script.proofs.Saying.{rest-is, said, made-of}
 use Rattle.script.proofs.LinesFacts.{slice-is, run-short}
 
@@ -35,7 +35,7 @@ unfolding run
 run-append [] r h = omega arith
 run-append (b ∷ l) r h = rw (ne-eqb b 10 (h .0)) (omega (arith, run-append l r (h .1)))
 
-no-feed-append : (l r : List ℕ) → NoFeed l → NoFeed r → NoFeed (l ++ r)
+pub no-feed-append : (l r : List ℕ) → NoFeed l → NoFeed r → NoFeed (l ++ r)
 no-feed-append [] r h k = k
 no-feed-append (b ∷ l) r h k = (h .0, no-feed-append l r (h .1) k)
 
@@ -43,10 +43,14 @@ no-feed-digits : (l : List ℕ) → AllDigits l → NoFeed l
 no-feed-digits [] h = tt
 no-feed-digits (b ∷ l) h = let g = digit-range b (h .0) in (omega (arith, g .0), no-feed-digits l (h .1))
 
-pub no-feed-spaced : (ns : List ℕ) → NoFeed (spaced ns)
-unfolding spaced
+pub no-feed-led : (s n : ℕ) → (s ≡ 10 → ⊥) → NoFeed (led s n)
+unfolding led
+no-feed-led s n h = (h, no-feed-digits (decimal n) (decimal-means n .0))
+
+no-feed-spaced : (ns : List ℕ) → NoFeed (spaced ns)
+unfolding spaced led
 no-feed-spaced [] = tt
-no-feed-spaced (n ∷ ns) = (omega arith, no-feed-append (decimal n) (spaced ns) (no-feed-digits (decimal n) (decimal-means n .0)) (no-feed-spaced ns))
+no-feed-spaced (n ∷ ns) = no-feed-append (led 32 n) (spaced ns) (no-feed-led 32 n (omega arith)) (no-feed-spaced ns)
 
 -- small numbers take at most eight bytes each
 length-spaced : (ns : List ℕ) → AllSmall ns → length (spaced ns) ≤ 8 * length ns

@@ -1,19 +1,28 @@
--- Laws of printing: a byte, a digit more, a number and a whole reply behind what was written before.
+-- Laws of printing: a byte, a digit more, a number, many of them and a whole reply behind what was written before.
 use Prim.Native.Nat.{ℕ, _+_, _-_, _*_, _/_, _%_, _^_, _<_, _≤_}
-use mathlib.Core.Path.{_≡_, sym, ap, _∙_}
-use mathlib.Core.List.{List, [], _∷_, _++_}
+use mathlib.Core.Path.{_≡_, refl, sym, ap, _∙_}
+use mathlib.Core.Logic.{_⊎_}
+use mathlib.Core.List.{List, [], _∷_, _++_, map, append-assoc}
 use native.Mathlib.Numerals.{add-one}
 use native.Mathlib.Omega.{arith}
-use lib.ListN.{length, take, drop, set, getD, length-append}
-use lib.Seq.{set-set, set-split, take-suc}
+use lib.ListN.{length, take, drop, set, getD, length-append, drop-of-length-le}
+use lib.Seq.{set-set, set-split, length-take-le, drop-cons, getD-take}
+use denote.Enum.Declared.{tagOf}
 use Rattle.log.specs.Word.{writeAt}
-use Rattle.log.proofs.Writing.{length-write, write-write}
+use Rattle.log.proofs.Writing.{length-write, write-none, write-write}
 use Rattle.answer.proofs.Cases.{cases, lt?}
 use Rattle.answer.specs.declared.Answer.{Answer}
 use Rattle.answer.specs.declared.Answer.the-variants.{Done}
-use Rattle.script.specs.Decimal.{decimal, spaced}
-use Rattle.script.specs.ReplyText.{Room}
-use Rattle.script.proofs.Decimals.{decimal-one, decimal-more, decimal-two, decimal-three, decimal-four, length-one, length-more, length-two, length-three, length-four, length-decimal, spaced-one, spaced-append}
+use Rattle.model.specs.declared.Spelling.the-variants.{Numbers}
+use Rattle.model.specs.Results.{plain, bornIn}
+use Rattle.script.specs.declared.parse.Parsed.{Parsed}
+use Rattle.script.specs.declared.parse.Parsed.the-variants.{Store, Asks, No}
+use Rattle.script.specs.Decimal.{decimal, led, spaced}
+use Rattle.script.specs.ReplyText.{itemText, itemsText, spellingOf, Room}
+use Rattle.script.proofs.parse.Parsed.{the-type}
+use Rattle.script.proofs.Decimals.{decimal-one, decimal-more, decimal-two, decimal-three, decimal-four, length-decimal}
+use Rattle.script.proofs.Decimals.{length-one, length-more, length-two, length-three, length-four}
+use Rattle.script.proofs.Decimals.{thousands-digit, hundreds-digit, tens-digit, ones-digit}
 
 -- a byte is a write of one
 pub set-write : (d : List ℕ) (at v : ℕ) → at < length d → set d at v ≡ writeAt d at (v ∷ [])
@@ -27,6 +36,8 @@ set-behind d d′ at n v s e p h =
     let k : at + length s ≤ length d = omega arith in
     let w : length d′ ≡ length d = ap length e ∙ length-write d at s k in
     set-write d′ n v (omega arith) ∙ ap (λ (x : List ℕ). writeAt x n (v ∷ [])) e ∙ write-write d at n s (v ∷ []) p (omega arith)
+
+-- ── a number ──
 
 pub put-one : (d : List ℕ) (at n : ℕ) → n < 10 → at + length (decimal n) ≤ length d
     → (at + 1 ≡ at + length (decimal n)) × (set d at (48 + n) ≡ writeAt d at (decimal n))
@@ -45,83 +56,133 @@ pub set-ahead : (d : List ℕ) (at b : ℕ) (s : List ℕ) → at < length d →
 set-ahead d at b s h =
     ap (λ (x : List ℕ). writeAt x (at + 1) s) (set-write d at b h) ∙ write-write d at (at + 1) (b ∷ []) s (omega arith) (omega arith)
 
--- a space and a number
-pub put-spaced : (d d′ : List ℕ) (at n r : ℕ) → at + 11 ≤ length d → n < 10 ^ 10 → r ≡ at + 1 + length (decimal n)
-    → d′ ≡ writeAt (set d at 32) (at + 1) (decimal n)
-    → (r ≡ at + length (spaced (n ∷ []))) × (r ≤ at + 11) × (d′ ≡ writeAt d at (spaced (n ∷ [])))
-put-spaced d d′ at n r h k e w =
-    let l = length-decimal 9 n k in
-    rw (spaced-one n) (omega arith, omega arith, w ∙ set-ahead d at 32 (decimal n) (omega arith))
+module _ (d : List ℕ) (at s : ℕ) (room : at + 11 ≤ length d) where
+  -- a separator and a number
+  pub put-led : (d′ : List ℕ) (n r : ℕ) → n < 10 ^ 10 → r ≡ at + 1 + length (decimal n) → d′ ≡ writeAt (set d at s) (at + 1) (decimal n)
+      → (r ≡ at + length (led s n)) × (r ≤ at + 11) × (d′ ≡ writeAt d at (led s n))
+  unfolding led
+  put-led d′ n r k e w =
+      let l = length-decimal 9 n k in
+      (omega arith, omega arith, w ∙ set-ahead d at s (decimal n) (omega arith))
 
--- a space and one digit
-pub put-digit : (d : List ℕ) (at n : ℕ) → n < 10 → at + 11 ≤ length d
-    → (at + 2 ≡ at + length (spaced (n ∷ []))) × (at + 2 ≤ at + 11) × (set (set d at 32) (at + 1) (48 + n) ≡ writeAt d at (spaced (n ∷ [])))
-put-digit d at n h k =
-    let l = length-one n h in
-    rw (spaced-one n) (omega arith, omega arith, rw (decimal-one n h) (set-behind d _ at (at + 1) (48 + n) (32 ∷ []) (set-write d at 32 (omega arith)) (omega arith) (omega arith)))
+  one-behind : (a : ℕ) → set (set d at s) (at + 1) a ≡ writeAt d at (s ∷ a ∷ [])
+  one-behind a = set-behind d _ at (at + 1) a (s ∷ []) (set-write d at s (omega arith)) (omega arith) (omega arith)
 
--- a space and two, three or four digits, behind what stood at the first one's place before
-module _ (d : List ℕ) (at : ℕ) (room : at + 11 ≤ length d) where
-  two-behind : (a b : ℕ) → set (set (set d at 32) (at + 1) a) (at + 2) b ≡ writeAt d at (32 ∷ a ∷ b ∷ [])
-  two-behind a b =
-      let first = set-write d at 32 (omega arith) in
-      let second = set-behind d (set d at 32) at (at + 1) a (32 ∷ []) first (omega arith) (omega arith) in
-      set-behind d (set (set d at 32) (at + 1) a) at (at + 2) b (32 ∷ a ∷ []) second (omega arith) (omega arith)
+  -- a separator and one digit
+  pub put-digit : (n : ℕ) → n < 10
+      → (at + 2 ≡ at + length (led s n)) × (at + 2 ≤ at + 11) × (set (set d at s) (at + 1) (48 + n) ≡ writeAt d at (led s n))
+  unfolding led
+  put-digit n h = rw (decimal-one n h) (refl, omega arith, one-behind (48 + n))
 
-  three-behind : (a b c : ℕ) → set (set (set (set d at 32) (at + 1) a) (at + 2) b) (at + 3) c ≡ writeAt d at (32 ∷ a ∷ b ∷ c ∷ [])
-  three-behind a b c = set-behind d (set (set (set d at 32) (at + 1) a) (at + 2) b) at (at + 3) c (32 ∷ a ∷ b ∷ []) (two-behind a b) (omega arith) (omega arith)
+  -- a separator and two or three digits
+  two-behind : (a b : ℕ) → set (set (set d at s) (at + 1) a) (at + 2) b ≡ writeAt d at (s ∷ a ∷ b ∷ [])
+  two-behind a b = set-behind d _ at (at + 2) b (s ∷ a ∷ []) (one-behind a) (omega arith) (omega arith)
 
-  four-behind : (a b c e : ℕ) → set (set (set (set (set d at 32) (at + 1) a) (at + 2) b) (at + 3) c) (at + 4) e ≡ writeAt d at (32 ∷ a ∷ b ∷ c ∷ e ∷ [])
-  four-behind a b c e =
-      set-behind d (set (set (set (set d at 32) (at + 1) a) (at + 2) b) (at + 3) c) at (at + 4) e (32 ∷ a ∷ b ∷ c ∷ []) (three-behind a b c) (omega arith) (omega arith)
+  three-behind : (a b c : ℕ) → set (set (set (set d at s) (at + 1) a) (at + 2) b) (at + 3) c ≡ writeAt d at (s ∷ a ∷ b ∷ c ∷ [])
+  three-behind a b c = set-behind d _ at (at + 3) c (s ∷ a ∷ b ∷ []) (two-behind a b) (omega arith) (omega arith)
 
-  module _ (n p q r : ℕ) where
-    few-two : 10 ≤ n → n < 100 → p ≡ at + 1 → q ≡ at + 1 → r ≡ at + 2
-        → set (set (set (set (set d at 32) (at + 1) (48 + n / 10 / 10 / 10)) p (48 + n / 10 / 10 % 10)) q (48 + n / 10 % 10)) r (48 + n % 10) ≡ writeAt d at (32 ∷ decimal n)
-    few-two h k ep eq er =
-        let t : n / 10 % 10 ≡ n / 10 = omega arith in
-        rw (ep, eq, er, t, decimal-two n h k)
-        (ap (λ (x : List ℕ). set (set x (at + 1) (48 + n / 10)) (at + 2) (48 + n % 10)) (set-set (set d at 32) (at + 1) (48 + n / 10 / 10 / 10) (48 + n / 10 / 10 % 10))
-        ∙ ap (λ (x : List ℕ). set x (at + 2) (48 + n % 10)) (set-set (set d at 32) (at + 1) (48 + n / 10 / 10 % 10) (48 + n / 10))
-        ∙ two-behind (48 + n / 10) (48 + n % 10))
+  -- four digits, of which one that is not there is written over by the one behind it
+  module _ (p q r a b c e : ℕ) where
+    few-two : p ≡ at + 1 → q ≡ at + 1 → r ≡ at + 2 → set (set (set (set (set d at s) (at + 1) a) p b) q c) r e ≡ writeAt d at (s ∷ c ∷ e ∷ [])
+    few-two ep eq er =
+        rw (ep, eq, er)
+        (ap (λ (x : List ℕ). set (set x (at + 1) c) (at + 2) e) (set-set (set d at s) (at + 1) a b)
+        ∙ ap (λ (x : List ℕ). set x (at + 2) e) (set-set (set d at s) (at + 1) b c)
+        ∙ two-behind c e)
 
-    few-three : 100 ≤ n → n < 1000 → p ≡ at + 1 → q ≡ at + 2 → r ≡ at + 3
-        → set (set (set (set (set d at 32) (at + 1) (48 + n / 10 / 10 / 10)) p (48 + n / 10 / 10 % 10)) q (48 + n / 10 % 10)) r (48 + n % 10) ≡ writeAt d at (32 ∷ decimal n)
-    few-three h k ep eq er =
-        let t : n / 10 / 10 % 10 ≡ n / 10 / 10 = omega arith in
-        rw (ep, eq, er, t, decimal-three n h k)
-        (ap (λ (x : List ℕ). set (set x (at + 2) (48 + n / 10 % 10)) (at + 3) (48 + n % 10)) (set-set (set d at 32) (at + 1) (48 + n / 10 / 10 / 10) (48 + n / 10 / 10))
-        ∙ three-behind (48 + n / 10 / 10) (48 + n / 10 % 10) (48 + n % 10))
+    few-three : p ≡ at + 1 → q ≡ at + 2 → r ≡ at + 3 → set (set (set (set (set d at s) (at + 1) a) p b) q c) r e ≡ writeAt d at (s ∷ b ∷ c ∷ e ∷ [])
+    few-three ep eq er =
+        rw (ep, eq, er) (ap (λ (x : List ℕ). set (set x (at + 2) c) (at + 3) e) (set-set (set d at s) (at + 1) a b) ∙ three-behind b c e)
 
-    few-four : 1000 ≤ n → n < 10000 → p ≡ at + 2 → q ≡ at + 3 → r ≡ at + 4
-        → set (set (set (set (set d at 32) (at + 1) (48 + n / 10 / 10 / 10)) p (48 + n / 10 / 10 % 10)) q (48 + n / 10 % 10)) r (48 + n % 10) ≡ writeAt d at (32 ∷ decimal n)
-    few-four h k ep eq er = rw (ep, eq, er, decimal-four n h k) (four-behind (48 + n / 10 / 10 / 10) (48 + n / 10 / 10 % 10) (48 + n / 10 % 10) (48 + n % 10))
+    few-four : p ≡ at + 2 → q ≡ at + 3 → r ≡ at + 4 → set (set (set (set (set d at s) (at + 1) a) p b) q c) r e ≡ writeAt d at (s ∷ a ∷ b ∷ c ∷ e ∷ [])
+    few-four ep eq er = rw (ep, eq, er) (set-behind d _ at (at + 4) e (s ∷ a ∷ b ∷ c ∷ []) (three-behind a b c) (omega arith) (omega arith))
 
+  -- a separator and a number of two to four digits by fixed point
   pub put-few : (n w : ℕ) → 10 ≤ n → n < 10000 → w ≡ length (decimal n)
-      → (at + w + 1 ≡ at + length (spaced (n ∷ []))) × (at + w + 1 ≤ at + 11)
-      × (set (set (set (set (set d at 32) (at + 1) (48 + n / 10 / 10 / 10)) (at + 1 + w / 4) (48 + n / 10 / 10 % 10)) (at + w - 1) (48 + n / 10 % 10)) (at + w) (48 + n % 10)
-      ≡ writeAt d at (spaced (n ∷ [])))
+      → (at + w + 1 ≡ at + length (led s n)) × (at + w + 1 ≤ at + 11)
+      × (set (set (set (set (set d at s) (at + 1) (48 + n * 4294968 / 4294967296)) (at + 1 + w / 4) (48 + n * 4294968 % 4294967296 * 10 / 4294967296))
+      (at + w - 1) (48 + n * 4294968 % 4294967296 * 10 % 4294967296 * 10 / 4294967296))
+      (at + w) (48 + n * 4294968 % 4294967296 * 10 % 4294967296 * 10 % 4294967296 * 10 / 4294967296)
+      ≡ writeAt d at (led s n))
+  unfolding led
   put-few n w h k e =
-      rw (spaced-one n)
-      (cases (lt? n 100)
-      (λ f. let l = length-two n h f in (omega arith, omega arith, few-two n _ _ _ h f (omega arith) (omega arith) (omega arith)))
-      (λ f.
-      cases (lt? n 1000)
-      (λ g. let l = length-three n f g in (omega arith, omega arith, few-three n _ _ _ f g (omega arith) (omega arith) (omega arith)))
-      (λ g. let l = length-four n g k in (omega arith, omega arith, few-four n _ _ _ g k (omega arith) (omega arith) (omega arith)))))
+      let m = length-decimal 3 n k in (
+        omega arith,
+        omega arith,
+        rw (thousands-digit n k, hundreds-digit n k, tens-digit n k, ones-digit n k)
+            (cases (lt? n 100)
+            (λ f. let l = length-two n h f in rw (decimal-two n h f) (few-two _ _ _ _ _ _ _ (omega arith) (omega arith) (omega arith)))
+            (λ f.
+            cases (lt? n 1000)
+            (λ g. let l = length-three n f g in rw (decimal-three n f g) (few-three _ _ _ _ _ _ _ (omega arith) (omega arith) (omega arith)))
+            (λ g. let l = length-four n g k in rw (decimal-four n g k) (few-four _ _ _ _ _ _ _ (omega arith) (omega arith) (omega arith))))),
+      )
 
--- one number more, behind those before it
-pub put-next : (d t t′ : List ℕ) (from end r i : ℕ) (out : List ℕ) → i < length out → end ≤ length d
-    → t ≡ writeAt d from (spaced (take i out)) → end ≡ from + length (spaced (take i out))
-    → t′ ≡ writeAt t end (spaced (getD out i 0 ∷ [])) → r ≡ end + length (spaced (getD out i 0 ∷ []))
-    → (t′ ≡ writeAt d from (spaced (take (i + 1) out))) × (r ≡ from + length (spaced (take (i + 1) out)))
-put-next d t t′ from end r i out h k p q p′ q′ =
-    let s : List ℕ = spaced (take i out) in
-    let w : List ℕ = spaced (getD out i 0 ∷ []) in
-    let e : spaced (take (i + 1) out) ≡ s ++ w =
-    ap (λ (n : ℕ). spaced (take n out)) (add-one i) ∙ ap spaced (take-suc out i 0 h) ∙ spaced-append (take i out) (getD out i 0 ∷ []) in
-    let l = length-append s w in
-    rw e (p′ ∙ ap (λ (x : List ℕ). writeAt x end w) p ∙ write-write d from end s w q k, omega arith)
+-- ── many numbers ──
+
+-- that what is left to write at `end` makes of t what the whole makes of d
+pub record Left (d : List ℕ) (at : ℕ) (whole t : List ℕ) (end : ℕ) (rest : List ℕ) : Type 0 where
+  pub written : writeAt t end rest ≡ writeAt d at whole
+  pub reaches : end + length rest ≡ at + length whole
+
+module _ (d : List ℕ) (at : ℕ) (whole : List ℕ) where
+  pub left-all : Left d at whole d at whole
+  left-all = record { written = refl; reaches = refl }
+
+  -- its first part is written
+  pub left-less : (t t′ : List ℕ) (end r : ℕ) (w rest : List ℕ) → Left d at whole t end (w ++ rest)
+      → t′ ≡ writeAt t end w → r ≡ end + length w → r ≤ length t → Left d at whole t′ r rest
+  left-less t t′ end r w rest l e p h =
+      record {
+        written = ap (λ (x : List ℕ). writeAt x r rest) e ∙ write-write t end r w rest p h ∙ l .written;
+        reaches = omega (arith, l .reaches, length-append w rest);
+      }
+
+  pub left-none : (t : List ℕ) (end : ℕ) (rest : List ℕ) → Left d at whole t end rest → rest ≡ [] → (end ≡ at + length whole) × (t ≡ writeAt d at whole)
+  left-none t end rest l e =
+      (omega (arith, l .reaches, ap length e), sym (write-none t end) ∙ ap (writeAt t end) (sym e) ∙ l .written)
+
+module _ (out : List ℕ) (n : ℕ) (h : n ≤ length out) where
+  left-first : (i : ℕ) → i < n → drop i (take n out) ≡ getD out i 0 ∷ drop (i + 1) (take n out)
+  left-first i k =
+      let l = length-take-le n out h in
+      drop-cons (take n out) i 0 (omega arith) ∙ rw (getD-take n out i 0 k, add-one)
+
+  left-over : (i : ℕ) → n ≤ i → drop i (take n out) ≡ []
+  left-over i k = drop-of-length-le (take n out) {i = i} (omega (arith, length-take-le n out h))
+
+  -- the first of the numbers that are left, and those behind it
+  pub numbers-left : (i : ℕ) → i < n → spaced (drop i (take n out)) ≡ led 32 (getD out i 0) ++ spaced (drop (i + 1) (take n out))
+  unfolding spaced led
+  numbers-left i k = rw (left-first i k)
+
+  pub numbers-over : (i : ℕ) → n ≤ i → spaced (drop i (take n out)) ≡ []
+  unfolding spaced
+  numbers-over i k = rw (left-over i k)
+
+  -- the first of the blocks that are left with its birth, and those behind it
+  pub blocks-left : (i : ℕ) → i + 1 < n → itemsText (bornIn (drop i (take n out)))
+      ≡ led 32 (getD out i 0) ++ (led 58 (getD out (i + 1) 0) ++ itemsText (bornIn (drop (i + 2) (take n out))))
+  unfolding itemsText itemText bornIn
+  blocks-left i k =
+      let e : i + 1 + 1 ≡ i + 2 = omega arith in
+      rw (left-first i (omega arith), left-first (i + 1) k, e) (append-assoc (led 32 (getD out i 0)) (led 58 (getD out (i + 1) 0)) _)
+
+  -- a last number without another is no block
+  pub blocks-over : (i : ℕ) → n ≤ i + 1 → itemsText (bornIn (drop i (take n out))) ≡ []
+  unfolding itemsText bornIn
+  blocks-over i k =
+      cases (lt? i n)
+      (λ f. rw (left-first i f, left-over (i + 1) k))
+      (λ f. rw (left-over i f))
+
+-- plain items are numbers behind spaces
+pub items-spaced : (ns : List ℕ) → itemsText (map plain ns) ≡ spaced ns
+unfolding itemsText itemText led spaced
+items-spaced [] = refl
+items-spaced (n ∷ ns) = ap (λ (l : List ℕ). 32 ∷ (decimal n ++ l)) (items-spaced ns)
+
+-- ── a reply ──
 
 -- a sign in front, a line feed behind
 pub put-line : (d d′ : List ℕ) (b at end : ℕ) (s : List ℕ) → end < length d → end ≡ at + 1 + length s → d′ ≡ writeAt (set d at b) (at + 1) s
@@ -130,8 +191,16 @@ put-line d d′ b at end s h e w =
     let l = length-append s (10 ∷ []) in
     (omega arith, set-behind d d′ at end 10 (b ∷ s) (w ∙ set-ahead d at b s (omega arith)) (omega arith) h)
 
-pub room-done : {text out : List ℕ} {at n : ℕ} {answer : Answer} → Room text at answer out → answer ≡ Done n → (at + 12 * n + 16 ≤ length text) × (n ≤ length out)
+pub room-done : {text out : List ℕ} {at n : ℕ} {answer : Answer} → Room text at answer out → answer ≡ Done n
+    → (at + 12 * n + 16 ≤ length text) × (n ≤ length out)
 room-done room e = (rw e at (room .fits), rw e at (room .gives))
 
 pub room-any : {text out : List ℕ} {at : ℕ} {answer : Answer} → Room text at answer out → at + 16 ≤ length text
 room-any room = let h = room .fits in omega arith
+
+-- a line that asks no call is answered in numbers
+pub spelling-none : (p : Parsed) → (tagOf the-type p ≡ 0) ⊎ (tagOf the-type p ≡ 2) → Numbers ≡ spellingOf p
+unfolding spellingOf
+spelling-none (Store x) h = refl
+spelling-none (Asks c) h = cases h (λ e. absurd (let z : ⊥ = omega arith in z)) (λ e. absurd (let z : ⊥ = omega arith in z))
+spelling-none No h = refl

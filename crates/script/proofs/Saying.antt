@@ -21,7 +21,7 @@ use Rattle.script.specs.Decimal.{decimal, spaced}
 use Rattle.script.specs.Parse.{onNumber, numberFrom, numbersFrom, opens, store, sixOf, storeOf, countOf, callOf, asksOf, callLine, parsed}
 use Rattle.script.specs.Grammar.{letter, numbers, sixNumbers, spelled, AllSmall, Small}
 use Rattle.script.proofs.Letters.{letters}
-use Rattle.script.proofs.Spelling.{Ends, number-spelt, number-read}
+use Rattle.script.proofs.Digits.{Ends, number-spelt, number-read}
 
 -- ── the numbers of a line ──
 

@@ -15,6 +15,10 @@ digits (suc k) n =
 unfoldable pub decimal : ℕ → List ℕ
 decimal n = digits n n
 
+-- a number behind a separator
+unfoldable pub led : ℕ → ℕ → List ℕ
+led s n = s ∷ decimal n
+
 -- numbers, each behind a single space
 unfoldable pub spaced : List ℕ → List ℕ
 spaced [] = []

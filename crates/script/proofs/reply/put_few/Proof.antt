@@ -12,6 +12,18 @@ width-of-requires c κs = search needs
 add-last : tie.Need-add-last
 add-last c = search needs
 
+mul-thousands : tie.Need-mul-thousands
+mul-thousands c = search needs
+
+mul-hundreds : tie.Need-mul-hundreds
+mul-hundreds c = search needs
+
+mul-tens : tie.Need-mul-tens
+mul-tens c = search needs
+
+mul-ones : tie.Need-mul-ones
+mul-ones c = search needs
+
 slice-write-text : tie.Need-slice-write-text
 slice-write-text c = search needs
 
@@ -70,7 +82,10 @@ same-length : tie.Need-same-length
 same-length c = search needs
 
 returns : tie.Need-returns
-returns c = let s = c .before .before in put-few (s .args .text .now) (s .args .at) (s .pre .2) (s .args .n) (c .width-of .result) (s .pre .0) (s .pre .1) (c .width-of .ensures .0)
+returns c =
+    let s = c .before .before in
+    let a = s .args in
+    put-few (a .text .now) (a .at) (a .separator) (s .pre .2) (a .n) (c .width-of .result) (s .pre .0) (s .pre .1) (c .width-of .ensures .0)
 
 pub put-few-spec : {M : Type 1} → statement M
 put-few-spec =
@@ -78,6 +93,10 @@ put-few-spec =
     (tie.spec
     width-of-requires
     add-last
+    mul-thousands
+    mul-hundreds
+    mul-tens
+    mul-ones
     slice-write-text
     cast-text
     add-text

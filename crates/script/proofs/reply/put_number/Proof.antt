@@ -4,7 +4,7 @@ use borrow.Author.Needs.{needs}
 use mathlib.Core.Path.{_∙_}
 use lib.ListN.{length-set}
 use Rattle.script.proofs.Decimals.{length-decimal}
-use Rattle.script.proofs.Printing.{put-digit, put-spaced}
+use Rattle.script.proofs.Printing.{put-digit, put-led}
 use Rattle.script.proofs.reply.put_number.Statement.{statement}
 use Rattle.script.proofs.reply.put_number.Tie as tie
 
@@ -15,18 +15,22 @@ add-put-digits : tie.Need-add-put-digits
 add-put-digits c = search needs
 
 put-digits-requires : tie.Need-put-digits-requires
-put-digits-requires c κs = let s = c .before .before .before in
-    omega (arith, s .pre, length-set (s .args .text .now) (s .args .at) 32, length-decimal 9 (s .args .n) (omega arith))
+put-digits-requires c κs =
+    let s = c .before .before .before in
+    omega (arith, s .pre, length-set (s .args .text .now) (s .args .at) (s .args .separator), length-decimal 9 (s .args .n) (omega arith))
 
 same-length : tie.Need-same-length
-same-length c = let p = c .before .before in
+same-length c =
+    let p = c .before .before in
     let a = p .before .before .before .before .args in
-    p .put-digits .kept .0 ∙ length-set (a .text .now) (a .at) 32
+    p .put-digits .kept .0 ∙ length-set (a .text .now) (a .at) (a .separator)
 
 returns : tie.Need-returns
-returns c = let p = c .before .before in
+returns c =
+    let p = c .before .before in
     let s = p .before .before .before .before in
-    put-spaced (s .args .text .now) _ (s .args .at) (s .args .n) _ (s .pre) (omega arith) (p .put-digits .ensures .0) (p .put-digits .ensures .1)
+    let a = s .args in
+    put-led (a .text .now) (a .at) (a .separator) (s .pre) _ (a .n) _ (omega arith) (p .put-digits .ensures .0) (p .put-digits .ensures .1)
 
 put-few-requires : tie.Need-put-few-requires
 put-few-requires c κs = search needs
@@ -59,7 +63,9 @@ same-length-3 : tie.Need-same-length-3
 same-length-3 c = search needs
 
 returns-3 : tie.Need-returns-3
-returns-3 c = let s = c .before .before .before in put-digit (s .args .text .now) (s .args .at) (s .args .n) (omega arith) (s .pre)
+returns-3 c =
+    let s = c .before .before .before in
+    put-digit (s .args .text .now) (s .args .at) (s .args .separator) (s .pre) (s .args .n) (omega arith)
 
 pub put-number-spec : {M : Type 1} → statement M
 put-number-spec =
