@@ -2,6 +2,7 @@
 use mathlib.Core.Path.{_≡_, refl, sym, ap, _∙_}
 use mathlib.Core.Bool.{Bool, true, false, cond}
 use mathlib.Core.List.{List, [], _∷_, _++_, map, flatMap}
+use mathlib.Core.Option.{some}
 use Prim.Native.Nat.{ℕ}
 use Rattle.answer.specs.Reply.{Reply, accepted, refused}
 use Rattle.answer.proofs.Decided.{decide-accepted}
@@ -14,7 +15,8 @@ use Rattle.model.specs.declared.Call.the-variants.{Begin, Write, Erase, Seal, F
 use Rattle.script.specs.declared.parse.Six.{Six}
 use Rattle.script.specs.declared.parse.Parsed.{Parsed}
 use Rattle.script.specs.declared.parse.Parsed.the-variants.{Store, Asks, No}
-use Rattle.script.specs.ReplyText.{itemsText, spellingOf, replyText}
+use Rattle.script.specs.ReplyText.{itemsText, spellingOf, replyText, gave, replyRead}
+use Rattle.script.proofs.Replies.{printed-read}
 use Rattle.ledger.specs.BookReading.{blockOn}
 use Rattle.ledger.specs.Ledger.{Ledger, withBirths, isFree, young, freedBy, picked, runsIn, account, refusalsOf, says}
 use Rattle.ledger.specs.Transcript.{Runner, without-store, with-store, asked, lineSays, lineGives, textOf, lineText}
@@ -86,3 +88,15 @@ line-gives R No ns e = cc
 line-gives R (Store x) ns e = store-gives (fits (asked x)) ns e
 line-gives without-store (Asks c) ns e = cc
 line-gives (with-store g L) (Asks c) ns e = call-gives g L c ns e
+
+line-items : (R : Runner) (p : Parsed) (ns : List ℕ) → lineSays R p ≡ accepted ns → itemsOf (spellingOf p) ns ≡ lineGives R p
+unfolding lineSays lineGives spellingOf itemsOf
+line-items R No ns e = cc
+line-items R (Store x) ns e = ap {B = List Item} (map plain) (sym (store-gives (fits (asked x)) ns e))
+line-items without-store (Asks c) ns e = cc
+line-items (with-store g L) (Asks c) ns e = ap (itemsOf (spelling c)) (sym (call-gives g L c ns e)) ∙ items-told g L c
+
+pub line-reads : (R : Runner) (p : Parsed) (ns : List ℕ) → lineSays R p ≡ accepted ns → replyRead (lineText R p) ≡ some (gave (lineGives R p))
+line-reads R p ns e =
+    ap replyRead (line-spelled R p ∙ ap (replyText (spellingOf p)) e) ∙ printed-read (spellingOf p) (accepted ns) ∙
+    ap (λ (l : List Item). some (gave l)) (line-items R p ns e)

@@ -26,7 +26,7 @@ use Rattle.ledger.specs.Ledger.{Ledger, account, says}
 use Rattle.ledger.specs.Transcript.{Runner, without-store, with-store, asked, lineSays, lineGives, lineText, lineLeaves, printed, left}
 use Rattle.ledger.specs.TranscriptMeans.{LineRefused, TranscriptMeans}
 use Rattle.ledger.proofs.Parts.{parts, parts-left}
-use Rattle.ledger.proofs.LineSpelled.{line-gives, line-spelled}
+use Rattle.ledger.proofs.LineSpelled.{line-gives, line-spelled, line-reads}
 
 -- ── what the ledger says is from 5 on ──
 
@@ -171,6 +171,7 @@ transcript-means = record {
   each = each;
   gives = line-gives;
   spelled = line-spelled;
+  reads = line-reads;
   refusals = line-refused;
   no-call = no-call;
   made = λ R before l between x e i p f.

@@ -2,6 +2,7 @@
 use mathlib.Core.Path.{_≡_}
 use mathlib.Core.Logic.{_⊎_, _↔_}
 use mathlib.Core.List.{List, [], _∷_, _++_}
+use mathlib.Core.Option.{some}
 use Prim.Native.Nat.{ℕ, _<_}
 use lib.ListN.{length}
 use Rattle.answer.specs.Reply.{accepted, refused}
@@ -12,7 +13,7 @@ use Rattle.script.specs.declared.parse.Parsed.{Parsed}
 use Rattle.script.specs.declared.parse.Parsed.the-variants.{Store, Asks, No}
 use Rattle.script.specs.Parse.{parsed}
 use Rattle.model.specs.Results.{numbersOf}
-use Rattle.script.specs.ReplyText.{spellingOf, replyText}
+use Rattle.script.specs.ReplyText.{spellingOf, replyText, gave, replyRead}
 use Rattle.ledger.specs.Transcript.{Runner, without-store, asked, lineSays, lineGives, lineText, printed, left}
 
 -- how a line may be refused, whatever stands before it (5 to 14: `says`)
@@ -34,6 +35,8 @@ pub record TranscriptMeans : Type 0 where
   -- what an accepted line gives are the numbers of its reply, and they are spelled as those of its call
   pub gives : (R : Runner) (p : Parsed) (ns : List ℕ) → lineSays R p ≡ accepted ns → numbersOf (lineGives R p) ≡ ns
   pub spelled : (R : Runner) (p : Parsed) → lineText R p ≡ replyText (spellingOf p) (lineSays R p)
+  -- and what it prints reads back to what it gives, the colons with it
+  pub reads : (R : Runner) (p : Parsed) (ns : List ℕ) → lineSays R p ≡ accepted ns → replyRead (lineText R p) ≡ some (gave (lineGives R p))
   pub refusals : (R : Runner) (p : Parsed) → LineRefused R p
   -- "An empty or longer line is no call" (10.2)
   pub no-call : (R : Runner) (l : List ℕ) → (l ≡ []) ⊎ (80 < length l) → lineSays R (parsed l) ≡ refused 1

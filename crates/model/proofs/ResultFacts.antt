@@ -4,7 +4,7 @@ use mathlib.Core.List.{List, [], _∷_, _++_, map}
 use Prim.Native.Nat.{ℕ, _*_}
 use native.Mathlib.Omega.{arith}
 use lib.ListN.{length}
-use Rattle.model.specs.Results.{paired, blocksIn, plain, born, bornIn, numbersOf}
+use Rattle.model.specs.Results.{paired, blocksIn, born, bornIn, numbersOf}
 
 -- the blocks of blocks with their births
 pub blocks-in-paired : (f : ℕ → ℕ) (l : List ℕ) → blocksIn (paired f l) ≡ l
@@ -37,13 +37,7 @@ unfolding paired bornIn
 born-paired f [] = refl
 born-paired f (b ∷ l) = ap (λ m. born b (f b) ∷ m) (born-paired f l)
 
--- ── items have all the numbers ──
-
-numbers-plain : (l : List ℕ) → numbersOf (map plain l) ≡ l
-unfolding numbersOf
-numbers-plain [] = refl
-numbers-plain (n ∷ l) = ap (λ m. n ∷ m) (numbers-plain l)
-
+-- and the numbers of such items
 pub numbers-born : (f : ℕ → ℕ) (l : List ℕ) → numbersOf (map (λ b. born b (f b)) l) ≡ paired f l
 unfolding numbersOf paired
 numbers-born f [] = refl

@@ -14,7 +14,8 @@ use Rattle.answer.specs.Reply.{replyOf}
 use Rattle.log.specs.Word.{writeAt}
 use Rattle.log.proofs.Writing.{write-none, write-write}
 use Rattle.model.specs.Memory.{Memory, lent}
-use Rattle.script.specs.ReplyText.{replyText, Room}
+use Rattle.model.specs.declared.Spelling.{Spelling}
+use Rattle.script.specs.ReplyText.{spellingOf, replyText, Room}
 use Rattle.script.specs.Said.{saidAt}
 use Rattle.script.specs.declared.said.Said.{Said}
 use Rattle.session.specs.declared.Session.{Session}
@@ -166,10 +167,11 @@ module _ (text : List ℕ) (whole : Part) (t₀ bytes₀ numbers₀ replies₀ :
         (tables : t′ ≡ stepMemory s (lent t bytes numbers) (d .says) .tables)
         (log : bytes′ ≡ stepMemory s (lent t bytes numbers) (d .says) .log)
         (out : numbers′ ≡ stepMemory s (lent t bytes numbers) (d .says) .out)
-        (put : used′ ≡ used + length (replyText (replyOf (a .answer) numbers′)))
-        (wrote : replies′ ≡ writeAt replies used (replyText (replyOf (a .answer) numbers′))) where
+        (k : Spelling) (spelled : k ≡ spellingOf (d .says))
+        (put : used′ ≡ used + length (replyText k (replyOf (a .answer) numbers′)))
+        (wrote : replies′ ≡ writeAt replies used (replyText k (replyOf (a .answer) numbers′))) where
       abbrev x : List ℕ
-      x = replyText (replyOf (a .answer) numbers′)
+      x = replyText k (replyOf (a .answer) numbers′)
 
       abbrev M : Memory
       M = lent t bytes numbers
@@ -182,12 +184,17 @@ module _ (text : List ℕ) (whole : Part) (t₀ bytes₀ numbers₀ replies₀ :
           ap (λ (l : List ℕ). take used′ l) wrote ∙ ap (λ (n : ℕ). take n (writeAt replies used x)) put
           ∙ taken replies x used (omega (arith, r .inside, r .same))
 
+      text-is : x ≡ replyText (spellingOf (saidAt text i .says)) (stepReply s M (saidAt text i .says))
+      text-is =
+          ap (replyText k) reply ∙ ap (λ (q : Spelling). replyText q (stepReply s M (d .says))) spelled
+          ∙ ap (λ (e : Said). replyText (spellingOf (e .says)) (stepReply s M (e .says))) is
+
       next-is : standing (d .end + 1) (a .session) (lent t′ bytes′ numbers′) replies′ used′ ≡ servedLine text p
       unfolding servedLine
       next-is =
           ap (λ (e : Said). standing (e .end + 1) (a .session) (lent t′ bytes′ numbers′) replies′ used′) is
           ∙ part-as
-          (taken-now ∙ ap (λ (l : List ℕ). take used replies ++ l) (ap replyText (reply ∙ ap (λ (e : Said). stepReply s M (e .says)) is)))
+          (taken-now ∙ ap (λ (l : List ℕ). take used replies ++ l) text-is)
           (session ∙ ap (λ (e : Said). stepSession s M (e .says)) is)
           (lent-as M′ tables log out ∙ ap (λ (e : Said). stepMemory s M (e .says)) is)
 

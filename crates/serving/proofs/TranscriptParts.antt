@@ -12,9 +12,10 @@ use Rattle.answer.proofs.Cases.{cases, either, lt?}
 use Rattle.geometry.proofs.Made.{and-true}
 use Rattle.script.specs.Lines.{linesOf}
 use Rattle.script.specs.Parse.{parsed}
-use Rattle.script.specs.ReplyText.{replyText}
+use Rattle.script.specs.ReplyText.{spellingOf, replyText}
 use Rattle.script.specs.Said.{saidAt}
-use Rattle.ledger.specs.Transcript.{Runner, lineSays, printed, left}
+use Rattle.ledger.specs.Transcript.{Runner, lineText, printed, left}
+use Rattle.ledger.proofs.LineSpelled.{line-spelled}
 use Rattle.ledger.proofs.Parts.{parts, parts-left}
 use Rattle.serving.specs.Part.{Part, begun, longest, servedLine, goesOn, servedMost, served}
 use Rattle.serving.specs.Transcribed.{andThen, partsMost, Ample, GetsOn}
@@ -66,8 +67,9 @@ line-follows text R p h st a =
     record {
       lines = l ∷ [];
       met = line-met text (p .at) h;
-      prints = ap (λ r. p .replies ++ replyText r) (line-says R (parsed l) (p .session) (p .memory) a st) ∙
-          ap (λ (t : List ℕ). p .replies ++ t) (sym (append-nil (replyText (lineSays R (parsed l)))));
+      prints =
+          ap (λ r. p .replies ++ replyText (spellingOf (parsed l)) r) (line-says R (parsed l) (p .session) (p .memory) a st) ∙
+          ap (λ (t : List ℕ). p .replies ++ t) (sym (line-spelled R (parsed l)) ∙ sym (append-nil (lineText R (parsed l))));
       stands = line-stands R (parsed l) (p .session) (p .memory) a st;
       ample = line-ample (parsed l) (p .session) (p .memory) a;
       by = λ i n e k. omega (arith, ends-by text (p .at) i (omega arith) e);

@@ -7,7 +7,7 @@ use lib.Dec.{leb, ltb}
 use lib.ListN.{length}
 use Rattle.log.specs.Word.{writeAt}
 use Rattle.model.specs.Memory.{Memory}
-use Rattle.script.specs.ReplyText.{replyText}
+use Rattle.script.specs.ReplyText.{spellingOf, replyText}
 use Rattle.script.specs.Said.{saidAt}
 use Rattle.session.specs.declared.Session.{Session}
 use Rattle.session.specs.Step.{stepReply, stepMemory, stepSession, Kept}
@@ -34,7 +34,7 @@ servedLine text p =
     let d = saidAt text (p .at) in
     record {
       at = d .end + 1;
-      replies = p .replies ++ replyText (stepReply (p .session) (p .memory) (d .says));
+      replies = p .replies ++ replyText (spellingOf (d .says)) (stepReply (p .session) (p .memory) (d .says));
       session = stepSession (p .session) (p .memory) (d .says);
       memory = stepMemory (p .session) (p .memory) (d .says);
     }

@@ -6,6 +6,7 @@ ghost use Rattle.model.specs.Memory.{lent};
 ghost use Rattle.session.specs.Step.{Kept};
 ghost use Rattle.serving.specs.Part.{begun, served, Serves};
 use script::reply::put_reply;
+use script::reply::spelling_of;
 use script::said::said_at;
 use session::Session;
 use session::step;
@@ -58,7 +59,8 @@ pub fn serve_part(
         let stepped = step(s, says, t, log, out);
         s = stepped.session;
         let answer = stepped.answer;
-        used = put_reply(replies, used, answer, out);
+        let spelling = spelling_of(says);
+        used = put_reply(replies, used, spelling, answer, out);
         i = end + 1;
     }
     Served {

@@ -55,22 +55,32 @@ said-at-requires c κs = c .before .loop-test .taken
 step-requires : tie.Need-step-requires Inv-loop μ-loop
 step-requires c κs = c .before .before .before .before .before .before .loop .inv .kept
 
+spelling-of-requires : tie.Need-spelling-of-requires Inv-loop μ-loop
+spelling-of-requires c κs = tt
+
 put-reply-requires : tie.Need-put-reply-requires Inv-loop μ-loop
 put-reply-requires c κs =
-    let e = c .before .before .before .before .before .before .before .before .before .step .ensures .1 .1 .1 .1 .1 in
-    let l = c .before .before .before .before .before .before .before .before .before .before .before .before .before .before .before .before .loop in
-    room _ (e .1) _ _ _ (omega (arith, l .inv .same, c .before .before .before .before .before .before .before .before .before .before .before .before .before .before .if2 .left, c .before .before .before .before .before .before .before .before .before .before .before .before .before .before .before .before .before .if1 .left)) (e .0 .out)
+    let at-step = c .before .before .before .before .before .before .before .before .before .before in
+    let at-if2 = at-step .before .before .before .before .before in
+    let at-loop = at-if2 .before .before in
+    let e = at-step .step .ensures .1 .1 .1 .1 .1 in
+    room _ (e .1) _ _ _ (omega (arith, at-loop .loop .inv .same, at-if2 .if2 .left, at-loop .before .if1 .left)) (e .0 .out)
 
 add-i : tie.Need-add-i Inv-loop μ-loop
-add-i c = omega (arith, c .before .before .before .before .before .before .before .before .before .before .before .before .before .before .before .before .said-at .ensures .1, c .before .before .before .before .before .before .before .before .before .before .before .before .before .before .before .before .before .before .before .before .before .before .before .before .before .before .good)
+add-i c =
+    let at-said-at = c .before .before .before .before .before .before .before .before .before .before .before .before .before .before .before .before .before in
+    omega (arith, at-said-at .said-at .ensures .1, at-said-at .before .before .before .before .before .before .before .before .before .before .good)
 
 loop-less : tie.Need-loop-less Inv-loop μ-loop
-loop-less c = omega (arith, c .before .before .before .before .before .before .before .before .before .before .before .before .before .before .before .before .said-at .ensures .1, c .before .before .before .before .before .before .before .before .before .before .before .before .before .before .before .before .before .before .loop-test .taken)
+loop-less c =
+    let at-said-at = c .before .before .before .before .before .before .before .before .before .before .before .before .before .before .before .before .before in
+    omega (arith, at-said-at .said-at .ensures .1, at-said-at .before .before .loop-test .taken)
 
 loop-again : tie.Need-loop-again Inv-loop μ-loop
 loop-again c =
     let at-put-reply = c .before .before in
-    let at-step = at-put-reply .before .before .before .before .before .before .before .before .before .before in
+    let at-spelling-of = at-put-reply .before .before .before in
+    let at-step = at-spelling-of .before .before .before .before .before .before .before .before in
     let at-said-at = at-step .before .before .before .before in
     let at-if2 = at-said-at .before in
     let at-loop-test = at-if2 .before in
@@ -78,12 +88,14 @@ loop-again c =
     let at-if1 = at-loop .before in
     let start = at-if1 .before .before .before .before .before .before in
     let p = at-put-reply .put-reply in
+    let k = at-spelling-of .spelling-of in
     let s = at-step .step in
     let d = at-said-at .said-at in
     let l = at-loop .loop in
     let a = start .args in
     let e = s .ensures in
-    turned (a .text .now) _ (a .t .now) (a .log .now) (a .out .now) (a .replies .now) (l .s) (l .t) (l .log) (l .out) (l .replies) (l .used) (l .i) (l .inv) (d .result) (d .ensures .0) (s .result) _ _ _ _ _ (e .0) (e .1 .0) (e .1 .1 .0) (e .1 .1 .1 .0) (e .1 .1 .1 .1 .0)
+    turned (a .text .now) _ (a .t .now) (a .log .now) (a .out .now) (a .replies .now) (l .s) (l .t) (l .log) (l .out) (l .replies) (l .used) (l .i) (l .inv)
+    (d .result) (d .ensures .0) (s .result) _ _ _ _ _ (e .0) (e .1 .0) (e .1 .1 .0) (e .1 .1 .1 .0) (e .1 .1 .1 .1 .0) _ (k .ensures)
     (p .ensures .0) (p .ensures .1) (at-loop-test .loop-test .taken) (omega (arith, at-if2 .if2 .left, at-if1 .if1 .left)) (s .kept .1 .1 .0) (s .kept .1 .1 .1 .0)
     (s .kept .1 .1 .1 .1 .0) (p .kept .0) (e .1 .1 .1 .1 .1 .0)
 
@@ -121,6 +133,7 @@ serve-part-spec =
     returns-2
     said-at-requires
     step-requires
+    spelling-of-requires
     put-reply-requires
     add-i
     loop-less
