@@ -1,10 +1,10 @@
 -- What the loop over a part's lines keeps: what is left of the part is the whole of it, and the replies so far stand in the buffer.
 use mathlib.Core.Path.{_≡_, refl, sym, ap, _∙_}
 use mathlib.Core.Bool.{Bool, true, false, cond, _&&_}
-use mathlib.Core.List.{List, [], _∷_, _++_, append-assoc}
-use Prim.Native.Nat.{ℕ, zero, suc, _+_, _*_, _-_, _≤_, _<_}
+use mathlib.Core.List.{List, [], _++_, append-assoc}
+use Prim.Native.Nat.{ℕ, zero, suc, _+_, _-_, _≤_, _<_}
 use native.Mathlib.Omega.{arith}
-use lib.Dec.{leb, ltb}
+use lib.Dec.{ltb}
 use lib.ListN.{length, take, drop, length-append}
 use lib.Seq.{length-take-le, take-at}
 use borrow.Author.Tests.{lt-ltb, le-ltb, le-leb, lt-leb}
@@ -21,7 +21,6 @@ use Rattle.script.specs.declared.said.Said.{Said}
 use Rattle.session.specs.declared.Session.{Session}
 use Rattle.session.specs.declared.Stepped.{Stepped}
 use Rattle.session.specs.Step.{stepReply, stepMemory, stepSession, Kept, Few}
-use Rattle.serving.specs.declared.Served.{Served}
 use Rattle.serving.specs.Part.{Part, begun, longest, servedLine, goesOn, servedMost, served, Serves}
 
 -- ── lines of a part ──

@@ -5,7 +5,6 @@ use lib.ListN.{length}
 use Rattle.model.specs.Memory.{lent}
 use Rattle.serving.specs.Part.{begun, served}
 use Rattle.serving.proofs.Serving.{Running, begins, at-end, when-full, room, turned}
-use borrow.Author.Needs.{needs}
 use native.Mathlib.Omega.{arith}
 use Rattle.serving.proofs.serve_part.Statement.{statement}
 use Rattle.serving.proofs.serve_part.Tie as tie
