@@ -172,7 +172,8 @@ pub fn delete(g: Geometry, t: &mut [u32], log: &mut [u8], out: &mut [u32], numbe
         Verdict::Accept(s, follower) => {
             let n = delete_record(g, t, out, s, follower);
             log_frees(t, log, out, n);
-            Answer::Done(2 * n)
+            let numbers = 2 * n;
+            Answer::Done(numbers)
         }
     }
 }

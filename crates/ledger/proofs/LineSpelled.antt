@@ -15,7 +15,7 @@ use Rattle.model.specs.declared.Call.the-variants.{Begin, Write, Erase, Seal, F
 use Rattle.script.specs.declared.parse.Six.{Six}
 use Rattle.script.specs.declared.parse.Parsed.{Parsed}
 use Rattle.script.specs.declared.parse.Parsed.the-variants.{Store, Asks, No}
-use Rattle.script.specs.ReplyText.{itemsText, spellingOf, replyText, gave, replyRead}
+use Rattle.script.specs.ReplyText.{itemsText, spellingOf, replyText, plus, replyRead}
 use Rattle.script.proofs.Replies.{printed-read}
 use Rattle.ledger.specs.BookReading.{blockOn}
 use Rattle.ledger.specs.Ledger.{Ledger, withBirths, isFree, young, freedBy, picked, runsIn, account, refusalsOf, says}
@@ -96,7 +96,7 @@ line-items R (Store x) ns e = ap {B = List Item} (map plain) (sym (store-gives (
 line-items without-store (Asks c) ns e = cc
 line-items (with-store g L) (Asks c) ns e = ap (itemsOf (spelling c)) (sym (call-gives g L c ns e)) ∙ items-told g L c
 
-pub line-reads : (R : Runner) (p : Parsed) (ns : List ℕ) → lineSays R p ≡ accepted ns → replyRead (lineText R p) ≡ some (gave (lineGives R p))
+pub line-reads : (R : Runner) (p : Parsed) (ns : List ℕ) → lineSays R p ≡ accepted ns → replyRead (lineText R p) ≡ some (plus (lineGives R p))
 line-reads R p ns e =
     ap replyRead (line-spelled R p ∙ ap (replyText (spellingOf p)) e) ∙ printed-read (spellingOf p) (accepted ns) ∙
-    ap (λ (l : List Item). some (gave l)) (line-items R p ns e)
+    ap (λ (l : List Item). some (plus l)) (line-items R p ns e)

@@ -13,7 +13,7 @@ use Rattle.script.specs.declared.parse.Parsed.{Parsed}
 use Rattle.script.specs.declared.parse.Parsed.the-variants.{Store, Asks, No}
 use Rattle.script.specs.Parse.{parsed}
 use Rattle.model.specs.Results.{numbersOf}
-use Rattle.script.specs.ReplyText.{spellingOf, replyText, gave, replyRead}
+use Rattle.script.specs.ReplyText.{spellingOf, replyText, plus, replyRead}
 use Rattle.ledger.specs.Transcript.{Runner, without-store, asked, lineSays, lineGives, lineText, printed, left}
 
 -- how a line may be refused, whatever stands before it (5 to 14: `says`)
@@ -36,7 +36,7 @@ pub record TranscriptMeans : Type 0 where
   pub gives : (R : Runner) (p : Parsed) (ns : List ℕ) → lineSays R p ≡ accepted ns → numbersOf (lineGives R p) ≡ ns
   pub spelled : (R : Runner) (p : Parsed) → lineText R p ≡ replyText (spellingOf p) (lineSays R p)
   -- and what it prints reads back to what it gives, the colons with it
-  pub reads : (R : Runner) (p : Parsed) (ns : List ℕ) → lineSays R p ≡ accepted ns → replyRead (lineText R p) ≡ some (gave (lineGives R p))
+  pub reads : (R : Runner) (p : Parsed) (ns : List ℕ) → lineSays R p ≡ accepted ns → replyRead (lineText R p) ≡ some (plus (lineGives R p))
   pub refusals : (R : Runner) (p : Parsed) → LineRefused R p
   -- "An empty or longer line is no call" (10.2)
   pub no-call : (R : Runner) (l : List ℕ) → (l ≡ []) ⊎ (80 < length l) → lineSays R (parsed l) ≡ refused 1

@@ -12,7 +12,7 @@ use Rattle.script.specs.Decimal.{digits, decimal, led}
 use Rattle.script.specs.Parse.{parsed, opens, callLine, numbersFrom, numberFrom, firstDigit, digitsFrom, countOf, callOf}
 use Rattle.script.specs.Lines.{run, linesOf}
 use Rattle.script.specs.Said.{saidAt}
-use Rattle.script.specs.ReplyText.{itemText, itemsText, replyText, gave, denied, replyRead, itemsRead, insideRead}
+use Rattle.script.specs.ReplyText.{itemText, itemsText, replyText, plus, minus, replyRead, itemsRead, insideRead}
 
 -- `store 1 4 2 4 8 10`
 store-line : parsed (115 ∷ 116 ∷ 111 ∷ 114 ∷ 101 ∷ 32 ∷ 49 ∷ 32 ∷ 52 ∷ 32 ∷ 50 ∷ 32 ∷ 52 ∷ 32 ∷ 56 ∷ 32 ∷ 49 ∷ 48 ∷ [])
@@ -89,23 +89,23 @@ unfolding replyText led decimal digits
 eight-refused = refl
 
 -- each reads back
-nothing-read : replyRead (43 ∷ 10 ∷ []) ≡ some (gave [])
+nothing-read : replyRead (43 ∷ 10 ∷ []) ≡ some (plus [])
 unfolding replyRead itemsRead
 nothing-read = refl
 
-numbers-read : replyRead (43 ∷ 32 ∷ 48 ∷ 32 ∷ 50 ∷ 10 ∷ []) ≡ some (gave (plain 0 ∷ plain 2 ∷ []))
+numbers-read : replyRead (43 ∷ 32 ∷ 48 ∷ 32 ∷ 50 ∷ 10 ∷ []) ≡ some (plus (plain 0 ∷ plain 2 ∷ []))
 unfolding replyRead itemsRead insideRead
 numbers-read = refl
 
-one-read : replyRead (43 ∷ 32 ∷ 48 ∷ 58 ∷ 49 ∷ 10 ∷ []) ≡ some (gave (born 0 1 ∷ []))
+one-read : replyRead (43 ∷ 32 ∷ 48 ∷ 58 ∷ 49 ∷ 10 ∷ []) ≡ some (plus (born 0 1 ∷ []))
 unfolding replyRead itemsRead insideRead
 one-read = refl
 
-two-read : replyRead (43 ∷ 32 ∷ 50 ∷ 58 ∷ 50 ∷ 32 ∷ 49 ∷ 58 ∷ 50 ∷ 10 ∷ []) ≡ some (gave (born 2 2 ∷ born 1 2 ∷ []))
+two-read : replyRead (43 ∷ 32 ∷ 50 ∷ 58 ∷ 50 ∷ 32 ∷ 49 ∷ 58 ∷ 50 ∷ 10 ∷ []) ≡ some (plus (born 2 2 ∷ born 1 2 ∷ []))
 unfolding replyRead itemsRead insideRead
 two-read = refl
 
-eight-read : replyRead (45 ∷ 32 ∷ 56 ∷ 10 ∷ []) ≡ some (denied 8)
+eight-read : replyRead (45 ∷ 32 ∷ 56 ∷ 10 ∷ []) ≡ some (minus 8)
 unfolding replyRead itemsRead insideRead
 eight-read = refl
 

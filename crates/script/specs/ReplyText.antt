@@ -51,15 +51,15 @@ pub record Room (text : List ℕ) (at : ℕ) (answer : Answer) (out : List ℕ) 
 
 -- ── the text of a reply read back, by the same rules ──
 
--- a reply as it is printed: its items, or the number of a refusal
+-- a reply as it is printed: plus and its items, or minus and the number of the refusal
 pub data Printed : Type 0 where
-  gave : List Item → Printed
-  denied : ℕ → Printed
+  plus : List Item → Printed
+  minus : ℕ → Printed
 
 -- what is printed of a reply whose numbers are spelled so
 abbrev pub printedOf : Spelling → Reply → Printed
-printedOf s (accepted ns) = gave (itemsOf s ns)
-printedOf s (refused k) = denied k
+printedOf s (accepted ns) = plus (itemsOf s ns)
+printedOf s (refused k) = minus k
 
 -- numbers that are all printed: of blocks with their births there is an even count
 abbrev pub Whole : Spelling → List ℕ → Type 0
@@ -73,8 +73,8 @@ WholeReply s (refused k) = Unit {0}
 
 -- the reply that a printed one stands for
 abbrev pub replyIn : Printed → Reply
-replyIn (gave l) = accepted (numbersOf l)
-replyIn (denied k) = refused k
+replyIn (plus l) = accepted (numbersOf l)
+replyIn (minus k) = refused k
 
 -- whether a number begins here: a digit, and no leading zero but 0 itself
 abbrev pub begins : List ℕ → Bool
@@ -117,13 +117,13 @@ itemsRead (b ∷ l) = cond (eqb b 32 && begins l) (insideRead none 0 l) (cond (e
 
 abbrev pub gives : Option (List Item) → Option Printed
 gives none = none
-gives (some l) = some (gave l)
+gives (some l) = some (plus l)
 
 -- a refusal is one number
 abbrev pub refuses : Option (List Item) → Option Printed
 refuses none = none
 refuses (some []) = none
-refuses (some (plain k ∷ [])) = some (denied k)
+refuses (some (plain k ∷ [])) = some (minus k)
 refuses (some (plain k ∷ i ∷ l)) = none
 refuses (some (born b v ∷ l)) = none
 

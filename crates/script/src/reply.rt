@@ -41,23 +41,28 @@ fn width_of(n: u32) -> usize
     4
 }
 
-// Writes a separator and a number of two to four digits with no branch. In thousandths of 2 to the 32nd the thousands stand above the lower 32 bits, and ten
-// times what is left below brings the next digit there. A thousand or a hundred that is not there is written over by the digit behind it.
+// Fixed point with 32 bits behind the point: one, and a thousandth, rounded up.
+const ONE: u64 = 4294967296;
+
+const THOUSANDTH: u64 = 4294968;
+
+// Writes a separator and a number of two to four digits with no branch. A thousandth of the number has its thousands in front of the point, and ten times
+// what is left behind the point has the next digit there. A thousand or a hundred that is not there is written over by the digit behind it.
 fn put_few(text: &mut [u8], at: usize, separator: u8, n: u32) -> usize
     requires { ⌜ (10 ≤ n) × (n < 10000) × (at + 11 ≤ length (now text)) ⌝ }
     ensures { λ r. ⌜ (r ≡ at + length (led separator n)) × (r ≤ at + 11) × (now (text .exit) ≡ writeAt (now (text .entry)) at (led separator n)) ⌝ }
 {
     let width = width_of(n);
     let last = at + width;
-    let thousands = n as u64 * 4294968;
-    let hundreds = thousands % 4294967296 * 10;
-    let tens = hundreds % 4294967296 * 10;
-    let ones = tens % 4294967296 * 10;
+    let thousands = n as u64 * THOUSANDTH;
+    let hundreds = thousands % ONE * 10;
+    let tens = hundreds % ONE * 10;
+    let ones = tens % ONE * 10;
     text[at] = separator;
-    text[at + 1] = 48 + (thousands / 4294967296) as u8;
-    text[at + 1 + width / 4] = 48 + (hundreds / 4294967296) as u8;
-    text[last - 1] = 48 + (tens / 4294967296) as u8;
-    text[last] = 48 + (ones / 4294967296) as u8;
+    text[at + 1] = 48 + (thousands / ONE) as u8;
+    text[at + 1 + width / 4] = 48 + (hundreds / ONE) as u8;
+    text[last - 1] = 48 + (tens / ONE) as u8;
+    text[last] = 48 + (ones / ONE) as u8;
     last + 1
 }
 

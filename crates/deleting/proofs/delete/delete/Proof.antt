@@ -45,8 +45,8 @@ log-frees-requires c κs =
     let n = made .0 in
     (omega arith, o, omega arith, omega arith)
 
-mul-t25 : tie.Need-mul-t25
-mul-t25 c =
+mul-numbers : tie.Need-mul-numbers
+mul-numbers c =
     let at-record = c .before .before .before .before .before .before .before .before .before .before .before .before in
     let at-verdict = at-record .before .before .before .before .before .before in
     let start = at-verdict .before .before .before .before .before in
@@ -103,7 +103,7 @@ delete-spec =
     enum-known-verdict-2
     delete-record-requires
     log-frees-requires
-    mul-t25
+    mul-numbers
     same-length
     returns
     same-length-2

@@ -5,6 +5,8 @@ use mathlib.Core.Path.{refl}
 use lib.ListN.{length-set}
 use Rattle.paging.proofs.Answers
 use Rattle.paging.proofs.Looking
+use Rattle.geometry.specs.Limits.{blocks}
+use Prim.Native.Nat.{_≤_}
 use Rattle.paging.proofs.read.read.Statement.{statement}
 use Rattle.paging.proofs.read.read.Tie as tie
 
@@ -57,19 +59,20 @@ returns-3 c =
 sub-b : tie.Need-sub-b
 sub-b c = search needs
 
-cast-out : tie.Need-cast-out
-cast-out c =
+-- what was read is a block, one more
+link-le : (c : tie.Else3) → c .before .wide3 .result ≤ blocks (c .before .before .before .before .before .before .before .before .before .before .before .args .g)
+link-le c =
     let at-wide2 = c .before .before .before in
     let at-if2 = at-wide2 .before in
     let at-slot-of = at-if2 .before in
     let at-if1 = at-slot-of .before in
     let at-wide = at-if1 .before .before in
     let start = at-wide .before .before .before in
-    omega (
-      arith,
-      Looking.read-le _ _ _ _ _ (at-wide .wide .ensures) (start .pre .0) _ (at-if1 .if1 .left) (at-slot-of .slot-of .ensures .0)
-          (at-if2 .if2 .left) _ _ (at-wide2 .wide2 .ensures) (c .before .wide3 .ensures),
-    )
+    Looking.read-le _ _ _ _ _ (at-wide .wide .ensures) (start .pre .0) _ (at-if1 .if1 .left) (at-slot-of .slot-of .ensures .0)
+    (at-if2 .if2 .left) _ _ (at-wide2 .wide2 .ensures) (c .before .wide3 .ensures)
+
+cast-out : tie.Need-cast-out
+cast-out c = omega (arith, link-le c)
 
 slice-write-out : tie.Need-slice-write-out
 slice-write-out c = search needs
@@ -81,46 +84,13 @@ add-out : tie.Need-add-out
 add-out c = search needs
 
 add-out-2 : tie.Need-add-out-2
-add-out-2 c =
-    let at-wide2 = c .before .before .before .before in
-    let at-if2 = at-wide2 .before in
-    let at-slot-of = at-if2 .before in
-    let at-if1 = at-slot-of .before in
-    let at-wide = at-if1 .before .before in
-    let start = at-wide .before .before .before in
-    omega (
-      arith,
-      Looking.read-le _ _ _ _ _ (at-wide .wide .ensures) (start .pre .0) _ (at-if1 .if1 .left) (at-slot-of .slot-of .ensures .0)
-          (at-if2 .if2 .left) _ _ (at-wide2 .wide2 .ensures) (c .before .before .wide3 .ensures),
-    )
+add-out-2 c = omega (arith, link-le (c .before))
 
 mul-out-2 : tie.Need-mul-out-2
-mul-out-2 c =
-    let at-wide2 = c .before .before .before .before in
-    let at-if2 = at-wide2 .before in
-    let at-slot-of = at-if2 .before in
-    let at-if1 = at-slot-of .before in
-    let at-wide = at-if1 .before .before in
-    let start = at-wide .before .before .before in
-    omega (
-      arith,
-      Looking.read-le _ _ _ _ _ (at-wide .wide .ensures) (start .pre .0) _ (at-if1 .if1 .left) (at-slot-of .slot-of .ensures .0)
-          (at-if2 .if2 .left) _ _ (at-wide2 .wide2 .ensures) (c .before .before .wide3 .ensures),
-    )
+mul-out-2 c = omega (arith, link-le (c .before))
 
 shared-slice-read-out : tie.Need-shared-slice-read-out
-shared-slice-read-out c =
-    let at-wide2 = c .before .before .before .before .before in
-    let at-if2 = at-wide2 .before in
-    let at-slot-of = at-if2 .before in
-    let at-if1 = at-slot-of .before in
-    let at-wide = at-if1 .before .before in
-    let start = at-wide .before .before .before in
-    omega (
-      arith,
-      Looking.read-le _ _ _ _ _ (at-wide .wide .ensures) (start .pre .0) _ (at-if1 .if1 .left) (at-slot-of .slot-of .ensures .0)
-          (at-if2 .if2 .left) _ _ (at-wide2 .wide2 .ensures) (c .before .before .before .wide3 .ensures),
-    )
+shared-slice-read-out c = omega (arith, link-le (c .before .before))
 
 slice-write-out-2 : tie.Need-slice-write-out-2
 slice-write-out-2 c =
