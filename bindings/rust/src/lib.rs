@@ -116,6 +116,13 @@ pub struct Estimate {
     pub shards: u32,
 }
 
+/// Calls a bare function; the six numbers of the geometry come first. It is as unsafe as the function.
+macro_rules! bare {
+    ($function:ident, $g:ident, $($argument:expr),* $(,)?) => {
+        raw::$function($g.arenas, $g.per, $g.pages, $g.records, $g.turn, $g.words, $($argument),*)
+    };
+}
+
 /// Calls a function of the library on the lent memory; what it gives is the result's numbers, at the start of the result buffer.
 macro_rules! call {
     ($function:ident, $memory:expr, $g:expr $(, $number:expr)*) => {{
@@ -124,13 +131,9 @@ macro_rules! call {
         // SAFETY: the pointers and lengths are those of three exclusive slices, and of a local for the count, so each is valid and none overlaps another.
         // The function asks for nothing else: it is proved to stay inside the lengths whatever the numbers and the content are.
         let code = unsafe {
-            raw::$function(
-                g.arenas,
-                g.per,
-                g.pages,
-                g.records,
-                g.turn,
-                g.words,
+            bare!(
+                $function,
+                g,
                 m.tables.as_mut_ptr(),
                 m.tables.len(),
                 m.log.as_mut_ptr(),
@@ -152,20 +155,7 @@ impl Memory<'_> {
     pub fn make(&mut self, g: Geometry) -> Result<(), Refusal> {
         // SAFETY: as in `call!`.
         let code = unsafe {
-            raw::sogvect_make(
-                g.arenas,
-                g.per,
-                g.pages,
-                g.records,
-                g.turn,
-                g.words,
-                self.tables.as_mut_ptr(),
-                self.tables.len(),
-                self.log.as_ptr(),
-                self.log.len(),
-                self.out.as_ptr(),
-                self.out.len(),
-            )
+            bare!(sogvect_make, g, self.tables.as_mut_ptr(), self.tables.len(), self.log.as_ptr(), self.log.len(), self.out.as_ptr(), self.out.len())
         };
         Refusal::check(code)
     }
@@ -259,9 +249,7 @@ impl Memory<'_> {
 pub fn log_read<'a>(g: Geometry, log: &[u8], out: &'a mut [u32]) -> Result<&'a [u32], Refusal> {
     let mut count: usize = 0;
     // SAFETY: the pointers and lengths are those of a shared slice, of an exclusive one, and of a local for the count.
-    let code = unsafe {
-        raw::sogvect_log_read(g.arenas, g.per, g.pages, g.records, g.turn, g.words, log.as_ptr(), log.len(), out.as_mut_ptr(), out.len(), &mut count)
-    };
+    let code = unsafe { bare!(sogvect_log_read, g, log.as_ptr(), log.len(), out.as_mut_ptr(), out.len(), &mut count) };
     Refusal::check(code).map(|()| &out[..count])
 }
 
@@ -271,21 +259,7 @@ pub fn log_read<'a>(g: Geometry, log: &[u8], out: &'a mut [u32]) -> Result<&'a [
 pub fn log_compare(g: Geometry, first: &[u8], second: &[u8]) -> Result<bool, Refusal> {
     let mut alike: u32 = 0;
     // SAFETY: the pointers and lengths are those of two shared slices, and of a local for the answer.
-    let code = unsafe {
-        raw::sogvect_log_compare(
-            g.arenas,
-            g.per,
-            g.pages,
-            g.records,
-            g.turn,
-            g.words,
-            first.as_ptr(),
-            first.len(),
-            second.as_ptr(),
-            second.len(),
-            &mut alike,
-        )
-    };
+    let code = unsafe { bare!(sogvect_log_compare, g, first.as_ptr(), first.len(), second.as_ptr(), second.len(), &mut alike) };
     Refusal::check(code).map(|()| alike == 1)
 }
 
@@ -295,20 +269,6 @@ pub fn log_compare(g: Geometry, first: &[u8], second: &[u8]) -> Result<bool, Ref
 pub fn log_compact<'a>(g: Geometry, log: &[u8], out: &'a mut [u8]) -> Result<&'a [u8], Refusal> {
     let mut count: usize = 0;
     // SAFETY: the pointers and lengths are those of a shared slice, of an exclusive one, and of a local for the count.
-    let code = unsafe {
-        raw::sogvect_log_compact(
-            g.arenas,
-            g.per,
-            g.pages,
-            g.records,
-            g.turn,
-            g.words,
-            log.as_ptr(),
-            log.len(),
-            out.as_mut_ptr(),
-            out.len(),
-            &mut count,
-        )
-    };
+    let code = unsafe { bare!(sogvect_log_compact, g, log.as_ptr(), log.len(), out.as_mut_ptr(), out.len(), &mut count) };
     Refusal::check(code).map(|()| &out[..8 * count])
 }
