@@ -1,5 +1,6 @@
 -- Laws of the choice of a block.
 pub mod Ranges
+pub mod Modulo
 pub mod Turns
 pub mod Round
 pub mod Left
@@ -16,3 +17,4 @@ pub mod Births
 pub mod Summary
 pub mod Passes
 pub mod Agree
+pub mod Examples

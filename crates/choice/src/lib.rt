@@ -142,6 +142,18 @@ fn round_of(n: usize, i: usize) -> usize
     if i < n { i } else { i - n }
 }
 
+// The arena that a write starts from: (counter + kind) modulo arenas, by repeated subtraction. Since the counter is below `arenas` and the
+// kind at most 2, the sum is at most `arenas` + 1: one subtraction is enough with two arenas or more, two are with one.
+fn start_arena(arenas: usize, counter: usize, kind: usize) -> usize
+    requires { ⌜ (0 < arenas) × (arenas ≤ 16) × (counter < arenas) × (kind ≤ 2) ⌝ }
+    ensures is { λ r. ⌜ r ≡ (counter + kind) % arenas ⌝ }
+    ensures below { λ r. ⌜ r < arenas ⌝ }
+{
+    let sum = counter + kind;
+    let once = if sum < arenas { sum } else { sum - arenas };
+    if once < arenas { once } else { once - arenas }
+}
+
 // Which of 64 words are not 0, as bits: one pass, compiled to wide steps. Where there are not 64, any may be.
 fn some_of(words: &[u32]) -> u64
     ensures { λ r. ⌜ Marked (now (words .entry)) r ⌝ }
@@ -294,7 +306,7 @@ pub fn choose(
     requires { ⌜ Searchable (now words) (now marks) arenas per counter kind ⌝ }
     ensures { λ r. ⌜ r ≡ chosen (freeIn (now (words .entry))) (markIn (now (marks .entry))) arenas per (counter + kind) ⌝ }
 {
-    let first = (counter + kind) % arenas;
+    let first = start_arena(arenas, counter, kind);
     let mark = marks[first] as usize;
     let block = first * per + mark;
     let rest = rest_of(words[block >> 5], block);
