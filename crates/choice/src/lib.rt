@@ -142,8 +142,8 @@ fn round_of(n: usize, i: usize) -> usize
     if i < n { i } else { i - n }
 }
 
-// The arena that a write starts from: (counter + kind) modulo arenas, by repeated subtraction. Since the counter is below `arenas` and the
-// kind at most 2, the sum is at most `arenas` + 1: one subtraction is enough with two arenas or more, two are with one.
+// The arena where the search of a write begins: (counter + kind) modulo arenas, by subtraction. The counter is below `arenas` and the kind at
+// most 2, so the sum is at most `arenas` + 1: with two arenas or more one subtraction is enough, with one arena it takes up to two.
 fn start_arena(arenas: usize, counter: usize, kind: usize) -> usize
     requires { ⌜ (0 < arenas) × (arenas ≤ 16) × (counter < arenas) × (kind ≤ 2) ⌝ }
     ensures is { λ r. ⌜ r ≡ (counter + kind) % arenas ⌝ }

@@ -38,6 +38,19 @@ fn written(store: &Store, r: u64) -> Reached {
     ]
 }
 
+/// A W of a kind: where its search began. Behind it the counter has gone up if the turn's writes are 0.
+fn begun(store: &Store, kind: u64) -> Reached {
+    let arenas = store.g.arenas;
+    let c = if store.writes == 0 { (store.counter + arenas - 1) % arenas } else { store.counter };
+    let round = c + kind >= arenas;
+    vec![
+        (arenas == 1 && kind == 2, "W of kind 2 with 1 arena"),
+        (arenas == 2 && round, "W with 2 arenas, c + k round"),
+        (arenas > 2 && round, "W with 3 arenas or more, c + k round"),
+        (arenas == 16 && c + kind == 17, "W with 16 arenas, c + k 17"),
+    ]
+}
+
 fn deleted(store: &Store, freed: usize, was_last: bool, was_asked: bool) -> Reached {
     vec![
         (was_asked, "D straight behind a Q of its record"),
@@ -101,6 +114,9 @@ fn instances(store: &Store, c: Call, reply: &Reply, was_last: bool, was_asked: b
         Call::Seal(r) => sealed(store, r),
         _ => vec![],
     };
+    if let Call::Write(_, _, kind) = c {
+        reached.extend(begun(store, kind));
+    }
     if c.gives_blocks() {
         reached.extend(named(c, given));
     }
