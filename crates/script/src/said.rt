@@ -1,8 +1,10 @@
 // What the line at a position says and where it ends, found together.
 ghost use mathlib.Core.Path.{_≡_};
 ghost use Prim.Native.Nat.{_+_, _≤_, _<_};
+ghost use mathlib.Core.Bool.{_&&_};
+ghost use lib.Dec.{eqb};
 ghost use lib.ListN.{length, getD, drop};
-ghost use Rattle.script.specs.Parse.{countOf, digitsFrom, numberFrom};
+ghost use Rattle.script.specs.Parse.{isDigit, countOf, digitsFrom, numberFrom};
 ghost use Rattle.script.specs.Said.{saidAt, Agrees, Tells};
 use crate::number::Number;
 use crate::parse::Parsed;
@@ -59,6 +61,15 @@ fn few_digits(text: &[u8], from: usize, first: u32) -> Number
     Number::No
 }
 
+// A 0 with a digit behind it: from `00` to `09`. Both bytes are tested as one number, since a branch on the first alone
+// goes the way of the numbers that a script has.
+fn leads_zero(first: u8, next: u8) -> bool
+    ensures { λ r. ⌜ r ≡ (eqb first 48 && isDigit next) ⌝ }
+{
+    let two = first as u32 * 256 + next as u32;
+    (12336 <= two) & (two <= 12345)
+}
+
 // The number of at most four digits behind a space at a position, where six bytes are left; none for any other.
 fn short_at(text: &[u8], at: usize) -> Number
     requires { ⌜ at + 6 ≤ length (now text) ⌝ }
@@ -68,13 +79,13 @@ fn short_at(text: &[u8], at: usize) -> Number
         return Number::No;
     }
     let start = at + 1;
-    if text[start] == 48 {
-        return Number::Read(0, start + 1);
-    }
     if text[start] < 48 {
         return Number::No;
     }
     if 57 < text[start] {
+        return Number::No;
+    }
+    if leads_zero(text[start], text[start + 1]) {
         return Number::No;
     }
     few_digits(text, start + 1, text[start] as u32 - 48)

@@ -5,7 +5,7 @@ use mathlib.Core.Path.{sym, _∙_}
 use Prim.Native.Nat.{_+_, _-_}
 use lib.ListN.{getD, drop}
 use Rattle.script.specs.Parse.{digitsFrom, numberFrom}
-use Rattle.script.proofs.Reading.{digit-yes, number-first, first-zero, first-more}
+use Rattle.script.proofs.Reading.{digit-yes, number-first, first-few, no-digit}
 use Rattle.script.proofs.OnePass.{agrees-move}
 use Rattle.script.proofs.said.short_at.Statement.{statement}
 use Rattle.script.proofs.said.short_at.Tie as tie
@@ -22,13 +22,8 @@ add-start c = search needs
 shared-slice-read-if2 : tie.Need-shared-slice-read-if2
 shared-slice-read-if2 c = search needs
 
-add-t8 : tie.Need-add-t8
-add-t8 c = search needs
-
 returns-2 : tie.Need-returns-2
-returns-2 c = let a = c .before .before .before .before .before .args in
-    let xs = a .text .now in
-    (sym (number-first xs (a .at) (a .at) (omega arith) (c .before .before .if1 .left) ∙ first-zero xs (a .at + 1) (a .at + 1) (omega arith) (c .if2 .taken)), omega arith)
+returns-2 c = tt
 
 shared-slice-read-if3 : tie.Need-shared-slice-read-if3
 shared-slice-read-if3 c = search needs
@@ -36,8 +31,17 @@ shared-slice-read-if3 c = search needs
 returns-3 : tie.Need-returns-3
 returns-3 c = tt
 
-shared-slice-read-if4 : tie.Need-shared-slice-read-if4
-shared-slice-read-if4 c = search needs
+shared-slice-read-leads-zero : tie.Need-shared-slice-read-leads-zero
+shared-slice-read-leads-zero c = search needs
+
+add-leads-zero : tie.Need-add-leads-zero
+add-leads-zero c = search needs
+
+shared-slice-read-leads-zero-2 : tie.Need-shared-slice-read-leads-zero-2
+shared-slice-read-leads-zero-2 c = search needs
+
+leads-zero-requires : tie.Need-leads-zero-requires
+leads-zero-requires c κs = search needs
 
 returns-4 : tie.Need-returns-4
 returns-4 c = tt
@@ -49,20 +53,23 @@ shared-slice-read-few-digits : tie.Need-shared-slice-read-few-digits
 shared-slice-read-few-digits c = search needs
 
 cast-few-digits : tie.Need-cast-few-digits
-cast-few-digits c = omega arith
+cast-few-digits c = search needs
 
 sub-few-digits : tie.Need-sub-few-digits
-sub-few-digits c = omega arith
+sub-few-digits c = search needs
 
 few-digits-requires : tie.Need-few-digits-requires
-few-digits-requires c κs = omega arith
+few-digits-requires c κs = search needs
 
 returns-5 : tie.Need-returns-5
-returns-5 c = let a = c .before .before .before .before .before .before .before .before .before .before .before .args in
+returns-5 c = let a = c .before .before .before .before .before .before .before .before .before .before .before .before .before .args in
     let xs = a .text .now in
     let i = a .at + 1 in
+    let digit = digit-yes (getD xs i 0) (c .before .before .before .before .before .before .before .before .if2 .left) (c .before .before .before .before .before .before .if3 .left) in
+    let zero = sym (c .before .before .before .leads-zero .ensures) ∙ c .before .before .if4 .left in
+    let few = first-few xs i i (omega arith) digit (no-digit (getD xs i 0) (getD xs (i + 1) 0) zero) in
     agrees-move (c .few-digits .result) (digitsFrom (drop (i + 1) xs) (getD xs i 0 - 48) 6 (i + 1)) (numberFrom (drop (a .at) xs) (a .at)) (i + 1 + 3) (a .at + 5)
-    (sym (number-first xs (a .at) (a .at) (omega arith) (c .before .before .before .before .before .before .before .before .if1 .left) ∙ first-more xs i i (omega arith) (c .before .before .before .before .before .before .if2 .left) (digit-yes (getD xs i 0) (c .before .before .before .before .if3 .left) (c .before .before .if4 .left))))
+    (sym (number-first xs (a .at) (a .at) (omega arith) (c .before .before .before .before .before .before .before .before .before .before .if1 .left) ∙ few))
     (omega arith)
     (c .few-digits .ensures)
 
@@ -74,11 +81,13 @@ short-at-spec =
     returns
     add-start
     shared-slice-read-if2
-    add-t8
     returns-2
     shared-slice-read-if3
     returns-3
-    shared-slice-read-if4
+    shared-slice-read-leads-zero
+    add-leads-zero
+    shared-slice-read-leads-zero-2
+    leads-zero-requires
     returns-4
     add-few-digits
     shared-slice-read-few-digits
