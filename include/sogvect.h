@@ -21,6 +21,10 @@
  * that was open when the block was given. A freed block's birth is the one that it had. *count counts both numbers. No other result has births.
  * A refused call changes nothing: tables, log, out and *count are as they were.
  *
+ * A block that a call frees waits: it is given again, or listed as free, only once a sogvect_barrier or a sogvect_compress was done since. So where the
+ * log of a store is cut, at any byte of the words appended since the last sogvect_compress, reading it (sogvect_log_read) gives the blocks held at the
+ * last whole barrier, and none of those was given to a write between that barrier and the cut.
+ *
  * The six numbers of a geometry come first in every call, and are those that the store was made from:
  *   arenas   1 to 16
  *   per      blocks in an arena, 1 to 1,024; arenas x per, all blocks, is at most 2,048
@@ -54,12 +58,12 @@ extern "C" {
 #define SOGVECT_RECORD_LAST 999999
 
 /* Least lengths of the lent memory; blocks is arenas x per. */
-#define SOGVECT_TABLES_NUMBERS(records, blocks) (2048 + 512 * (size_t)(records) + (size_t)(blocks))
+#define SOGVECT_TABLES_NUMBERS(records, blocks) (2048 + 512 * (size_t)(records) + 4 * (size_t)(blocks))
 #define SOGVECT_LOG_BYTES(words) (8 * (size_t)(words))
 #define SOGVECT_OUT_NUMBERS(blocks) (2 * (size_t)(blocks) + 64)
 
 /* Lengths that are enough for every geometry. */
-#define SOGVECT_TABLES_NUMBERS_MOST 36864
+#define SOGVECT_TABLES_NUMBERS_MOST 43008
 #define SOGVECT_LOG_BYTES_MOST 65536
 #define SOGVECT_OUT_NUMBERS_MOST 4160
 
@@ -88,7 +92,7 @@ extern "C" {
 #define SOGVECT_FORKED 10        /* delete or estimate of a record with a fork on it */
 #define SOGVECT_TABLE_FULL 11    /* as many records as there can be at one time */
 #define SOGVECT_NO_NUMBER 12     /* the last record number has been given */
-#define SOGVECT_NO_BLOCK 13      /* no block is free */
+#define SOGVECT_NO_BLOCK 13      /* no free block: each is on a page or waiting for a barrier */
 #define SOGVECT_LOG_FULL 14      /* too few unused log words: sogvect_compress makes room */
 
 /* Makes a fresh store on the lent memory, whatever was there before. It reads the lengths of log and out only, and has no result.
@@ -103,13 +107,13 @@ uint32_t sogvect_begin(size_t arenas, size_t per, size_t pages, size_t records, 
                        size_t *count);
 
 /* Puts a free block on a page of open record n; kind is 0 to 2. Result: a pair, the block and its birth, which is n;
- * and after it the block that was there before and its birth, if that block is free now. So *count becomes 2 or 4.
+ * and after it the block that was there before and its birth, if that block was freed. So *count becomes 2 or 4.
  * Refusals: 2, 3, 4, 5, 6, 8, 9, 13, 14. */
 uint32_t sogvect_write(size_t arenas, size_t per, size_t pages, size_t records, size_t turn, size_t words,
                        uint32_t *tables, size_t tables_len, uint8_t *log, size_t log_len, uint32_t *out, size_t out_len,
                        uint32_t n, uint32_t page, uint32_t kind, size_t *count);
 
-/* Empties a page of open record n. Result: a pair, the block that was there and its birth, if that block is free now, else nothing.
+/* Empties a page of open record n. Result: a pair, the block that was there and its birth, if that block was freed, else nothing.
  * Refusals: 2, 3, 4, 5, 8, 9, 14. */
 uint32_t sogvect_erase(size_t arenas, size_t per, size_t pages, size_t records, size_t turn, size_t words,
                        uint32_t *tables, size_t tables_len, uint8_t *log, size_t log_len, uint32_t *out, size_t out_len,
@@ -127,7 +131,7 @@ uint32_t sogvect_fork(size_t arenas, size_t per, size_t pages, size_t records, s
                       uint32_t *tables, size_t tables_len, uint8_t *log, size_t log_len, uint32_t *out, size_t out_len,
                       uint32_t n, size_t *count);
 
-/* Deletes record n, open or sealed. Result: a pair for each block that is free now, none to all of them: the block and the birth that it had.
+/* Deletes record n, open or sealed. Result: a pair for each freed block, none to all of them: the block and the birth that it had.
  * Refusals: 2, 3, 4, 8, 10, 14. */
 uint32_t sogvect_delete(size_t arenas, size_t per, size_t pages, size_t records, size_t turn, size_t words,
                         uint32_t *tables, size_t tables_len, uint8_t *log, size_t log_len, uint32_t *out, size_t out_len,
@@ -139,19 +143,20 @@ uint32_t sogvect_read(size_t arenas, size_t per, size_t pages, size_t records, s
                       uint32_t *tables, size_t tables_len, uint8_t *log, size_t log_len, uint32_t *out, size_t out_len,
                       uint32_t n, uint32_t page, size_t *count);
 
-/* Adds a barrier to the log. Result: nothing.
+/* Adds a barrier to the log; once it is done, no block waits. Result: nothing.
  * Refusals: 2, 3, 4, 14. */
 uint32_t sogvect_barrier(size_t arenas, size_t per, size_t pages, size_t records, size_t turn, size_t words,
                          uint32_t *tables, size_t tables_len, uint8_t *log, size_t log_len, uint32_t *out, size_t out_len,
                          size_t *count);
 
-/* Writes the log anew, as short as it can be. Result: how many words it has.
+/* Writes the log anew, as short as it can be and with a barrier at its end; once it is done, no block waits. Result: how many words it has.
  * Refusals: 2, 3, 4. */
 uint32_t sogvect_compress(size_t arenas, size_t per, size_t pages, size_t records, size_t turn, size_t words,
                           uint32_t *tables, size_t tables_len, uint8_t *log, size_t log_len, uint32_t *out, size_t out_len,
                           size_t *count);
 
-/* Lists the free blocks. Result: a pair of numbers for each run of free blocks, its first block and its length, rising; no run crosses an arena's edge.
+/* Lists the free blocks but for those that wait. Result: a pair of numbers for each run of them, its first block and its length, rising; no run crosses
+ * an arena's edge.
  * Refusals: 2, 3, 4. */
 uint32_t sogvect_free_list(size_t arenas, size_t per, size_t pages, size_t records, size_t turn, size_t words,
                            uint32_t *tables, size_t tables_len, uint8_t *log, size_t log_len, uint32_t *out, size_t out_len,
@@ -165,19 +170,22 @@ uint32_t sogvect_estimate(size_t arenas, size_t per, size_t pages, size_t record
                           uint32_t *tables, size_t tables_len, uint8_t *log, size_t log_len, uint32_t *out, size_t out_len,
                           uint32_t n, size_t *count);
 
-/* Reads a log of any length, of no store or of one whose tables are lost. Result: the blocks that are held at its end, rising,
- * one number each: a log has no births. A store's own log has more bytes than it uses; number 9 of its tables says how many words are used.
- * Refusals: 2, 3 (out too short), 7. */
+/* Reads a log of any length, of no store or of one whose tables are lost. Only what stands up to the last whole word equal to 3, a barrier, counts: the
+ * bytes behind it, which the disk may not have finished, are not judged and record nothing, and without such a word nothing is held. Result: the blocks
+ * that are held there, rising, one number each: a log has no births.
+ * Pass the used words only: a store's own log has more bytes than it uses, and behind its last word the words of an earlier log may stand, barriers among
+ * them. Number 9 of the tables says how many words are used. A file that is cut anywhere behind the last sogvect_compress is read as it is.
+ * Refusals: 2, 3 (out too short), 7 (what counts is no log). */
 uint32_t sogvect_log_read(size_t arenas, size_t per, size_t pages, size_t records, size_t turn, size_t words,
                           const uint8_t *log, size_t log_len, uint32_t *out, size_t out_len, size_t *count);
 
-/* Compares two logs of any length: *alike becomes 1 where both hold the same blocks at their end, else 0. The two may overlap.
+/* Compares two logs of any length by every word: *alike becomes 1 where both hold the same blocks at their end, else 0. The two may overlap.
  * Refusals: 2, 7 (one of them is no log); *alike is then as it was. */
 uint32_t sogvect_log_compare(size_t arenas, size_t per, size_t pages, size_t records, size_t turn, size_t words,
                              const uint8_t *first, size_t first_len, const uint8_t *second, size_t second_len, uint32_t *alike);
 
-/* Writes a log of any length anew, as short as it can be, at the start of out, which must not overlap it; the bytes beyond stay. *count becomes how
- * many words it has. out holds at least SOGVECT_LOG_BYTES(words) bytes.
+/* Writes a log of any length anew, as short as it can be, at the start of out, which must not overlap it; the bytes beyond stay. Every word of it
+ * counts, and the new log ends with a barrier. *count becomes how many words it has. out holds at least SOGVECT_LOG_BYTES(words) bytes.
  * Refusals: 2, 3 (out too short), 7. */
 uint32_t sogvect_log_compact(size_t arenas, size_t per, size_t pages, size_t records, size_t turn, size_t words,
                              const uint8_t *log, size_t log_len, uint8_t *out, size_t out_len, size_t *count);

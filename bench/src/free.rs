@@ -1,4 +1,4 @@
-//! The free blocks as bits, with a bit for each word that has one.
+//! The blocks that may be given, as bits, with a bit for each word that has one.
 
 /// Words 32 to 63 are always 0, so that an index needs no test.
 pub struct Free {
@@ -11,7 +11,7 @@ impl Free {
         Free { words: [0; 64], some: 0 }
     }
 
-    /// All of n blocks are free.
+    /// All of n blocks may be given.
     pub fn fill(&mut self, n: usize) {
         for (k, word) in self.words[..32].iter_mut().enumerate() {
             *word = low_bits(n.saturating_sub(64 * k).min(64));
@@ -47,9 +47,9 @@ impl Free {
         64 * k + self.words[k & 63].trailing_zeros() as usize
     }
 
-    /// The first held block from `from` on, below `end`; `end` if there is none.
+    /// The first block from `from` on, below `end`, that is held or waits; `end` if there is none.
     #[inline(always)]
-    pub fn first_held(&self, from: usize, end: usize) -> usize {
+    pub fn first_kept(&self, from: usize, end: usize) -> usize {
         let mut k = from >> 6 & 63;
         let mut word = !self.words[k] & (u64::MAX << (from & 63));
         while word == 0 {

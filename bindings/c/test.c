@@ -66,6 +66,8 @@ static void every_call(void) {
     GIVES(sogvect_fork(STORE, 1, &count), 3);
     GIVES_NOTHING(sogvect_erase(STORE, 3, 4, &count));
     GIVES(sogvect_erase(STORE, 2, 4, &count), 2, 2);
+    /* 1 and 2 wait until the barrier */
+    GIVES(sogvect_free_list(STORE, &count), 4, 2);
     GIVES_NOTHING(sogvect_barrier(STORE, &count));
     GIVES(sogvect_free_list(STORE, &count), 1, 2, 4, 2);
     REFUSES(sogvect_estimate(STORE, 1, &count), SOGVECT_FORKED);
@@ -73,6 +75,7 @@ static void every_call(void) {
     GIVES_NOTHING(sogvect_delete(STORE, 3, &count));
     GIVES(sogvect_estimate(STORE, 1, &count), 1, 1, 1);
     GIVES(sogvect_delete(STORE, 1, &count), 0, 1);
+    GIVES(sogvect_free_list(STORE, &count), 1, 2, 4, 2);
     GIVES(sogvect_compress(STORE, &count), 2);
     GIVES(sogvect_free_list(STORE, &count), 0, 3, 4, 2);
 }
@@ -93,16 +96,23 @@ static void refusals(void) {
 
 static void logs(void) {
     const uint8_t none[] = {0, 0, 0, 0, 0, 0, 0, 3};
+    const uint8_t wrong[] = {0, 0, 0, 0, 0, 0, 0, 6, 0, 0, 0, 0, 0, 0, 0, 3};
     uint32_t alike = 9;
     GIVES(sogvect_log_read(SIX, logged, 8 * (size_t)tables[9], OUT, &count), 3);
+    /* cut in its barrier, and behind it */
+    GIVES_NOTHING(sogvect_log_read(SIX, logged, 8 * (size_t)tables[9] - 1, OUT, &count));
+    GIVES(sogvect_log_read(SIX, logged, 8 * (size_t)tables[9] + 1, OUT, &count), 3);
     GIVES_NOTHING(sogvect_log_read(SIX, none, 8, OUT, &count));
-    REFUSES(sogvect_log_read(SIX, none, 7, OUT, &count), SOGVECT_NO_LOG);
+    GIVES_NOTHING(sogvect_log_read(SIX, none, 7, OUT, &count));
+    GIVES_NOTHING(sogvect_log_read(SIX, wrong, 15, OUT, &count));
+    REFUSES(sogvect_log_read(SIX, wrong, 16, OUT, &count), SOGVECT_NO_LOG);
     EXPECT(sogvect_log_compare(SIX, none, 7, none, 8, &alike) == SOGVECT_NO_LOG && alike == 9);
     EXPECT(sogvect_log_compare(SIX, none, 0, none, 8, &alike) == SOGVECT_DONE && alike == 1);
     EXPECT(sogvect_log_compare(SIX, none, 8, logged, 8 * (size_t)tables[9], &alike) == SOGVECT_DONE && alike == 0);
     uint8_t anew[SOGVECT_LOG_BYTES(20)];
     count = 9;
     EXPECT(sogvect_log_compact(SIX, none, 0, anew, sizeof anew - 1, &count) == SOGVECT_TOO_SHORT && count == 9);
+    EXPECT(sogvect_log_compact(SIX, none, 7, anew, sizeof anew, &count) == SOGVECT_NO_LOG && count == 9);
     EXPECT(sogvect_log_compact(SIX, none, 0, anew, sizeof anew, &count) == SOGVECT_DONE && count == 1);
     EXPECT(memcmp(anew, none, sizeof none) == 0);
 }

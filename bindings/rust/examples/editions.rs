@@ -28,7 +28,9 @@ fn main() -> Result<(), Refusal> {
     println!("deleting the fork frees {}", spelled(store.delete(g, other)?));
     println!("deleting the first would do this: {:?}", store.estimate(g, first)?);
     println!("it frees {}", spelled(store.delete(g, first)?));
-    println!("free now: {:?}", store.free_list(g)?);
+    println!("free, but for what waits: {:?}", store.free_list(g)?);
+    store.barrier(g)?;
+    println!("free behind a barrier: {:?}", store.free_list(g)?);
     println!("the log has {} words", store.compress(g)?);
     let used = 8 * store.tables[9] as usize;
     println!("and holds {:?}", log_read(g, &store.log[..used], store.out)?);

@@ -6,6 +6,10 @@
 //! A store lives in memory that is lent with every call ([`Memory`]), for six numbers ([`Geometry`]). Nothing that is lent is trusted: a call checks tables and log in full
 //! and refuses what is not sound ([`Refusal`]), and a refused call changes nothing.
 //!
+//! A block that a call frees *waits*: it is given again, or listed as free, only once a [`Memory::barrier`] or a [`Memory::compress`] was done since.
+//! So a log that is cut behind its last compression reads ([`log_read`]) to the blocks held at the last whole barrier, and none of those was given to a
+//! write between that barrier and the cut.
+//!
 //! ```
 //! use sogvect::{Block, Geometry, Memory, Written, DATA};
 //!
@@ -68,7 +72,7 @@ impl Geometry {
 
     /// The least length of the tables.
     pub const fn tables_len(self) -> usize {
-        2048usize.saturating_add(self.records.saturating_mul(512)).saturating_add(self.blocks())
+        2048usize.saturating_add(self.records.saturating_mul(512)).saturating_add(self.blocks().saturating_mul(4))
     }
 
     /// The least length of the log.
@@ -100,7 +104,7 @@ pub struct Memory<'a> {
 pub struct Written {
     /// The block that is on the page now. Its birth is the number of the record.
     pub block: Block,
-    /// The block that was there before, if it is free now.
+    /// The block that was there before, if it was freed.
     pub freed: Option<Block>,
 }
 
@@ -175,7 +179,7 @@ impl Memory<'_> {
         Ok(Written { block: Block::of(&numbers[..2]), freed: numbers.get(2..4).map(Block::of) })
     }
 
-    /// Empties a page of open record `n`. Gives the block that was there, if it is free now.
+    /// Empties a page of open record `n`. Gives the block that was there, if it was freed.
     ///
     /// Refusals: 2, 3, 4, 5, 8, 9, 14.
     pub fn erase(&mut self, g: Geometry, n: u32, page: u32) -> Result<Option<Block>, Refusal> {
@@ -196,7 +200,7 @@ impl Memory<'_> {
         Ok(call!(sogvect_fork, self, g, n)?[0])
     }
 
-    /// Deletes record `n`, open or sealed. Gives the blocks that are free now, in the order in which they were freed.
+    /// Deletes record `n`, open or sealed. Gives the freed blocks, in the order in which they were freed.
     ///
     /// Refusals: 2, 3, 4, 8, 10, 14.
     pub fn delete(&mut self, g: Geometry, n: u32) -> Result<Vec<Block>, Refusal> {
@@ -210,21 +214,21 @@ impl Memory<'_> {
         Ok(call!(sogvect_read, self, g, n, page)?.get(..2).map(Block::of))
     }
 
-    /// Adds a barrier to the log.
+    /// Adds a barrier to the log; once it is done, no block waits.
     ///
     /// Refusals: 2, 3, 4, 14.
     pub fn barrier(&mut self, g: Geometry) -> Result<(), Refusal> {
         call!(sogvect_barrier, self, g).map(|_| ())
     }
 
-    /// Writes the log anew, as short as it can be. Gives the number of its words.
+    /// Writes the log anew, as short as it can be and with a barrier at its end; once it is done, no block waits. Gives the number of its words.
     ///
     /// Refusals: 2, 3, 4.
     pub fn compress(&mut self, g: Geometry) -> Result<u32, Refusal> {
         Ok(call!(sogvect_compress, self, g)?[0])
     }
 
-    /// Gives the free blocks as runs, rising: the first block and the length. No run crosses an arena's edge.
+    /// Gives the free blocks but for those that wait, as runs, rising: the first block and the length. No run crosses an arena's edge.
     ///
     /// Refusals: 2, 3, 4.
     pub fn free_list(&mut self, g: Geometry) -> Result<Vec<(u32, u32)>, Refusal> {
@@ -240,10 +244,12 @@ impl Memory<'_> {
     }
 }
 
-/// Reads a log of any length and gives the blocks that are held at its end, rising, in `out` (at least [`Geometry::out_len`] numbers). A log has no
-/// births.
+/// Reads a log of any length and gives the blocks that are held at its last barrier, rising, in `out` (at least [`Geometry::out_len`] numbers). A log
+/// has no births.
 ///
-/// The used part of a store's own log is the first `8 * tables[9]` bytes.
+/// Only what stands up to the last whole word equal to 3, a barrier, counts: the bytes behind it, which the disk may not have finished, are not judged
+/// and record nothing, and without such a word nothing is held. Pass the used part of a store's own log, the first `8 * tables[9]` bytes: behind it the
+/// words of an earlier log may stand, barriers among them.
 ///
 /// Refusals: 2, 3, 7.
 pub fn log_read<'a>(g: Geometry, log: &[u8], out: &'a mut [u32]) -> Result<&'a [u32], Refusal> {
@@ -253,7 +259,7 @@ pub fn log_read<'a>(g: Geometry, log: &[u8], out: &'a mut [u32]) -> Result<&'a [
     Refusal::check(code).map(|()| &out[..count])
 }
 
-/// Whether two logs of any length hold the same blocks at their end.
+/// Whether two logs of any length hold the same blocks at their end, by every word.
 ///
 /// Refusals: 2, 7.
 pub fn log_compare(g: Geometry, first: &[u8], second: &[u8]) -> Result<bool, Refusal> {
@@ -263,7 +269,8 @@ pub fn log_compare(g: Geometry, first: &[u8], second: &[u8]) -> Result<bool, Ref
     Refusal::check(code).map(|()| alike == 1)
 }
 
-/// Writes a log of any length anew, as short as it can be, at the start of `out` (at least [`Geometry::log_len`] bytes). Gives the bytes written.
+/// Writes a log of any length anew, as short as it can be, at the start of `out` (at least [`Geometry::log_len`] bytes). Every word of it counts, and
+/// the new log ends with a barrier. Gives the bytes written.
 ///
 /// Refusals: 2, 3, 7.
 pub fn log_compact<'a>(g: Geometry, log: &[u8], out: &'a mut [u8]) -> Result<&'a [u8], Refusal> {

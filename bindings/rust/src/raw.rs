@@ -42,11 +42,11 @@ calls! {
     sogvect_delete(n);
     /// The block on a page of record n, and its birth.
     sogvect_read(n, page);
-    /// A barrier in the log.
+    /// A barrier in the log; the waiting of blocks ends.
     sogvect_barrier();
-    /// The log anew, compressed.
+    /// The log anew, compressed; the waiting of blocks ends.
     sogvect_compress();
-    /// The free blocks as runs.
+    /// The free blocks that do not wait, as runs.
     sogvect_free_list();
     /// What the deletion of record n would do.
     sogvect_estimate(n);
@@ -69,7 +69,7 @@ extern "C" {
         out_len: usize,
     ) -> u32;
 
-    /// The blocks held at the end of a log, one number each.
+    /// The blocks held at the last barrier of a log, one number each.
     pub fn sogvect_log_read(
         arenas: usize,
         per: usize,
@@ -84,7 +84,7 @@ extern "C" {
         count: *mut usize,
     ) -> u32;
 
-    /// Whether two logs hold the same blocks at their end.
+    /// Whether two logs hold the same blocks at their end, by every word.
     pub fn sogvect_log_compare(
         arenas: usize,
         per: usize,
@@ -99,7 +99,7 @@ extern "C" {
         alike: *mut u32,
     ) -> u32;
 
-    /// A log written anew, compressed.
+    /// A log written anew, compressed, by every word.
     pub fn sogvect_log_compact(
         arenas: usize,
         per: usize,

@@ -30,7 +30,7 @@ impl Refusal {
     pub const TABLE_FULL: Refusal = Refusal(11);
     /// 12: no record number is left.
     pub const NO_NUMBER: Refusal = Refusal(12);
-    /// 13: no block is free.
+    /// 13: no free block: each is on a page or waiting for a barrier ([`crate::Memory::barrier`], [`crate::Memory::compress`]).
     pub const NO_BLOCK: Refusal = Refusal(13);
     /// 14: too few unused log words; [`crate::Memory::compress`] makes room.
     pub const LOG_FULL: Refusal = Refusal(14);
@@ -63,7 +63,7 @@ impl fmt::Display for Refusal {
             10 => "delete or estimate of a record with a fork on it",
             11 => "the record table is full",
             12 => "no record number is left",
-            13 => "no block is free",
+            13 => "no free block: each is on a page or waiting for a barrier",
             14 => "the log is too full: compressing makes room",
             number => return write!(f, "refused by {number}"),
         };

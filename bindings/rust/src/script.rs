@@ -4,7 +4,7 @@ use crate::{raw, Memory, Refusal};
 /// The numbers of a script's run.
 pub const SCRIPT_RUN: usize = 7;
 /// The least length of a script's tables.
-pub const SCRIPT_TABLES: usize = 36_864;
+pub const SCRIPT_TABLES: usize = 43_008;
 /// The least length of a script's log.
 pub const SCRIPT_LOG: usize = 65_536;
 /// The least length of a script's result buffer.

@@ -105,7 +105,7 @@ fn spelled(reply: Result<Vec<u32>, Refusal>, are_blocks: bool) -> String {
 
 /// Runs a script on memory for any geometry and compares each reply, and the log behind each line where it is given. Lines that are no call are passed over.
 fn script(text: &str, replies: &str, logs: Option<&str>) {
-    let (mut tables, mut log, mut out) = (vec![MARKS; 36_864], vec![MARK; 65_536], vec![MARKS; 4_160]);
+    let (mut tables, mut log, mut out) = (vec![MARKS; 43_008], vec![MARK; 65_536], vec![MARKS; 4_160]);
     let mut store = Memory { tables: &mut tables, log: &mut log, out: &mut out };
     let mut g = None;
     let mut logs = logs.map(str::lines);
@@ -120,7 +120,11 @@ fn script(text: &str, replies: &str, logs: Option<&str>) {
             assert_eq!(spelled(store.make(asked).map(|()| vec![]), false), reply, "line {i}: {line}");
             g = if reply == "+" { Some(asked) } else { g };
         } else {
-            let (g, call) = (g.expect("a store"), parsed(line).expect("a call"));
+            let call = parsed(line).expect("a call");
+            let Some(g) = g else {
+                assert_eq!(reply, "- 4", "line {i}: {line}: there is no store yet");
+                continue;
+            };
             assert_eq!(spelled(numbers(&mut store, g, call), call.gives_blocks()), reply, "line {i}: {line}");
         }
         made += 1;
@@ -230,10 +234,41 @@ fn own_numbers_whole() {
     refused(&mut m, SMALL, Call::W(2, 4, 1), 9);
     refused(&mut m, SMALL, Call::R(3, 0), 8);
     let mut s = m.lend();
-    assert_eq!(s.write(SMALL, 4, 3, 1), Ok(given(4, 4)));
-    assert_eq!(s.read(SMALL, 4, 3), Ok(Some(block(4, 4))));
+    // block 4 waits
+    assert_eq!(s.write(SMALL, 4, 3, 1), Ok(given(5, 4)));
+    assert_eq!(s.read(SMALL, 4, 3), Ok(Some(block(5, 4))));
     assert_eq!(s.read(SMALL, 4, 1), Ok(None));
-    assert_eq!(s.erase(SMALL, 4, 3), Ok(Some(block(4, 4))));
+    assert_eq!(s.erase(SMALL, 4, 3), Ok(Some(block(5, 4))));
+}
+
+/// A freed block waits: it is not given and not listed until a barrier or a compression is done, and a refused barrier ends nothing.
+#[test]
+fn waiting() {
+    let g = Geometry { arenas: 1, per: 3, pages: 2, records: 2, turn: 1, words: 8 };
+    let mut m = Owned::made(g);
+    let mut s = m.lend();
+    let again = |number: u32, old: u32| Ok(Written { block: block(number, 1), freed: Some(block(old, 1)) });
+    assert_eq!(s.begin(g), Ok(1));
+    assert_eq!(s.write(g, 1, 0, DATA), Ok(given(0, 1)));
+    assert_eq!(s.write(g, 1, 0, DATA), again(1, 0));
+    assert_eq!(s.free_list(g), Ok(vec![(2, 1)]));
+    assert_eq!(s.write(g, 1, 0, DATA), again(2, 1));
+    assert_eq!(s.free_list(g), Ok(vec![]));
+    assert_eq!(m.tables[11], 2);
+    // 13 with one block on a page and two that wait
+    refused(&mut m, g, Call::W(1, 0, 0), 13);
+    let mut s = m.lend();
+    assert_eq!(s.barrier(g), Ok(()));
+    assert_eq!(s.free_list(g), Ok(vec![(0, 2)]));
+    assert_eq!(s.write(g, 1, 0, DATA), again(0, 2));
+    // the log is full: the barrier is refused, and block 2 waits as before
+    refused(&mut m, g, Call::Y, 14);
+    assert_eq!(m.tables[11], 1);
+    let mut s = m.lend();
+    assert_eq!(s.free_list(g), Ok(vec![(1, 1)]));
+    assert_eq!(s.compress(g), Ok(2));
+    assert_eq!(s.free_list(g), Ok(vec![(1, 2)]));
+    assert_eq!(m.tables[11], 0);
 }
 
 /// The count is written whole, and nothing beside it; the result buffer beyond the result stays.

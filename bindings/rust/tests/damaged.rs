@@ -5,6 +5,9 @@ mod damaged;
 #[path = "../../../tests/reference/src/layout.rs"]
 #[allow(dead_code)]
 mod layout;
+#[path = "../../../tests/reference/src/log.rs"]
+#[allow(dead_code)]
+mod log;
 #[path = "../../../tests/reference/src/store.rs"]
 #[allow(dead_code)]
 mod store;

@@ -9,8 +9,13 @@ fn bytes(words: &[u64]) -> Vec<u8> {
     words.iter().flat_map(|w| w.to_be_bytes()).collect()
 }
 
+fn read(log: &[u8]) -> Result<Vec<u32>, Refusal> {
+    log_read(SMALL, log, &mut vec![0; SMALL.out_len()]).map(<[u32]>::to_vec)
+}
+
+/// What words give with a barrier behind them, so that they count.
 fn held(words: &[u64]) -> Result<Vec<u32>, Refusal> {
-    log_read(SMALL, &bytes(words), &mut vec![0; SMALL.out_len()]).map(<[u32]>::to_vec)
+    read(&bytes(&[words, &[3]].concat()))
 }
 
 #[test]
@@ -22,6 +27,45 @@ fn good() {
     assert_eq!(held(&[4, BLOCK * 3]), Ok(vec![0, 1, 2]));
     assert_eq!(held(&[4, BLOCK * 3, BLOCK + 2]), Ok(vec![0, 2]));
     assert_eq!(held(&[BLOCK * 3 + 4, BLOCK * 3, BLOCK * 4 + 5, BLOCK * 2]), Ok(vec![3]));
+}
+
+/// What stands up to the last whole word equal to 3 counts; what is behind it is not judged and records nothing.
+#[test]
+fn settled() {
+    assert_eq!(read(&bytes(&[1])), Ok(vec![]));
+    assert_eq!(read(&bytes(&[1, 1])), Ok(vec![]));
+    assert_eq!(read(&bytes(&[1, 3, BLOCK * 4 + 1])), Ok(vec![0]));
+    assert_eq!(read(&bytes(&[1, 3, 2])), Ok(vec![0]));
+    assert_eq!(read(&bytes(&[1, 3, 1, 6, u64::MAX])), Ok(vec![0]));
+    assert_eq!(read(&bytes(&[1, 3, BLOCK + 1, 3, 4])), Ok(vec![0, 1]));
+    // a word equal to 3 in the place of a run's length is the last barrier, and the part before it no log
+    assert_eq!(read(&bytes(&[1, 3, BLOCK + 4, 3])), Err(Refusal::NO_LOG));
+    assert_eq!(read(&bytes(&[1, 3, BLOCK + 4, 3, 3])), Err(Refusal::NO_LOG));
+    assert_eq!(read(&bytes(&[1, 3, BLOCK + 3])), Ok(vec![0]));
+    let mut tail = bytes(&[1, 3]);
+    for byte in [0, 0, 0, 0, 0, 0, 0] {
+        tail.push(byte);
+        assert_eq!(read(&tail), Ok(vec![0]));
+    }
+    // the same seven bytes in front: no whole word is 3
+    assert_eq!(read(&[&[0; 7][..], &bytes(&[1, 3])].concat()), Ok(vec![]));
+}
+
+/// Comparing and compressing read every word.
+#[test]
+fn every_word() {
+    let tail = bytes(&[1, 3, 1]);
+    let mut out = vec![MARK; SMALL.log_len()];
+    assert_eq!(read(&tail), Ok(vec![0]));
+    assert_eq!(log_compare(SMALL, &tail, &tail), Err(Refusal::NO_LOG));
+    assert_eq!(log_compact(SMALL, &tail, &mut out), Err(Refusal::NO_LOG));
+    let open = bytes(&[1, 3, BLOCK + 1]);
+    assert_eq!(log_compare(SMALL, &open, &bytes(&[1])), Ok(false));
+    assert_eq!(log_compare(SMALL, &open, &bytes(&[1, BLOCK + 1])), Ok(true));
+    assert_eq!(log_compact(SMALL, &open, &mut out), Ok(&bytes(&[4, BLOCK * 2, 3])[..]));
+    let anew = log_compact(SMALL, &bytes(&[BLOCK + 1]), &mut out).map(<[u8]>::to_vec);
+    assert_eq!(anew, Ok(bytes(&[BLOCK + 1, 3])));
+    assert_eq!(read(&anew.unwrap()), Ok(vec![1]));
 }
 
 #[test]
@@ -44,6 +88,7 @@ fn bad() {
         &[5, BLOCK],
     ] {
         assert_eq!(held(words), Err(Refusal::NO_LOG), "{words:x?}");
+        assert_eq!(read(&bytes(words)), Ok(vec![]), "{words:x?}");
         let (first, second) = (bytes(words), bytes(&[3]));
         assert_eq!(log_compare(SMALL, &first, &second), Err(Refusal::NO_LOG), "{words:x?}");
         assert_eq!(log_compare(SMALL, &second, &first), Err(Refusal::NO_LOG), "{words:x?}");
@@ -56,16 +101,10 @@ fn bad() {
 #[test]
 fn odd_lengths() {
     let log = bytes(&[1, 3, 3]);
-    let mut out = vec![0; SMALL.out_len()];
     for n in 0..=24 {
-        let expected = match n {
-            0 => Ok(&[][..]),
-            8 | 16 | 24 => Ok(&[0][..]),
-            _ => Err(Refusal::NO_LOG),
-        };
-        assert_eq!(log_read(SMALL, &log[..n], &mut out), expected, "{n} bytes");
-        let alike = log_compare(SMALL, &log[..n], &log);
-        assert_eq!(alike, expected.map(|blocks| !blocks.is_empty()), "{n} bytes");
+        assert_eq!(read(&log[..n]), Ok(if n < 16 { vec![] } else { vec![0] }), "{n} bytes");
+        let alike = if n % 8 > 0 { Err(Refusal::NO_LOG) } else { Ok(n > 0) };
+        assert_eq!(log_compare(SMALL, &log[..n], &log), alike, "{n} bytes");
     }
 }
 
@@ -79,10 +118,13 @@ fn compared() {
     assert_eq!(alike(&[1, 2], &[]), Ok(true));
 }
 
-/// A store's own log reads to its held blocks, before and behind a compression, and the two are alike.
+/// A store's own log, with a barrier at its end, reads to its held blocks, before and behind a compression, and the two are alike.
 #[test]
 fn own_log() {
     let mut m = small();
+    // block 4 is held at the last barrier that there is
+    assert_eq!(read(m.used()), Ok(vec![0, 1, 2, 3, 4]));
+    numbers(&mut m.lend(), SMALL, Call::Y).unwrap();
     let old = m.used().to_vec();
     let mut out = vec![0; SMALL.out_len()];
     let list = m.lend().free_list(SMALL).unwrap();
@@ -98,7 +140,7 @@ fn own_log() {
 /// The six numbers are checked, each in its place, and the result buffer's length.
 #[test]
 fn geometry_and_buffer() {
-    let log = bytes(&[BLOCK * 5 + 1]);
+    let log = bytes(&[BLOCK * 5 + 1, 3]);
     let mut out = vec![MARKS; SMALL.out_len()];
     let short = SMALL.out_len() - 1;
     assert_eq!(log_read(SMALL, &log, &mut out[..short]), Err(Refusal::TOO_SHORT));
@@ -126,7 +168,7 @@ fn geometry_and_buffer() {
         assert_eq!(log_compare(g, &log, &log).is_ok(), inside, "{g:?}");
     }
     let other = Geometry { arenas: 3, per: 2, ..SMALL };
-    let run = bytes(&[4, BLOCK * 3]);
+    let run = bytes(&[4, BLOCK * 3, 3]);
     assert!(log_read(SMALL, &run, &mut out).is_ok());
     assert_eq!(log_read(other, &run, &mut out), Err(Refusal::NO_LOG));
 }
@@ -171,7 +213,7 @@ fn what_is_written() {
             )
         }
     };
-    let (good, bad) = (bytes(&[BLOCK * 3 + 1, BLOCK * 4 + 1]), bytes(&[1, 1]));
+    let (good, bad) = (bytes(&[BLOCK * 3 + 1, BLOCK * 4 + 1, 3]), bytes(&[1, 1, 3]));
     let (mut out, mut counts, mut alike) = (vec![MARKS; SMALL.out_len()], [usize::MAX; 3], [MARKS; 3]);
     assert_eq!(read(&bad, &mut out, &mut counts), 7);
     assert_eq!(compare(&good, &bad, &mut alike), 7);
@@ -186,23 +228,47 @@ fn what_is_written() {
     assert_eq!(alike, [MARKS, 1, MARKS]);
 }
 
-/// Random bytes are no log, but for the rare ones that both functions take.
+/// Random bytes are no log, but for the rare ones that a comparison takes. Reading them gives nothing, since no word is 3.
 #[test]
 fn random_bytes() {
     let mut refusals = 0;
     for seed in 0..500 {
         let mut r = Random::new(seed);
-        let mut m = Owned::least(SMALL);
         let log: Vec<u8> = (0..r.below(40)).map(|_| r.below(6) as u8).collect();
-        m.out.fill(MARKS);
-        let read = log_read(SMALL, &log, &mut m.out).map(<[u32]>::to_vec);
-        assert_eq!(log_compare(SMALL, &log, &log), read.as_ref().map(|_| true).map_err(|e| *e));
-        if read == Err(Refusal::NO_LOG) {
-            assert!(m.out.iter().all(|x| *x == MARKS));
-            refusals += 1;
-        }
+        assert_eq!(read(&log), Ok(vec![]));
+        refusals += (log_compare(SMALL, &log, &log) == Err(Refusal::NO_LOG)) as u32;
     }
     assert!(refusals > 400, "only {refusals} were refused");
+}
+
+/// Random words, barriers among them, and a few bytes behind: reading takes what a comparison takes of the part up to the last barrier, and gives what
+/// its compressed log gives.
+#[test]
+fn random_words() {
+    let (mut taken, mut refusals) = (0, 0);
+    for seed in 0..2_000 {
+        let mut r = Random::new(seed);
+        let words: Vec<u64> = (0..r.below(8)).map(|_| [3, 1, BLOCK + 1, 2, BLOCK + 2, BLOCK * 3 + 4, BLOCK * 2, 7][r.below(8) as usize]).collect();
+        let counted = words.iter().rposition(|&w| w == 3).map_or(0, |at| 8 * (at + 1));
+        let log: Vec<u8> = bytes(&words).into_iter().chain((0..r.below(8)).map(|_| 0)).collect();
+        let part = &log[..counted];
+        let mut m = Owned::least(SMALL);
+        m.out.fill(MARKS);
+        let given = log_read(SMALL, &log, &mut m.out).map(<[u32]>::to_vec);
+        assert_eq!(given.as_ref().err(), log_compare(SMALL, part, part).as_ref().err(), "{words:x?}");
+        match given {
+            Ok(blocks) => {
+                let anew = log_compact(SMALL, part, &mut m.log).unwrap();
+                assert_eq!(read(anew), Ok(blocks), "{words:x?}");
+                taken += 1;
+            }
+            Err(_) => {
+                assert!(m.out.iter().all(|x| *x == MARKS));
+                refusals += 1;
+            }
+        }
+    }
+    assert!(taken > 400 && refusals > 400, "{taken} taken, {refusals} refused");
 }
 
 #[test]

@@ -37,7 +37,7 @@ fn empty() {
 #[test]
 fn limits() {
     let inside = Geometry { arenas: 2, per: 3, pages: 5, records: 4, turn: 7, words: 20 };
-    let mut m = Owned { tables: vec![7; 36_864], log: vec![7; 65_536], out: vec![7; 4_160] };
+    let mut m = Owned { tables: vec![7; 43_008], log: vec![7; 65_536], out: vec![7; 4_160] };
     let with = |change: fn(&mut Geometry, usize), x: usize| {
         let mut g = inside;
         change(&mut g, x);
@@ -79,15 +79,19 @@ fn limits() {
 fn spare(at: usize) -> bool {
     let births = 2048 + 512 * SMALL.records;
     match at {
-        0..64 => (10..16).contains(&at) || at >= 16 + SMALL.arenas,
+        0..64 => at != WAITING && (10..16).contains(&at) || at >= 16 + SMALL.arenas,
         64..128 => false,
         192..512 => at % 64 >= SMALL.records,
         128..2048 => true,
         // rows of pages and of deadlists; a deadlist has no more blocks than a record has pages
         _ if at < births => at % 256 >= SMALL.pages,
-        _ => false,
+        // births, two spare numbers for each block, the waiting list
+        _ => (births + SMALL.blocks()..births + 3 * SMALL.blocks()).contains(&at),
     }
 }
+
+/// The number that says how many blocks wait.
+const WAITING: usize = 11;
 
 /// What every call answers on a copy of the memory. Refused ones change nothing, accepted ones leave a sound store.
 fn answers(m: &Owned) -> Vec<Result<Vec<u32>, Refusal>> {

@@ -20,7 +20,7 @@ use Rattle.model.specs.Effects.{unlinked, youngAt, pruned}
 use Rattle.model.specs.Actions.{slotOf, follower, forked, doD, Asks, deleteAt, delete}
 use Rattle.model.specs.Held.{heldCount, deleted, frees}
 use Rattle.model.specs.Results.{paired}
-use Rattle.model.specs.State.{State, withView, withUsed}
+use Rattle.model.specs.State.{State, withView, withUsed, freeAll}
 use Rattle.model.specs.Calls.{slot, short, conditions, result, written, acted, effect}
 use Rattle.model.specs.Layout.{viewOf, stateOf, headerNumber, stored}
 use Rattle.model.specs.declared.Call.the-variants.{Delete}
@@ -42,6 +42,7 @@ use Rattle.deleting.specs.declared.delete.Verdict.the-variants.{Accept}
 use Rattle.deleting.proofs.Pairing.{firsts, take-paired, firsts-paired}
 use Rattle.deleting.proofs.Parting.{unlinked-short}
 use Rattle.deleting.proofs.Logging.{freed, map-length}
+use Rattle.deleting.proofs.Leaving.{deleted-fit}
 use Rattle.deleting.proofs.Verdicts.{ready-fine, acceptance}
 
 -- ── how many blocks a last record frees ──
@@ -178,40 +179,47 @@ module _ (g : Geometry) (t : List ℕ) (R : Ready g t) (r : ℕ) (v : Verdict) (
       decide-accepts (conditions g T (Delete r)) (result g T (Delete r)) (told .0, (told .1, (told .2, tt))) ∙ ap accepted result-is
 
   -- the tables when the record is deleted
-  module _ (t₁ : List ℕ) (e₁ : t₁ ≡ stored g (withView (stateOf g t) (deleteAt (viewOf g t) s f)) t) where
+  module _ (t₁ : List ℕ) (e₁ : t₁ ≡ stored g (freeAll (deleted (viewOf g t) s f) (withView (stateOf g t) (deleteAt (viewOf g t) s f))) t) where
+    -- what the tables say, when the view is L
+    abbrev left : View → State
+    left L = freeAll (deleted (viewOf g t) s f) (withView (stateOf g t) L)
+
     pub accept-used : getD t₁ 9 0 ≡ stateOf g t .used
     unfolding headerNumber
-    accept-used = ap (λ u. getD u 9 0) e₁ ∙ stored-header g (withView T (deleteAt K s f)) t (R .roomy .room) 9 (omega arith)
+    accept-used = ap (λ u. getD u 9 0) e₁ ∙ stored-header g (left (deleteAt K s f)) t (R .roomy .room) 9 (omega arith)
 
     pub accept-length : length t₁ ≡ length t
-    accept-length = ap length e₁ ∙ stored-length g (withView T (deleteAt K s f)) t
+    accept-length = ap length e₁ ∙ stored-length g (left (deleteAt K s f)) t
 
     view-is : deleteAt K s f ≡ delete K s
     unfolding delete
     view-is = ap (deleteAt K s) (sym accept-follows)
 
-    held : Holds g t (withView T (delete K s)) t₁
+    held : Holds g t (left (delete K s)) t₁
     unfolding stateOf
     held =
         let S = holds-first R .shaped in
         let z = done-sized K (doD s) in record {
-          is = e₁ ∙ ap (λ L. stored g (withView T L) t) view-is;
+          is = e₁ ∙ ap (λ L. stored g (left L) t) view-is;
           shaped = record {
             view = done-shaped K (doD s) (Ranges.sound R) accept-asks (S .view);
             slots = z .slots ∙ S .slots;
             pages = z .pages ∙ S .pages;
             blocks = z .blocks ∙ S .blocks;
             mark = S .mark;
+            few = omega (arith, deleted-fit R s accept-asks f accept-follows, z .blocks ∙ S .blocks);
           };
         }
 
     -- n blocks are freed, and out₁ lists them with their births
     module _ (n : ℕ) (en : n ≡ length (deleted (viewOf g t) s f)) where
-      acted-is : withUsed (withView T (delete K s)) (T .used + n) ≡ effect g T (Delete r)
+      acted-is : withUsed (left (delete K s)) (T .used + n) ≡ effect g T (Delete r)
       unfolding acted stateOf
       acted-is =
-          ap (λ m. withUsed (withView T (delete K s)) (T .used + m)) (en ∙ sym words-are) ∙
-          ap (λ z. withUsed (withView T (delete K z)) (T .used + length (written g T (Delete r)))) (sym (told .3))
+          let m : ℕ = T .used + length (written g T (Delete r)) in
+          ap (λ m. withUsed (left (delete K s)) (T .used + m)) (en ∙ sym words-are) ∙
+          ap (λ l. freeAll l (withUsed (withView T (delete K s)) m)) (sym frees-are) ∙
+          ap (λ z. freeAll (frees (T .view) (doD (slot T r))) (withUsed (withView T (delete K z)) m)) (sym (told .3))
 
       pub accept-tables : set t₁ 9 (getD t₁ 9 0 + n) ≡ tablesLeft g t (Delete r)
       unfolding tablesLeft

@@ -1,29 +1,33 @@
 -- The record in slot s leaves the store: its blocks are freed, its deadlist is dropped, its number is 0.
 use mathlib.Core.Path.{_≡_, refl, sym, ap, ap₂, _∙_}
 use mathlib.Core.Logic.{inl, inr}
-use mathlib.Core.List.{List, [], _∷_, _++_}
-use Prim.Native.Nat.{ℕ, zero, suc, _+_, _*_, _/_, _%_, _^_, _≤_, _<_}
+use mathlib.Core.List.{List, [], _∷_, _++_, append-nil, append-assoc}
+use Prim.Native.Nat.{ℕ, zero, suc, _+_, _*_, _≤_, _<_}
 use native.Mathlib.Omega.{arith}
-use lib.Bits.{bitOr}
-use lib.ListN.{length, getD, set, take, length-set}
-use lib.Seq.{sets, length-sets}
+use lib.ListN.{length, getD, set, take, length-set, length-append}
+use lib.Seq.{sets, length-sets, getD-set-same}
 use Rattle.geometry.specs.declared.Geometry.{Geometry}
 use Rattle.geometry.specs.Limits.{blocks}
-use Rattle.model.specs.Lists.{In, cleared}
+use Rattle.model.specs.Lists.{In, Once, cleared}
 use Rattle.model.specs.View.{View}
-use Rattle.model.specs.State.{State, withView}
+use Rattle.model.specs.State.{State, withView, withWaiting, freeAll}
 use Rattle.model.specs.Actions.{doD, Asks, follower, deleteAt}
+use Rattle.model.specs.Calls.{acted}
 use Rattle.model.specs.Held.{deleted}
 use Rattle.model.specs.Results.{paired, blocksIn}
-use Rattle.model.specs.Layout.{numCell, lengthCell, freeCell, birthCell, viewOf, stateOf, stored}
+use Rattle.model.specs.Layout.{numCell, lengthCell, birthCell, waitCell, viewOf, stateOf, stored}
 use Rattle.model.proofs.TabFacts.{put-other}
-use Rattle.model.proofs.HeldFacts.{deleted-held}
+use Rattle.model.proofs.HeldFacts.{deleted-held, deleted-once}
 use Rattle.model.proofs.ResultFacts.{paired-length}
+use Rattle.model.proofs.Sizes.{done-sized}
+use Rattle.model.proofs.Waiting.{once-short, acted-waits}
 use Rattle.model.proofs.Shape.{Shaped}
 use Rattle.tables.specs.Ready.{Roomy, Ready}
 use Rattle.tables.specs.Births.{freed}
-use Rattle.tables.specs.Puts.{withNum, withPrev, withList, withBirth, withBirths}
+use Rattle.tables.specs.Puts.{withNum, withPrev, withList, withFreed, withBirths}
+use Rattle.tables.proofs.Fields
 use Rattle.tables.proofs.Ranges
+use Rattle.tables.proofs.Freeing.{waiting-length}
 use Rattle.tables.proofs.Matches.{unlink-is, prune-is}
 use Rattle.tables.proofs.Steps.{Holds, holds-as, holds-first, holds-length, holds-says, step-freed, step-num}
 use Rattle.tables.proofs.Lists.{step-dropped, rest-said}
@@ -38,32 +42,52 @@ roomy-as e r = record { inside = r .inside; room = omega (arith, r .room) }
 
 -- ── blocks are freed one after another ──
 
-pub freed-length : (R : ℕ) (t : List ℕ) (b : ℕ) → length (freed R t b) ≡ length t
+pub freed-length : (R N : ℕ) (t : List ℕ) (b : ℕ) → length (freed R N t b) ≡ length t
 unfolding freed
-freed-length R t b =
-    length-set (set t (birthCell R b) 0) (freeCell (b / 32)) (bitOr (getD t (freeCell (b / 32)) 0) (2 ^ (b % 32))) ∙ length-set t (birthCell R b) 0
+freed-length R N t b =
+    let n : ℕ = getD t 11 0 in
+    let x : List ℕ = set t (birthCell R b) 0 in
+    length-set (set x (waitCell R N n) b) 11 (n + 1) ∙ length-set x (waitCell R N n) b ∙ length-set t (birthCell R b) 0
 
-pub freed-none : (R : ℕ) (t out : List ℕ) → t ≡ freedAll R t (firsts 0 out)
+-- one more waits
+freed-count : (R N : ℕ) (t : List ℕ) (b : ℕ) → 11 < length t → getD (freed R N t b) 11 0 ≡ getD t 11 0 + 1
+unfolding freed
+freed-count R N t b h =
+    let n : ℕ = getD t 11 0 in
+    let x : List ℕ = set t (birthCell R b) 0 in
+    getD-set-same (set x (waitCell R N n) b) 11 (n + 1) 0 (omega (arith, length-set x (waitCell R N n) b, length-set t (birthCell R b) 0))
+
+pub count-turn : (R N : ℕ) (t t₁ : List ℕ) (i b k : ℕ) → 11 < length t → getD t 11 0 ≡ k + i → t₁ ≡ freed R N t b → getD t₁ 11 0 ≡ k + (i + 1)
+count-turn R N t t₁ i b k h e d = omega (arith, ap (λ (u : List ℕ). getD u 11 0) d, freed-count R N t b h)
+
+pub freed-none : (R N : ℕ) (t out : List ℕ) → t ≡ freedAll R N t (firsts 0 out)
 unfolding freedAll blocksIn
-freed-none R t out = refl
+freed-none R N t out = refl
 
-freed-snoc : (R : ℕ) (l t : List ℕ) (b : ℕ) → freed R (freedAll R t l) b ≡ freedAll R t (l ++ (b ∷ []))
+freed-snoc : (R N : ℕ) (l t : List ℕ) (b : ℕ) → freed R N (freedAll R N t l) b ≡ freedAll R N t (l ++ (b ∷ []))
 unfolding freedAll
-freed-snoc R [] t b = refl
-freed-snoc R (c ∷ l) t b = freed-snoc R l (freed R t c) b
+freed-snoc R N [] t b = refl
+freed-snoc R N (c ∷ l) t b = freed-snoc R N l (freed R N t c) b
 
-pub freed-turn : (R : ℕ) (t₀ t t₁ out : List ℕ) (i b : ℕ) → 2 * i + 1 < length out → t ≡ freedAll R t₀ (firsts i out) → b ≡ getD out (2 * i) 0 →
-    t₁ ≡ freed R t b → t₁ ≡ freedAll R t₀ (firsts (i + 1) out)
-freed-turn R t₀ t t₁ out i b h e eb d =
-    d ∙ ap (λ (u : List ℕ). freed R u b) e ∙ freed-snoc R (firsts i out) t₀ b ∙ ap (λ c. freedAll R t₀ (firsts i out ++ (c ∷ []))) eb ∙
-    ap (freedAll R t₀) (sym (firsts-next out i h))
+pub freed-turn : (R N : ℕ) (t₀ t t₁ out : List ℕ) (i b : ℕ) → 2 * i + 1 < length out → t ≡ freedAll R N t₀ (firsts i out) → b ≡ getD out (2 * i) 0 →
+    t₁ ≡ freed R N t b → t₁ ≡ freedAll R N t₀ (firsts (i + 1) out)
+freed-turn R N t₀ t t₁ out i b h e eb d =
+    d ∙ ap (λ (u : List ℕ). freed R N u b) e ∙ freed-snoc R N (firsts i out) t₀ b ∙ ap (λ c. freedAll R N t₀ (firsts i out ++ (c ∷ []))) eb ∙
+    ap (freedAll R N t₀) (sym (firsts-next out i h))
 
--- the births of a list of blocks end
-step-all : (g : Geometry) (t₀ : List ℕ) → Roomy g t₀ → (l : List ℕ) {T : State} {t : List ℕ} → Holds g t₀ T t → ((b : ℕ) → In b l → b < blocks g) →
-    Holds g t₀ (withBirths T (cleared (T .view .birth) l)) (freedAll (g .records) t l)
-unfolding freedAll cleared withBirths withBirth
-step-all g t₀ roomy [] H h = H
-step-all g t₀ roomy (b ∷ l) H h = step-all g t₀ roomy l (step-freed g t₀ roomy H b (h b (inl refl))) (λ c i. h c (inr i))
+-- the births of a list of blocks end, and they wait in its order: none is twice in it, each has a birth, and there is room for them
+step-all : (g : Geometry) (t₀ : List ℕ) → Roomy g t₀ → (l : List ℕ) {T : State} {t : List ℕ} → Holds g t₀ T t → Once l →
+    ((b : ℕ) → In b l → b < blocks g) → ((b : ℕ) → In b l → 0 < T .view .birth b) → length (T .waiting) + length l ≤ blocks g →
+    Holds g t₀ (freeAll l (withBirths T (cleared (T .view .birth) l))) (freedAll (g .records) (blocks g) t l)
+unfolding freedAll cleared withBirths withFreed
+step-all g t₀ roomy [] {T} H o h born few = holds-as g t₀ refl (ap (withWaiting T) (sym (append-nil (T .waiting)))) H
+step-all g t₀ roomy (b ∷ l) {T} H o h born few =
+    let f : ℕ → ℕ = T .view .birth in
+    holds-as g t₀ refl (ap (withWaiting (withBirths T (cleared f (b ∷ l)))) (append-assoc (T .waiting) (b ∷ []) l))
+    (step-all g t₀ roomy l (step-freed g t₀ roomy H b (h b (inl refl)) (born b (inl refl)) (omega arith)) (o .1)
+    (λ c i. h c (inr i))
+    (λ c i. omega (arith, put-other f b 0 c (λ e. o .0 c i (sym e)), born c (inr i)))
+    (omega (arith, length-append (T .waiting) (b ∷ []))))
 
 -- ── the record leaves ──
 
@@ -92,10 +116,32 @@ module _ {g : Geometry} {t₀ : List ℕ} (R : Ready g t₀) (s : ℕ) (asks : A
   unhooked-births zero = refl
   unhooked-births (suc n) = refl
 
-  left-is : (f : ℕ) → withNum (withList (withBirths (unhooked T s f) (cleared (K .birth) (deleted K s f))) s []) s 0 ≡ withView T (deleteAt K s f)
+  unhooked-waiting : (f : ℕ) → unhooked T s f .waiting ≡ T .waiting
+  unfolding unhooked bypassed withPrev withList
+  unhooked-waiting zero = refl
+  unhooked-waiting (suc n) = refl
+
+  view-left : (f : ℕ) → withNum (withList (withBirths (unhooked T s f) (cleared (K .birth) (deleted K s f))) s []) s 0 ≡ withView T (deleteAt K s f)
   unfolding unhooked bypassed deleted deleteAt stateOf
-  left-is zero = prune-is T s
-  left-is (suc n) = unlink-is T s n
+  view-left zero = prune-is T s
+  view-left (suc n) = unlink-is T s n
+
+  left-is : (f : ℕ) → withNum (withList (freeAll (deleted K s f) (withBirths (unhooked T s f) (cleared (K .birth) (deleted K s f)))) s []) s 0
+      ≡ freeAll (deleted K s f) (withView T (deleteAt K s f))
+  unfolding withNum withList
+  left-is f = ap (freeAll (deleted K s f)) (view-left f)
+
+  -- there is room for what is freed among those that wait
+  pub deleted-fit : (f : ℕ) → follower (viewOf g t₀) s ≡ f → length (stateOf g t₀ .waiting ++ deleted (viewOf g t₀) s f) ≤ blocks g
+  unfolding acted stateOf
+  deleted-fit f e =
+      let w = acted-waits T (doD s) (Ranges.sound R) asks (R .waiting) (λ c i. absurd i) 0 in
+      let z = done-sized K (doD s) .blocks ∙ Fields.blocks-is g t₀ in
+      omega (
+        arith,
+        once-short (T .waiting ++ deleted K s (follower K s)) (blocks g) (w .once) (λ b i. omega (arith, w .below b i, z)),
+        ap (λ m. length (T .waiting ++ deleted K s m)) e,
+      )
 
   module _ (f : ℕ) (follows : follower (viewOf g t₀) s ≡ f) (t₁ : List ℕ) (e₁ : t₁ ≡ stored g (unhooked (stateOf g t₀) s f) t₀) where
     first : Holds g t₀ (unhooked T s f) t₁
@@ -103,6 +149,9 @@ module _ {g : Geometry} {t₀ : List ℕ} (R : Ready g t₀) (s : ℕ) (asks : A
 
     blocks-in : (b : ℕ) → In b (deleted K s f) → b < blocks g
     blocks-in b i = Ranges.held-in R b (deleted-held K s f (Ranges.sound R) (asks .0) b i)
+
+    fit : length (unhooked T s f .waiting) + length (deleted K s f) ≤ blocks g
+    fit = omega (arith, deleted-fit f follows, length-append (T .waiting) (deleted K s f), ap length (unhooked-waiting f))
 
     pub leave-roomy : Roomy g t₁
     leave-roomy = roomy-as (holds-length g t₀ (R .roomy) first) (R .roomy)
@@ -126,6 +175,11 @@ module _ {g : Geometry} {t₀ : List ℕ} (R : Ready g t₀) (s : ℕ) (asks : A
       below : (k : ℕ) → k < count → getD F k 0 < blocks g
       below k h = blocks-in (getD F k 0) (Ranges.in-getD F k (omega arith))
 
+      -- there is room for them among those that wait
+      pub leave-fit : getD t₁ 11 0 + count ≤ blocks g
+      leave-fit =
+          omega (arith, fit, waiting-length g t₁, ap (λ U. length (U .waiting)) (holds-says g t₀ (R .roomy) first))
+
       pub leave-below : (k : ℕ) → k < count → getD o₁ k 0 < blocks g
       leave-below k h =
           let e : getD o₁ k 0 ≡ getD F k 0 = ap (λ (u : List ℕ). getD u k 0) eo ∙ get-first F o₀ k (omega arith) (omega arith) in
@@ -146,9 +200,9 @@ module _ {g : Geometry} {t₀ : List ℕ} (R : Ready g t₀) (s : ℕ) (asks : A
             let e : getD o₂ (2 * k) 0 ≡ getD F k 0 = ap (λ (u : List ℕ). getD u (2 * k) 0) leave-out ∙ get-paired (K .birth) o₀ F room k (omega arith) in
             rw e (below k h)
 
-        module _ (t₂ : List ℕ) (e₂ : t₂ ≡ freedAll (g .records) t₁ (firsts count o₂)) where
+        module _ (t₂ : List ℕ) (e₂ : t₂ ≡ freedAll (g .records) (blocks g) t₁ (firsts count o₂)) where
           U : State
-          U = withBirths (unhooked T s f) (cleared (K .birth) F)
+          U = freeAll F (withBirths (unhooked T s f) (cleared (K .birth) F))
 
           blocks-are : firsts count o₂ ≡ F
           blocks-are = ap (firsts count) leave-out ∙ firsts-paired (K .birth) o₀ F room count ec
@@ -156,14 +210,18 @@ module _ {g : Geometry} {t₀ : List ℕ} (R : Ready g t₀) (s : ℕ) (asks : A
           freed-held : Holds g t₀ U t₂
           unfolding U stateOf
           freed-held =
-              holds-as g t₀ (e₂ ∙ ap (freedAll (g .records) t₁) blocks-are) (ap (λ (h : ℕ → ℕ). withBirths (unhooked T s f) (cleared h F)) (unhooked-births f))
-              (step-all g t₀ (R .roomy) F first blocks-in)
+              holds-as g t₀ (e₂ ∙ ap (freedAll (g .records) (blocks g) t₁) blocks-are)
+              (ap (λ (h : ℕ → ℕ). freeAll F (withBirths (unhooked T s f) (cleared h F))) (unhooked-births f))
+              (step-all g t₀ (R .roomy) F first (deleted-once K s f (Ranges.sound R) (asks .0)) blocks-in
+              (λ b i. omega (arith, ap (λ (h : ℕ → ℕ). h b) (unhooked-births f), deleted-held K s f (Ranges.sound R) (asks .0) b i))
+              fit)
 
           list-same : U .view .list s ≡ T .view .list s
           unfolding U withBirths
           list-same = unhooked-list f follows
 
-          pub leave-tables : set (set t₂ (lengthCell s) 0) (numCell s) 0 ≡ stored g (withView (stateOf g t₀) (deleteAt (viewOf g t₀) s f)) t₀
+          pub leave-tables : set (set t₂ (lengthCell s) 0) (numCell s) 0 ≡
+              stored g (freeAll (deleted (viewOf g t₀) s f) (withView (stateOf g t₀) (deleteAt (viewOf g t₀) s f))) t₀
           unfolding U
           leave-tables =
               holds-as g t₀ refl (left-is f)

@@ -26,7 +26,7 @@ unfoldable pub unhooked : State → ℕ → ℕ → State
 unhooked T s zero = T
 unhooked T s (suc n) = bypassed T s n
 
--- the blocks of a list are freed one after another, in tables of R slots
-unfoldable pub freedAll : ℕ → List ℕ → List ℕ → List ℕ
-freedAll R t [] = t
-freedAll R t (b ∷ l) = freedAll R (freed R t b) l
+-- the blocks of a list are freed one after another, in tables of R slots and N blocks
+unfoldable pub freedAll : ℕ → ℕ → List ℕ → List ℕ → List ℕ
+freedAll R N t [] = t
+freedAll R N t (b ∷ l) = freedAll R N (freed R N t b) l

@@ -10,7 +10,7 @@ ghost use Rattle.log.specs.Word.{writeAt, bytesOf, released};
 ghost use Rattle.model.specs.declared.Call.the-variants.{Delete};
 ghost use Rattle.geometry.specs.Limits.{blocks};
 ghost use Rattle.model.specs.Actions.{doD, Asks, follower, deleteAt};
-ghost use Rattle.model.specs.State.{withView};
+ghost use Rattle.model.specs.State.{withView, freeAll};
 ghost use Rattle.model.specs.Held.{deleted};
 ghost use Rattle.model.specs.Layout.{viewOf, stateOf, stored};
 ghost use Rattle.model.specs.Results.{paired, blocksIn};
@@ -43,8 +43,8 @@ pub enum Verdict {
     Accept(usize, usize),
 }
 
-// How many blocks the deletion of slot s frees.
-fn count_frees(t: &[u32], g: Geometry, s: usize, follower: usize) -> usize
+// How many blocks the deletion of slot s frees. D and Q count by it: in one place, it is not compiled into the engine's code twice.
+pub fn count_frees(t: &[u32], g: Geometry, s: usize, follower: usize) -> usize
     requires { ⌜ Ready g (now t) × (s < g .records) × (0 < viewOf g (now t) .num s) × (follower ≤ g .records) ⌝ }
     ensures { λ r. ⌜ r ≡ length (deleted (viewOf g (now (t .entry))) s follower) ⌝ }
 {
@@ -130,10 +130,10 @@ fn pair_births(t: &[u32], g: Geometry, out: &mut [u32], n: usize)
     }
 }
 
-// Frees the first n blocks of `out`, each with its birth behind it.
+// Frees the first n blocks of `out`, each with its birth behind it: they wait in this order.
 fn free_all(g: Geometry, t: &mut [u32], out: &[u32], n: usize)
-    requires { ⌜ Roomy g (now t) × (2 * n ≤ length (now out)) × ((k : ℕ) → k < n → getD (now out) (2 * k) 0 < blocks g) ⌝ }
-    ensures { λ _. ⌜ now (t .exit) ≡ freedAll (g .records) (now (t .entry)) (blocksIn (take (2 * n) (now (out .entry)))) ⌝ }
+    requires { ⌜ Roomy g (now t) × (2 * n ≤ length (now out)) × ((k : ℕ) → k < n → getD (now out) (2 * k) 0 < blocks g) × (getD (now t) 11 0 + n ≤ blocks g) ⌝ }
+    ensures { λ _. ⌜ now (t .exit) ≡ freedAll (g .records) (blocks g) (now (t .entry)) (blocksIn (take (2 * n) (now (out .entry)))) ⌝ }
 {
     let mut i: usize = 0;
     while i < n {
@@ -147,7 +147,7 @@ fn free_all(g: Geometry, t: &mut [u32], out: &[u32], n: usize)
 fn delete_record(g: Geometry, t: &mut [u32], out: &mut [u32], s: usize, link: usize) -> usize
     requires { ⌜ Ready g (now t) × (2 * length (deleted (viewOf g (now t)) s link) ≤ length (now out)) × Asks (viewOf g (now t)) (doD s) × (follower (viewOf g (now t)) s ≡ link) ⌝ }
     ensures count { λ r. ⌜ r ≡ length (deleted (viewOf g (now (t .entry))) s link) ⌝ }
-    ensures tables { λ r. ⌜ now (t .exit) ≡ stored g (withView (stateOf g (now (t .entry))) (deleteAt (viewOf g (now (t .entry))) s link)) (now (t .entry)) ⌝ }
+    ensures tables { λ r. ⌜ now (t .exit) ≡ stored g (freeAll (deleted (viewOf g (now (t .entry))) s link) (withView (stateOf g (now (t .entry))) (deleteAt (viewOf g (now (t .entry))) s link))) (now (t .entry)) ⌝ }
     ensures out { λ r. ⌜ now (out .exit) ≡ sets (now (out .entry)) 0 (paired (viewOf g (now (t .entry)) .birth) (deleted (viewOf g (now (t .entry))) s link)) ⌝ }
 {
     let count = unhook(g, t, out, s, link);

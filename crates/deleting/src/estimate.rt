@@ -7,14 +7,13 @@ ghost use Rattle.answer.specs.Reply.{replyOf};
 ghost use Rattle.geometry.specs.Limits.{blocks};
 ghost use Rattle.model.specs.declared.Call.the-variants.{Estimate};
 ghost use Rattle.model.specs.View.{predNum};
-ghost use Rattle.model.specs.Effects.{unlinked};
-ghost use Rattle.model.specs.Held.{deleted, shardsAbove, shardsFreed};
+ghost use Rattle.model.specs.Held.{shardsAbove, shardsFreed};
 ghost use Rattle.model.specs.Sorted.{stretches};
 ghost use Rattle.model.specs.Layout.{viewOf};
 ghost use Rattle.tables.specs.Ready.{Roomy, Ready, OutLong};
 ghost use Rattle.tables.specs.Outcome.{replied, outLeft};
 ghost use Rattle.deleting.specs.Stages.{younger};
-use crate::last::count_young;
+use crate::delete::count_frees;
 use crate::sort::sort_by_birth;
 use answer::Answer;
 use geometry::Geometry;
@@ -27,12 +26,6 @@ use tables::find::is_forked;
 use tables::find::slot_of;
 use tables::find::wide;
 use tables::links::pred_number;
-
-// How many blocks a deletion frees, and how many shards of the record that follows they fill.
-struct Gain {
-    blocks: usize,
-    shards: usize,
-}
 
 // The blocks on the deadlist of slot n that were born above p, written to `young`. Returns how many they are.
 fn list_gone(t: &[u32], g: Geometry, young: &mut [u32], n: usize, p: u32) -> usize
@@ -79,38 +72,30 @@ fn count_stretches(t: &[u32], g: Geometry, young: &[u32], n: usize, p: u32) -> u
     count
 }
 
-// What the deletion of slot s frees, where slot n follows. The blocks are sorted as the deletion sorts them: a shard begins where a birth is met for
-// the first time.
-fn gain_next(t: &[u32], g: Geometry, s: usize, n: usize) -> Gain
+// How many shards of the record in slot n, which follows slot s, its deletion frees. The blocks are sorted as the deletion sorts them: a shard
+// begins where a birth is met for the first time.
+fn count_shards(t: &[u32], g: Geometry, s: usize, n: usize) -> usize
     requires { ⌜ Ready g (now t) × (s < g .records) × (0 < viewOf g (now t) .num s) × (n < g .records) ⌝ }
-    ensures blocks { λ r. ⌜ r .blocks ≡ length (unlinked (viewOf g (now (t .entry))) s n) ⌝ }
-    ensures shards { λ r. ⌜ r .shards ≡ shardsAbove (viewOf g (now (t .entry))) n (predNum (viewOf g (now (t .entry))) s) ⌝ }
-    ensures range { λ r. ⌜ (r .blocks ≤ 256) × (r .shards ≤ 256) ⌝ }
+    ensures is { λ r. ⌜ r ≡ shardsAbove (viewOf g (now (t .entry))) n (predNum (viewOf g (now (t .entry))) s) ⌝ }
+    ensures range { λ r. ⌜ r ≤ 256 ⌝ }
 {
     let p = pred_number(t, g, s);
     let mut young = [0u32; 256];
     let count = list_gone(t, g, &mut young, n, p);
     sort_by_birth(t, g, &mut young, count);
-    Gain {
-        blocks: count,
-        shards: count_stretches(t, g, &young, count, p),
-    }
+    count_stretches(t, g, &young, count, p)
 }
 
-// What the deletion of slot s frees, with the link of the one that follows.
-fn gain_of(t: &[u32], g: Geometry, s: usize, follower: usize) -> Gain
+// The same by the link of the record that follows: none where nothing does.
+fn shards_of(t: &[u32], g: Geometry, s: usize, follower: usize) -> usize
     requires { ⌜ Ready g (now t) × (s < g .records) × (0 < viewOf g (now t) .num s) × (follower ≤ g .records) ⌝ }
-    ensures blocks { λ r. ⌜ r .blocks ≡ length (deleted (viewOf g (now (t .entry))) s follower) ⌝ }
-    ensures shards { λ r. ⌜ r .shards ≡ shardsFreed (viewOf g (now (t .entry))) s follower ⌝ }
-    ensures range { λ r. ⌜ (r .blocks ≤ 256) × (r .shards ≤ 256) ⌝ }
+    ensures is { λ r. ⌜ r ≡ shardsFreed (viewOf g (now (t .entry))) s follower ⌝ }
+    ensures range { λ r. ⌜ r ≤ 256 ⌝ }
 {
     if follower == 0 {
-        return Gain {
-            blocks: count_young(t, g, s),
-            shards: 0,
-        };
+        return 0;
     }
-    gain_next(t, g, s, follower - 1)
+    count_shards(t, g, s, follower - 1)
 }
 
 // Q: the numbers of the blocks that D would free, of the log words that it would write (one for each block), and of the shards.
@@ -127,9 +112,10 @@ pub fn estimate(g: Geometry, t: &[u32], out: &mut [u32], number: u32) -> Answer
     if is_forked(t, g, s) {
         return Answer::Refused(10);
     }
-    let gain = gain_of(t, g, s, follower_of(t, g, s));
-    out[0] = gain.blocks as u32;
-    out[1] = gain.blocks as u32;
-    out[2] = gain.shards as u32;
+    let follower = follower_of(t, g, s);
+    let blocks = count_frees(t, g, s, follower);
+    out[0] = blocks as u32;
+    out[1] = blocks as u32;
+    out[2] = shards_of(t, g, s, follower) as u32;
     Answer::Done(3)
 }

@@ -1,7 +1,7 @@
 -- Demand 3 and the two facts, of the ledger alone: its answers and histories are those of the model, whose proofs they carry over.
 use mathlib.Core.Path.{_≡_, refl, sym, ap, ap₂, _∙_, subst}
-use mathlib.Core.Logic.{_↔_}
-use mathlib.Core.Bool.{false, not}
+use mathlib.Core.Logic.{_⊎_, _↔_}
+use mathlib.Core.Bool.{true, false, not}
 use mathlib.Core.List.{List, [], _∷_, _++_, map}
 use Prim.Native.Nat.{ℕ, _+_}
 use native.Mathlib.Omega.{arith}
@@ -16,7 +16,7 @@ use Rattle.model.specs.Calls.{slot}
 use Rattle.model.specs.Book.{Book, OnPage, accept, enter}
 use Rattle.model.specs.Results.{blocksIn, numbersOf}
 use Rattle.model.specs.State.{State, fresh}
-use Rattle.model.specs.History.{Entry, eventsOf, events, firstGiven, entryOf, told, bookFrom, book, stateFrom, historyFrom}
+use Rattle.model.specs.History.{Entry, eventsOf, events, firstGiven, entryOf, told, bookFrom, book, stateFrom, historyFrom, unsynced}
 use Rattle.model.specs.HistoryFacts.{HistoryFacts, givenIn, freedIn, different, Sealed, Names, LastGave}
 use Rattle.model.specs.Model.{Screened, screenedConditions, answer, modelAfter, model}
 use Rattle.model.specs.declared.Call.{Call}
@@ -138,12 +138,12 @@ module _ (g : Geometry) (inside : Inside g) where
           full = λ w r x k e.
               let i = W .full (plain w) r x k e in
               let n = same-none w r x k e in (
-                λ a. let q = i .0 (same-answer w ∙ a) in (n .0 (q .0), λ b l. subst (λ h. OnPage (book (g .pages) h) b) H (q .1 b l)),
-                λ q. sym (same-answer w) ∙ i .1 (n .1 (q .0), λ b l. subst (λ h. OnPage (book (g .pages) h) b) (sym H) (q .1 b l)),
+                λ a. let q = i .0 (same-answer w ∙ a) in (n .0 (q .0), λ b l. subst (λ h. OnPage (book (g .pages) h) b ⊎ (unsynced h b ≡ true)) H (q .1 b l)),
+                λ q. sym (same-answer w) ∙ i .1 (n .1 (q .0), λ b l. subst (λ h. OnPage (book (g .pages) h) b ⊎ (unsynced h b ≡ true)) (sym H) (q .1 b l)),
               );
           gives = λ w r x k l e a.
               let q = W .gives (plain w) r x k l e (same-answer w ∙ a) in
-              (q .0, q .1, q .2, q .3, λ p. q .4 (subst (λ h. OnPage (book (g .pages) h) (q .0)) (sym H) p));
+              (q .0, q .1, q .2, q .3, λ p. q .4 (subst (λ h. OnPage (book (g .pages) h) (q .0)) (sym H) p), subst (λ h. unsynced h (q .0) ≡ false) H (q .5));
           frees = λ xs ys b e. W .frees xs ys b (ap events H ∙ e);
         }
 
@@ -163,6 +163,8 @@ module _ (g : Geometry) (inside : Inside g) where
             let e : entryOf (clerk g) (L before) i ≡ entryOf (model g) (T before) (plain i) = λ j. record { call = i; answer = sym (same-answer before i) j } in
             subst (LastGave b v) (ap (historyFrom (model g) (fresh g)) (sym (plains-append before (i ∷ []))) ∙ side (before ++ (i ∷ [])) .2)
             (W .birth-is (plain i) b v (subst (Names b v) e n));
+        given-after-barrier = λ xs ys zs e f b s. W .given-after-barrier xs ys zs e f b (H ∙ s);
+        listed-after-barrier = λ xs ys zs e f b s. W .listed-after-barrier xs ys zs e f b (H ∙ s);
       }
 
 -- DEMAND 3 AND THE TWO FACTS, OF THE LEDGER ALONE

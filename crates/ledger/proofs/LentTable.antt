@@ -92,7 +92,7 @@ pub nine-refused : (M : Memory) → makeReply (geometryOf 1 4 2 4 8 9) M ≡ ref
 unfolding makeReply fits within
 nine-refused M = refl
 
--- 2,048 + 512 × 4 + 4 numbers, 80 bytes of log, 72 numbers
-pub ten-accepted : (M : Memory) → 4100 ≤ length (M .tables) → 80 ≤ length (M .log) → 72 ≤ length (M .out) → makeReply small M ≡ accepted []
+-- 2,048 + 512 × 4 + 4 × 4 numbers, 80 bytes of log, 72 numbers
+pub ten-accepted : (M : Memory) → 4112 ≤ length (M .tables) → 80 ≤ length (M .log) → 72 ≤ length (M .out) → makeReply small M ≡ accepted []
 unfolding makeReply fits within short?
-ten-accepted M t l o = rw (le-ltb (length (M .tables)) 4100 t, le-ltb (length (M .log)) 80 l, le-ltb (length (M .out)) 72 o)
+ten-accepted M t l o = rw (le-ltb (length (M .tables)) 4112 t, le-ltb (length (M .log)) 80 l, le-ltb (length (M .out)) 72 o)

@@ -3,7 +3,7 @@ use mathlib.Core.Path.{_≡_, refl, sym, ap, ap₂, _∙_, subst}
 use mathlib.Core.Logic.{_↔_, Iff·trans}
 use mathlib.Core.Bool.{Bool, true, not, _&&_}
 use mathlib.Core.List.{List, [], _∷_, _++_, append-assoc}
-use Prim.Native.Nat.{ℕ, suc, _+_, _-_, _*_, _/_, _%_, _≤_, _<_}
+use Prim.Native.Nat.{ℕ, zero, suc, _+_, _-_, _*_, _/_, _%_, _≤_, _<_}
 use native.Mathlib.Nat.{div-div-eq-div-mul, div-one}
 use native.Mathlib.Omega.{arith}
 use lib.Dec.{ltb}
@@ -18,11 +18,13 @@ use Rattle.log.specs.Word.{spell, wordBytes, bytesOf, words, writeAt}
 use Rattle.log.specs.Marks.{heldIn, passing, heldBlocks}
 use Rattle.log.specs.Read.{free, Result, readLog}
 use Rattle.log.specs.Entries.{Entry, allocate, release, barrier!, allocateRun, releaseRun, allWords, AllAllowed, behind, behindAll}
-use Rattle.log.specs.Tool.{judged, turnedAway, verdictBy, readable, marksOf, heldAtEnd, alike?, readReply, readOut, compareConditions, compareVerdict, compactWords, compactReply, compactOut}
+use Rattle.log.specs.Settled.{settled, SettledIs}
+use Rattle.log.specs.Tool.{judged, turnedAway, verdictBy, readable, marksOf, heldAtEnd, alike?, everyReply, readReply, readOut, compareConditions, compareVerdict, compactWords, compactReply, compactOut}
 use Rattle.log.proofs.Writing.{length-write, length-bytes}
 use Rattle.log.proofs.RoundTrip.{AllFit, words-bytes, compressed-fits, compressed-length}
 use Rattle.log.proofs.EntriesFacts.{reads-iff}
 use Rattle.log.proofs.AlikeFacts.{alike-iff, compressed-alike}
+use Rattle.log.proofs.SettledFacts.{settled-is, settled-only}
 use Rattle.log.proofs.Tools.{pass-length}
 use Rattle.model.proofs.Reflect.{Says, _&_}
 use Rattle.ledger.specs.LogMeans.{Given, Within, Bytes, IsLog, holds, ReadMeans, CompareMeans, CompactMeans, ToolsMean}
@@ -163,35 +165,52 @@ module _ (g : Geometry) (n least : ℕ) (log : List ℕ) (bytes : Bytes log) (l 
       flat (later (outside g) 2 middle l (accepted m) not-accepted (λ i. later (less n least) 3 last l (accepted m) not-accepted
       (λ k. later (negated (is-readable g i log bytes)) 7 [] l (accepted m) not-accepted (λ e. (accepted-same, ap accepted)))))
 
--- ── reading ──
+-- ── reading: what is settled of the log, every word of it ──
+
+-- a part of bytes is bytes
+front-byte : (l m : List ℕ) → Bytes (l ++ m) → Bytes l
+front-byte [] m k i = omega arith
+front-byte (b ∷ l) m k zero = k zero
+front-byte (b ∷ l) m k (suc i) = front-byte l m (λ n. k (suc n)) i
+
+settled-bytes : (log : List ℕ) → Bytes log → Bytes (settled log)
+settled-bytes log b = let s = settled-is log in front-byte (settled log) (s .rest) (subst Bytes (s .split) b)
 
 module _ (g : Geometry) (log out : List ℕ) (bytes : Bytes log) where
   abbrev need : ℕ
   need = 2 * blocks g + 64
 
-  few : length (heldAtEnd g log) ≤ blocks g
-  unfolding heldAtEnd heldBlocks
-  few = pass-length (heldIn (marksOf g log)) 0 (blocks g)
+  abbrev part : List ℕ
+  part = settled log
 
-  read-means : ReadMeans g log out
-  unfolding readReply readOut
-  read-means =
-      let left : (r : Reply) → readReply g log out ≡ r → readOut g log out ≡ leaves r out (sets out 0 (heldAtEnd g log)) =
-      λ r e. ap (λ (r : Reply). leaves r out (sets out 0 (heldAtEnd g log))) e in
+  few : length (heldAtEnd g part) ≤ blocks g
+  unfolding heldAtEnd heldBlocks
+  few = pass-length (heldIn (marksOf g part)) 0 (blocks g)
+
+  settled-means : ReadMeans g log (settled log) out
+  unfolding readReply everyReply readOut
+  settled-means =
+      let its : Bytes part = settled-bytes log bytes in
+      let left : (r : Reply) → readReply g log out ≡ r → readOut g log out ≡ leaves r out (sets out 0 (heldAtEnd g part)) =
+      λ r e. ap (λ (r : Reply). leaves r out (sets out 0 (heldAtEnd g part))) e in
       record {
-        two = by-2 g (length out) need log bytes (heldAtEnd g log);
-        three = by-3 g (length out) need log bytes (heldAtEnd g log);
-        seven = by-7 g (length out) need log bytes (heldAtEnd g log);
+        two = by-2 g (length out) need part its (heldAtEnd g part);
+        three = by-3 g (length out) need part its (heldAtEnd g part);
+        seven = by-7 g (length out) need part its (heldAtEnd g part);
         done = λ l.
-            let d = by-none g (length out) need log bytes (heldAtEnd g log) l in (
-              λ e. let (i, k, w) = d .0 e in (i, k, (w .0, sym (w .1) ∙ held-is g i log (w .0))),
-              λ w. d .1 (w .0, w .1, (w .2 .0, held-is g (w .0) log (w .2 .0) ∙ sym (w .2 .1))),
+            let d = by-none g (length out) need part its (heldAtEnd g part) l in (
+              λ e. let (i, k, w) = d .0 e in (i, k, (w .0, sym (w .1) ∙ held-is g i part (w .0))),
+              λ w. d .1 (w .0, w .1, (w .2 .0, held-is g (w .0) part (w .2 .0) ∙ sym (w .2 .1))),
             );
         refusal = λ n e. left (refused n) e;
         gives = λ l e.
-            let (i, k, w) = by-none g (length out) need log bytes (heldAtEnd g log) l .0 e in
+            let (i, k, w) = by-none g (length out) need part its (heldAtEnd g part) l .0 e in
             subst (Given l out) (ap (sets out 0) (sym (w .1)) ∙ sym (left (accepted l) e)) (given l out (omega (arith, few, ap length (w .1))));
       }
+
+  -- only one part is what is settled
+  read-means : (p : List ℕ) → SettledIs log p → ReadMeans g log p out
+  read-means p s = subst (λ (q : List ℕ). ReadMeans g log q out) (sym (settled-only log p s)) settled-means
 
 -- ── comparing ──
 
@@ -280,4 +299,4 @@ module _ (g : Geometry) (log out : List ℕ) (bytes : Bytes log) where
 
 -- THE FUNCTIONS ON LOGS, whatever is lent
 pub tools-mean : ToolsMean
-tools-mean g log bytes = (λ out. read-means g log out bytes, (λ other b. compare-means g log other bytes b, λ out. compact-means g log out bytes))
+tools-mean g log bytes = (λ part out s. read-means g log out bytes part s, (λ other b. compare-means g log other bytes b, λ out. compact-means g log out bytes))

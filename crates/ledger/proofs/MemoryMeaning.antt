@@ -16,7 +16,8 @@ use Rattle.choice.specs.Words.{bit, wordOf}
 use Rattle.choice.proofs.Bit.{bit-high}
 use Rattle.choice.proofs.Births.{word-lt, word-bit}
 use Rattle.log.specs.Word.{writeAt, bytesOf}
-use Rattle.model.specs.Held.{available}
+use Rattle.model.specs.Held.{waits, available}
+use Rattle.model.specs.Lists.{elem}
 use Rattle.model.specs.State.{State, fresh}
 use Rattle.model.specs.Calls.{conditions, result, written, effect}
 use Rattle.model.specs.Layout.{need, freeWord, stateOf, stored, made}
@@ -53,7 +54,7 @@ module _ (g : Geometry) (i : Inside g) (t : List ℕ) (room : need g ≤ length 
   many = min 32 (blocks g - 32 * (b / 32))
 
   abbrev word : ℕ
-  word = wordOf (available (fresh g .view)) (32 * (b / 32)) many
+  word = wordOf (available (fresh g)) (32 * (b / 32)) many
 
   word-is : getD (made g t) (64 + b / 32) 0 ≡ word
   unfolding freeWord fresh
@@ -63,14 +64,14 @@ module _ (g : Geometry) (i : Inside g) (t : List ℕ) (room : need g ≤ length 
   its-bit v e = ap (λ (w : ℕ). bit w (b % 32)) word-is ∙ e
 
   one : b < blocks g → getD (made g t) (64 + b / 32) 0 / 2 ^ (b % 32) % 2 ≡ 1
-  unfolding bit available fresh
-  one k = eqb-true _ 1 (its-bit true (word-bit (available (fresh g .view)) (32 * (b / 32)) many (b % 32) (omega arith)))
+  unfolding bit available waits elem fresh
+  one k = eqb-true _ 1 (its-bit true (word-bit (available (fresh g)) (32 * (b / 32)) many (b % 32) (omega arith)))
 
   none : blocks g ≤ b → getD (made g t) (64 + b / 32) 0 / 2 ^ (b % 32) % 2 ≡ 0
   unfolding bit
   none k =
       let w : ℕ = getD (made g t) (64 + b / 32) 0 / 2 ^ (b % 32) in
-      let z : w % 2 ≡ 1 → ⊥ = eqb-false (w % 2) 1 (its-bit false (bit-high many word (b % 32) (word-lt (available (fresh g .view)) (32 * (b / 32)) many) (omega arith))) in
+      let z : w % 2 ≡ 1 → ⊥ = eqb-false (w % 2) 1 (its-bit false (bit-high many word (b % 32) (word-lt (available (fresh g)) (32 * (b / 32)) many) (omega arith))) in
       let l : w % 2 < 2 = omega arith in
       omega arith
 

@@ -12,7 +12,8 @@ use Rattle.answer.specs.Reply.{Reply, accepted, refused}
 use Rattle.geometry.specs.declared.Geometry.{Geometry}
 use Rattle.geometry.specs.Limits.{Inside, blocks}
 use Rattle.geometry.proofs.Made.{inside-fits}
-use Rattle.log.specs.Tool.{readable, heldAtEnd, readReply, compactWords, compactReply}
+use Rattle.log.specs.Settled.{settled}
+use Rattle.log.specs.Tool.{readable, heldAtEnd, everyReply, readReply, compactWords, compactReply}
 use Rattle.model.specs.Layout.{need}
 use Rattle.model.specs.Memory.{Memory, short?, reply, makeReply, makeAfter}
 use Rattle.model.specs.Demand.{Own, withOut, run}
@@ -106,13 +107,13 @@ call-exact g i M t l o before r a h =
 
 module _ (g : Geometry) (i : Inside g) (log out : List ℕ) where
   pub read-out-63 : length out ≡ 2 * blocks g + 63 → readReply g log out ≡ refused 3
-  unfolding readReply
+  unfolding readReply everyReply
   read-out-63 e =
       let h : length out < 2 * blocks g + 64 = omega arith in
       rw (inside-fits g i, lt-ltb (length out) (2 * blocks g + 64) h)
 
-  pub read-out-64 : readable g log ≡ true → length out ≡ 2 * blocks g + 64 → readReply g log out ≡ accepted (heldAtEnd g log)
-  unfolding readReply
+  pub read-out-64 : readable g (settled log) ≡ true → length out ≡ 2 * blocks g + 64 → readReply g log out ≡ accepted (heldAtEnd g (settled log))
+  unfolding readReply everyReply
   read-out-64 y e =
       let h : 2 * blocks g + 64 ≤ length out = omega arith in
       rw (inside-fits g i, le-ltb (length out) (2 * blocks g + 64) h, y)

@@ -1,54 +1,36 @@
 -- What a call may touch of the memory that it is lent.
 use mathlib.Core.Path.{_≡_, refl, sym, ap, _∙_, subst}
 use mathlib.Core.List.{List}
-use Prim.Native.Nat.{ℕ, _*_, _≤_, _<_}
+use Prim.Native.Nat.{ℕ, _*_, _≤_}
 use native.Mathlib.Omega.{arith}
-use lib.ListN.{length, getD, set, length-set}
-use lib.Seq.{sets, ext-getD, getD-set-same, getD-set-other}
-use borrow.Author.Tests.{ne-eqb}
+use lib.ListN.{length, getD}
+use lib.Seq.{sets}
 use Rattle.answer.specs.Reply.{Reply, accepted, refused}
 use Rattle.answer.specs.Refusal.{leaves}
-use Rattle.answer.proofs.Cases.{cases, same?}
 use Rattle.geometry.specs.declared.Geometry.{Geometry}
 use Rattle.log.specs.Word.{writeAt, bytesOf}
 use Rattle.log.proofs.Writing.{write-none}
-use Rattle.model.specs.State.{State, withUsed}
+use Rattle.model.specs.State.{State, withUsed, synced}
 use Rattle.model.specs.Calls.{result, written, effect, logged}
-use Rattle.model.specs.Layout.{need, stateOf, stored, numberAt, headerNumber}
+use Rattle.model.specs.Layout.{need, stateOf, stored, headerNumber}
 use Rattle.model.specs.Memory.{Memory, writtenAt, reply, after}
 use Rattle.model.specs.declared.Call.{Call}
 use Rattle.model.specs.declared.Call.the-variants.{Begin, Write, Erase, Seal, Fork, Delete, Read, Barrier, Compress, FreeList, Estimate}
 use Rattle.model.proofs.Fine.{effect-fine}
 use Rattle.model.proofs.Keeps.{accepted-is, sound-fine}
-use Rattle.model.proofs.LayoutFacts.{stored-length, stored-at, stored-header, stored-beyond}
+use Rattle.model.proofs.LayoutFacts.{stored-length, stored-header, stored-beyond}
 use Rattle.model.proofs.Restored.{stored-state}
 use Rattle.model.proofs.ResultSize.{accepted-short}
 use Rattle.ledger.specs.LogMeans.{Given, Within}
-use Rattle.ledger.specs.Touched.{TouchedBy, Touched, CallTouches}
+use Rattle.ledger.specs.Touched.{Released, TouchedBy, Touched, CallTouches}
 use Rattle.ledger.proofs.LogMeaning.{given, within, beyond}
 use Rattle.ledger.proofs.LogTold.{ends-at}
+use Rattle.ledger.proofs.Releases.{released}
 
--- ── of the tables, number 9 alone ──
-
-module _ (g : Geometry) (t : List ℕ) where
-  used-is : (T : State) → need g ≤ length t → getD (stored g T t) 9 0 ≡ T .used
-  unfolding headerNumber
-  used-is T room = stored-header g T t room 9 (omega arith)
-
-  other : (T : State) (n i : ℕ) → (i ≡ 9 → ⊥) → numberAt g (withUsed T n) t i ≡ numberAt g T t i
-  unfolding numberAt headerNumber
-  other T n i d = rw (ne-eqb i 9 d)
-
-  count-alone : need g ≤ length t → stored g (stateOf g t) t ≡ t → (n : ℕ) → stored g (withUsed (stateOf g t) n) t ≡ set t 9 n
-  count-alone room same n =
-      let T : State = stateOf g t in
-      let size = stored-length g (withUsed T n) t in
-      ext-getD 0 (stored g (withUsed T n) t) (set t 9 n) (size ∙ sym (length-set t 9 n)) (λ i h.
-      cases (same? i 9)
-      (λ e. rw e (used-is (withUsed T n) room ∙ sym (getD-set-same t 9 n 0 (omega arith))))
-      (λ d.
-      let l : i < length t = omega arith in
-      stored-at g (withUsed T n) t i l ∙ other T n i d ∙ sym (stored-at g T t i l) ∙ ap (λ (k : List ℕ). getD k i 0) same ∙ sym (getD-set-other t 9 i n 0 d)))
+-- number 9 of tables that say T
+used-is : (g : Geometry) (t : List ℕ) (T : State) → need g ≤ length t → getD (stored g T t) 9 0 ≡ T .used
+unfolding headerNumber
+used-is g t T room = stored-header g T t room 9 (omega arith)
 
 -- ── every call ──
 
@@ -76,9 +58,6 @@ module _ (g : Geometry) (M : Memory) (c : Call) (l : List ℕ) (e : reply g M c 
   same : stored g T t ≡ t
   same = let s = accepted-is g M c l e .0 .sound in stored-state g t (s .made) (s .free) room
 
-  count : (n : ℕ) → stored g (withUsed T n) t ≡ set t 9 n
-  count = count-alone g t room same
-
   now-used : getD (stored g (effect g T c) t) 9 0 ≡ effect g T c .used
   now-used = used-is g t (effect g T c) room
 
@@ -90,7 +69,15 @@ module _ (g : Geometry) (M : Memory) (c : Call) (l : List ℕ) (e : reply g M c 
       let u : getD (stored g (effect g T c) t) 9 0 ≤ g .words = omega (arith, now-used, G .range .used) in
       within (writtenAt T c) _ (M .log) (bytesOf (written g T c)) (ends-at g T c ∙ ap (λ (n : ℕ). 8 * n) (sym now-used)) (omega (arith, u, A .long .log))
 
-by-call : (g : Geometry) (M : Memory) (c : Call) (l : List ℕ) → reply g M c ≡ accepted l → TouchedBy c M (leftBy g M c (accepted l))
+  -- Y and C, with n words used: what waited may be given
+  ends-waits : (n : ℕ) → Released g M (record {
+    tables = stored g (synced (withUsed (stateOf g (M .tables)) n)) (M .tables);
+    log = writeAt (M .log) (writtenAt T c) (bytesOf (written g T c));
+    out = sets (M .out) 0 (result g T c);
+  })
+  ends-waits n = let A = accepted-is g M c l e .0 in released g (A .inside) M (A .sound) room n _ _
+
+by-call : (g : Geometry) (M : Memory) (c : Call) (l : List ℕ) → reply g M c ≡ accepted l → TouchedBy g c M (leftBy g M c (accepted l))
 unfolding stateOf logged
 by-call g M Begin l e = write-none (M .log) _
 by-call g M (Write r x k) l e = words g M (Write r x k) l e
@@ -99,8 +86,8 @@ by-call g M (Seal r) l e = write-none (M .log) _
 by-call g M (Fork r) l e = write-none (M .log) _
 by-call g M (Delete r) l e = words g M (Delete r) l e
 by-call g M (Read r x) l e = (write-none (M .log) _, same g M (Read r x) l e)
-by-call g M Barrier l e = (words g M Barrier l e, count g M Barrier l e _ ∙ ap (set (M .tables) 9) (omega arith))
-by-call g M Compress l e = (words g M Compress l e, count g M Compress l e _ ∙ ap (set (M .tables) 9) (sym (now-used g M Compress l e)))
+by-call g M Barrier l e = (words g M Barrier l e, (now-used g M Barrier l e ∙ omega arith, ends-waits g M Barrier l e _))
+by-call g M Compress l e = (words g M Compress l e, ends-waits g M Compress l e _)
 by-call g M FreeList l e = (write-none (M .log) _, same g M FreeList l e)
 by-call g M (Estimate r) l e = (write-none (M .log) _, same g M (Estimate r) l e)
 

@@ -11,6 +11,7 @@ use Rattle.geometry.specs.Limits.{Inside, blocks}
 use Rattle.log.specs.Word.{bytesOf}
 use Rattle.log.specs.Marks.{heldIn, passing}
 use Rattle.log.specs.Read.{free}
+use Rattle.log.specs.Settled.{SettledIs}
 use Rattle.log.specs.Entries.{Entry, allWords, AllAllowed, behindAll}
 use Rattle.log.specs.Tool.{Compared, judged, turnedAway, readReply, readOut, compareVerdict, compactReply, compactOut}
 
@@ -46,17 +47,18 @@ holds g log e = passing (heldIn (behindAll free (e .entries))) 0 (blocks g)
 
 -- ── reading: 2, 3, 7, each exactly when ──
 
-pub record ReadMeans (g : Geometry) (log out : List ℕ) : Type 0 where
+-- `part` is what is settled of the log: "Now only what is recorded up to the last whole word equal to 3 counts" (6.9)
+pub record ReadMeans (g : Geometry) (log part out : List ℕ) : Type 0 where
   pub two : (readReply g log out ≡ refused 2) ↔ (Inside g → ⊥)
   pub three : (readReply g log out ≡ refused 3) ↔ (Inside g × (length out < 2 * blocks g + 64))
-  pub seven : (readReply g log out ≡ refused 7) ↔ (Inside g × (2 * blocks g + 64 ≤ length out) × (IsLog g log → ⊥))
+  pub seven : (readReply g log out ≡ refused 7) ↔ (Inside g × (2 * blocks g + 64 ≤ length out) × (IsLog g part → ⊥))
   pub done : (l : List ℕ) →
-      (readReply g log out ≡ accepted l) ↔ (Inside g × (2 * blocks g + 64 ≤ length out) × ((e : IsLog g log) × (l ≡ holds g log e)))
+      (readReply g log out ≡ accepted l) ↔ (Inside g × (2 * blocks g + 64 ≤ length out) × ((e : IsLog g part) × (l ≡ holds g part e)))
   -- a refusal leaves the buffer as it was; else nothing but the numbers given is changed
   pub refusal : (n : ℕ) → readReply g log out ≡ refused n → readOut g log out ≡ out
   pub gives : (l : List ℕ) → readReply g log out ≡ accepted l → Given l out (readOut g log out)
 
--- ── comparing: 2, 7 ──
+-- ── comparing: 2, 7; every word counts ──
 
 pub record CompareMeans (g : Geometry) (a b : List ℕ) : Type 0 where
   pub two : (compareVerdict g a b ≡ turnedAway 2) ↔ (Inside g → ⊥)
@@ -65,7 +67,7 @@ pub record CompareMeans (g : Geometry) (a b : List ℕ) : Type 0 where
   pub done : (t : Bool) → compareVerdict g a b ≡ judged t →
       Inside g × ((e : IsLog g a) × ((f : IsLog g b) × ((t ≡ true) ↔ (holds g a e ≡ holds g b f))))
 
--- ── compressing: 2, 3, 7 ──
+-- ── compressing: 2, 3, 7; every word counts ──
 
 pub record CompactMeans (g : Geometry) (log out : List ℕ) : Type 0 where
   pub two : (compactReply g log out ≡ refused 2) ↔ (Inside g → ⊥)
@@ -80,4 +82,5 @@ pub record CompactMeans (g : Geometry) (log out : List ℕ) : Type 0 where
 -- the three functions, whatever is lent
 abbrev pub ToolsMean : Type 0
 ToolsMean = (g : Geometry) (log : List ℕ) → Bytes log →
-    ((out : List ℕ) → ReadMeans g log out) × (((other : List ℕ) → Bytes other → CompareMeans g log other) × ((out : List ℕ) → CompactMeans g log out))
+    ((part out : List ℕ) → SettledIs log part → ReadMeans g log part out) ×
+    (((other : List ℕ) → Bytes other → CompareMeans g log other) × ((out : List ℕ) → CompactMeans g log out))

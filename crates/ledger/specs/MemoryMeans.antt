@@ -14,7 +14,7 @@ use Rattle.model.specs.declared.Call.{Call}
 
 -- how many numbers the tables of a geometry are
 abbrev pub tableSize : Geometry → ℕ
-tableSize g = 2048 + 512 * g .records + blocks g
+tableSize g = 2048 + 512 * g .records + 4 * blocks g
 
 pub record Enough (g : Geometry) (M : Memory) : Type 0 where
   pub tables : tableSize g ≤ length (M .tables)

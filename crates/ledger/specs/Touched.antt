@@ -1,11 +1,15 @@
 -- WHAT A CALL MAY TOUCH (rules 6.3, 7.1), told of the memory before it and the memory that it left.
 use mathlib.Core.Path.{_≡_}
+use mathlib.Core.Logic.{_↔_, _⊎_}
 use mathlib.Core.List.{List, []}
-use Prim.Native.Nat.{ℕ, suc, _*_}
-use lib.ListN.{set}
+use Prim.Native.Nat.{ℕ, suc, _+_, _*_, _/_, _%_, _^_, _≤_, _<_}
+use lib.ListN.{getD}
 use Rattle.answer.specs.Reply.{Reply, accepted, refused}
 use Rattle.geometry.specs.declared.Geometry.{Geometry}
+use Rattle.geometry.specs.Limits.{blocks}
 use Rattle.ledger.specs.LogMeans.{Given, Within}
+use Rattle.model.specs.Lists.{In}
+use Rattle.model.specs.Layout.{stateOf}
 use Rattle.model.specs.Memory.{Memory, wordsUsed, reply, after}
 use Rattle.ledger.specs.MemoryMeans.{tableSize}
 use Rattle.model.specs.declared.Call.{Call}
@@ -15,30 +19,43 @@ use Rattle.model.specs.declared.Call.the-variants.{Begin, Write, Erase, Seal, F
 abbrev pub Appended : Memory → Memory → Type 0
 Appended M left = Within (8 * wordsUsed M) (8 * wordsUsed left) (M .log) (left .log)
 
+-- the bit of block b in the free words
+abbrev pub bitOf : Memory → ℕ → ℕ
+bitOf M b = getD (M .tables) (64 + b / 32) 0 / 2 ^ (b % 32) % 2
+
+-- what waited may be given: no block waits, each that waited has a bit as those that had one, and of the tables nothing else is changed but the count
+-- of the log words
+pub record Released (g : Geometry) (M left : Memory) : Type 0 where
+  pub none : getD (left .tables) 11 0 ≡ 0
+  pub bits : (b : ℕ) → b < blocks g → (bitOf left b ≡ 1) ↔ ((bitOf M b ≡ 1) ⊎ In b (stateOf g (M .tables) .waiting))
+  -- and no number that is no block has one
+  pub others : (b : ℕ) → blocks g ≤ b → b < 2048 → bitOf left b ≡ 0
+  pub rest : (i : ℕ) → (i ≡ 9 → ⊥) → (i ≡ 11 → ⊥) → (i < 64) ⊎ (128 ≤ i) → getD (left .tables) i 0 ≡ getD (M .tables) i 0
+
 -- what each call may touch beyond that
-abbrev pub TouchedBy : Call → Memory → Memory → Type 0
+abbrev pub TouchedBy : Geometry → Call → Memory → Memory → Type 0
 -- these write no log word
-TouchedBy Begin M left = left .log ≡ M .log
-TouchedBy (Seal r) M left = left .log ≡ M .log
-TouchedBy (Fork r) M left = left .log ≡ M .log
-TouchedBy (Write r x k) M left = Appended M left
-TouchedBy (Erase r x) M left = Appended M left
-TouchedBy (Delete r) M left = Appended M left
+TouchedBy g Begin M left = left .log ≡ M .log
+TouchedBy g (Seal r) M left = left .log ≡ M .log
+TouchedBy g (Fork r) M left = left .log ≡ M .log
+TouchedBy g (Write r x k) M left = Appended M left
+TouchedBy g (Erase r x) M left = Appended M left
+TouchedBy g (Delete r) M left = Appended M left
 -- these look only
-TouchedBy (Read r x) M left = (left .log ≡ M .log) × (left .tables ≡ M .tables)
-TouchedBy FreeList M left = (left .log ≡ M .log) × (left .tables ≡ M .tables)
-TouchedBy (Estimate r) M left = (left .log ≡ M .log) × (left .tables ≡ M .tables)
--- of the tables, the count of the log words alone
-TouchedBy Barrier M left = Appended M left × (left .tables ≡ set (M .tables) 9 (suc (wordsUsed M)))
+TouchedBy g (Read r x) M left = (left .log ≡ M .log) × (left .tables ≡ M .tables)
+TouchedBy g FreeList M left = (left .log ≡ M .log) × (left .tables ≡ M .tables)
+TouchedBy g (Estimate r) M left = (left .log ≡ M .log) × (left .tables ≡ M .tables)
+-- of the tables, the count of the log words, and what waited is released
+TouchedBy g Barrier M left = Appended M left × ((wordsUsed left ≡ suc (wordsUsed M)) × Released g M left)
 -- the log anew from its start: the bytes beyond its words stay
-TouchedBy Compress M left = Within 0 (8 * wordsUsed left) (M .log) (left .log) × (left .tables ≡ set (M .tables) 9 (wordsUsed left))
+TouchedBy g Compress M left = Within 0 (8 * wordsUsed left) (M .log) (left .log) × Released g M left
 
 pub record Accepted (g : Geometry) (M : Memory) (c : Call) (l : List ℕ) (left : Memory) : Type 0 where
   -- of the result buffer only the numbers given
   pub out : Given l (M .out) (left .out)
   -- of the tables only what the geometry needs
   pub tables : Within 0 (tableSize g) (M .tables) (left .tables)
-  pub call : TouchedBy c M left
+  pub call : TouchedBy g c M left
 
 abbrev pub Touched : Geometry → Memory → Call → Reply → Memory → Type 0
 Touched g M c (accepted l) left = Accepted g M c l left

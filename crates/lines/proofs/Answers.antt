@@ -1,7 +1,7 @@
 -- What B, S and F answer and leave, from the verdict and from what their code has done.
 use mathlib.Core.Path.{_≡_, refl, sym, ap, ap₂, _∙_}
 use mathlib.Core.Bool.{false}
-use mathlib.Core.List.{List, [], _∷_}
+use mathlib.Core.List.{List, [], _∷_, _++_, append-nil}
 use Prim.Native.Nat.{ℕ, suc, pred, _+_, _<_}
 use native.Mathlib.Omega.{arith}
 use lib.Dec.{eqb, leb}
@@ -14,6 +14,7 @@ use Rattle.answer.specs.Reply.{Reply, replyOf, accepted, refused}
 use Rattle.answer.specs.Refusal.{NoneHolds, leaves}
 use Rattle.answer.proofs.Decided.{decide-accepts}
 use Rattle.geometry.specs.declared.Geometry.{Geometry}
+use Rattle.model.specs.Held.{frees}
 use Rattle.model.specs.declared.Call.{Call}
 use Rattle.model.specs.declared.Call.the-variants.{Begin, Seal, Fork}
 use Rattle.model.specs.View.{View}
@@ -39,10 +40,10 @@ one : (out : List ℕ) (v : ℕ) → 0 < length out → take 1 (set out 0 v) ≡
 one [] v h = absurd (let z : ⊥ = omega arith in z)
 one (x ∷ l) v h = refl
 
--- an action with no log word
-acted-is : (T : State) (a : Action) → withView T (done (T .view) a) ≡ acted T a 0
+-- an action with no log word, which frees nothing
+acted-is : (T : State) (a : Action) → frees (T .view) a ≡ [] → withView T (done (T .view) a) ≡ acted T a 0
 unfolding acted
-acted-is T a = state-ext _ _ refl refl refl refl (omega arith)
+acted-is T a e = state-ext _ _ refl refl refl refl (omega arith) (sym (ap (λ l. T .waiting ++ l) e ∙ append-nil (T .waiting)))
 
 module _ {g : Geometry} {t : List ℕ} (R : Ready g t) where
   abbrev T : State
@@ -129,16 +130,16 @@ module _ {g : Geometry} {t : List ℕ} (R : Ready g t) where
         Left Begin out (answer.Done 1) u (set out 0 r)
     begin-left s f v e d b =
         let w = taken Begin 0 s f v e d in
-        grown Begin _ (w .0) refl (acted-is T doB) (b ∙ ap (λ (f : ℕ). viewed g t (begin (T .view) f)) (w .2))
+        grown Begin _ (w .0) refl (acted-is T doB refl) (b ∙ ap (λ (f : ℕ). viewed g t (begin (T .view) f)) (w .2))
 
     pub seal-left : (n s f : ℕ) (v : Verdict) → v ≡ verdict g t (Seal n) (slot T n) → v ≡ Accept s f → u ≡ viewed g t (seal (T .view) s f) →
         Left (Seal n) out (answer.Done 1) u (set out 0 r)
     seal-left n s f v e d b =
         let w = taken (Seal n) (slot T n) s f v e d in
-        grown (Seal n) _ (w .0) refl (acted-is T (doS (slot T n))) (b ∙ ap₂ (λ (s f : ℕ). viewed g t (seal (T .view) s f)) (w .1) (w .2))
+        grown (Seal n) _ (w .0) refl (acted-is T (doS (slot T n)) refl) (b ∙ ap₂ (λ (s f : ℕ). viewed g t (seal (T .view) s f)) (w .1) (w .2))
 
     pub fork-left : (n s f : ℕ) (v : Verdict) → v ≡ verdict g t (Fork n) (slot T n) → v ≡ Accept s f → u ≡ viewed g t (fork (T .view) s f) →
         Left (Fork n) out (answer.Done 1) u (set out 0 r)
     fork-left n s f v e d b =
         let w = taken (Fork n) (slot T n) s f v e d in
-        grown (Fork n) _ (w .0) refl (acted-is T (doF (slot T n))) (b ∙ ap₂ (λ (s f : ℕ). viewed g t (fork (T .view) s f)) (w .1) (w .2))
+        grown (Fork n) _ (w .0) refl (acted-is T (doF (slot T n)) refl) (b ∙ ap₂ (λ (s f : ℕ). viewed g t (fork (T .view) s f)) (w .1) (w .2))

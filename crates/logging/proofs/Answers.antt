@@ -19,13 +19,14 @@ use Rattle.log.specs.Compress as log
 use Rattle.log.proofs.Tools.{take-sets}
 use Rattle.model.specs.declared.Call.{Call}
 use Rattle.model.specs.declared.Call.the-variants.{Barrier, Compress, FreeList}
+use Rattle.model.specs.State.{synced}
 use Rattle.model.specs.Layout.{stateOf, stored}
 use Rattle.model.specs.Memory.{writtenAt}
 use Rattle.model.specs.Calls.{pairs, compressed, freeList, logged, result, written, effect}
 use Rattle.model.proofs.RoomAfterC.{compressed-short}
 use Rattle.tables.specs.Ready.{Ready, OutLong}
 use Rattle.tables.specs.Outcome.{replied, tablesLeft, logLeft, outLeft}
-use Rattle.tables.proofs.Stores.{store-used}
+use Rattle.tables.proofs.Steps.{Holds, holds-first, holds-roomy, holds-free, holds-says, step-used}
 use Rattle.logging.proofs.Births.{words, kept, free-is}
 use Rattle.logging.proofs.Told.{runs-same, kept-compressed}
 use Rattle.logging.proofs.Listing.{pairsFrom}
@@ -71,7 +72,7 @@ told g t = pairsFrom (g .per) (freeIn (words t)) 0 (blocks g)
 module _ {g : Geometry} {t : List ℕ} (R : Ready g t) where
   told-is : told g t ≡ freeList g (stateOf g t)
   unfolding freeList runs
-  told-is = ap pairs (runs-same (g .per) _ _ 0 0 (blocks g) (λ i l h. free-is R i (omega arith)))
+  told-is = ap pairs (runs-same (g .per) _ _ 0 0 (blocks g) (λ i l h. free-is (R .roomy) (R .free) i (omega arith)))
 
   pub listed : (out out′ : List ℕ) (n : ℕ) → OutLong g out → n ≡ length (told g t) → out′ ≡ sets out 0 (told g t) → n ≤ 2 * blocks g →
       (replyOf (Done n) out′ ≡ replied g t FreeList) × (out′ ≡ outLeft g t out FreeList)
@@ -80,6 +81,14 @@ module _ {g : Geometry} {t : List ℕ} (R : Ready g t) where
       let is : n ≡ length (freeList g (stateOf g t)) = e ∙ ap length told-is in
       let all : out′ ≡ sets out 0 (freeList g (stateOf g t)) = eo ∙ ap (sets out 0) told-is in
       (rw (is, all) (reply-done g t FreeList refl out (omega arith)), all ∙ sym (out-done g t FreeList refl out))
+
+-- ── Y and C release what waits ──
+
+-- the tables u, when the blocks that wait in t are released
+pub synced-holds : {g : Geometry} {t u : List ℕ} → Ready g t → u ≡ stored g (synced (stateOf g t)) t → Holds g t (synced (stateOf g t)) u
+synced-holds {g} {t} {u} R e =
+    let S = holds-first R .shaped in
+    record { is = e; shaped = record { view = S .view; slots = S .slots; pages = S .pages; blocks = S .blocks; mark = S .mark; few = omega arith } }
 
 -- ── Y ──
 
@@ -98,20 +107,22 @@ module _ (g : Geometry) (t log : List ℕ) (used : ℕ) (eu : used ≡ getD t 9 
       let e : replied g t Barrier ≡ refused 14 = rw (used-is, lt-ltb (g .words - used) 1 h) in
       (λ out. sym e, (tables-refused g t Barrier 14 e, log-refused g t Barrier 14 e log))
 
-  pub barrier-done : (log′ : List ℕ) → Ready g t → 1 ≤ g .words - used → log′ ≡ writeAt log (8 * used) (wordBytes 3) → Left (Done 0) (set t 9 (used + 1)) log′
+  pub barrier-done : (log′ u : List ℕ) → Ready g t → 1 ≤ g .words - used → log′ ≡ writeAt log (8 * used) (wordBytes 3) →
+      u ≡ stored g (synced (stateOf g t)) t → Left (Done 0) (set u 9 (used + 1)) log′
   unfolding replied replyOf logged
-  barrier-done log′ R h el =
+  barrier-done log′ u R h el es =
       let a : replied g t Barrier ≡ accepted [] = rw (used-is, le-ltb (g .words - used) 1 h) in (
         λ out. sym a,
         (
-          store-used g t (R .roomy) (R .made) (R .free) (used + 1) ∙ rw (sym used-is) (sym (tables-done g t Barrier a)),
+          step-used g t (R .roomy) (synced-holds R es) (used + 1) .is ∙ rw (sym used-is) (sym (tables-done g t Barrier a)),
           el ∙ rw (sym used-is) (ap (writeAt log (8 * stateOf g t .used)) (sym (append-nil (wordBytes 3))) ∙ sym (log-done g t Barrier a log)),
         ),
       )
 
--- ── C, with n bytes written ──
+-- ── C, with n bytes written: u is t with all released ──
 
-module _ (g : Geometry) (t : List ℕ) (R : Ready g t) (n : ℕ) (en : n ≡ 8 * length (log.compressed (g .arenas) (g .per) (kept (words t)))) where
+module _ (g : Geometry) (t u : List ℕ) (R : Ready g t) (es : u ≡ stored g (synced (stateOf g t)) t) (n : ℕ)
+    (en : n ≡ 8 * length (log.compressed (g .arenas) (g .per) (kept (words u)))) where
   abbrev anew : List ℕ
   anew = compressed g (stateOf g t)
 
@@ -119,23 +130,28 @@ module _ (g : Geometry) (t : List ℕ) (R : Ready g t) (n : ℕ) (en : n ≡ 8 *
   unfolding replied
   accepts = rw (le-ltb (g .words) (length anew) (omega (arith, compressed-short g (stateOf g t), R .roomy .inside .words-least)))
 
+  held-told : log.compressed (g .arenas) (g .per) (kept (words u)) ≡ compressed g (stateOf g t)
+  held-told =
+      let H = synced-holds R es in
+      kept-compressed (holds-roomy g t (R .roomy) H) (holds-free g t (R .roomy) H) (stateOf g t) (holds-says g t (R .roomy) H)
+
   pub words-are : n / 8 ≡ length anew
-  words-are = let e : n ≡ 8 * length anew = en ∙ ap (λ (l : List ℕ). 8 * length l) (kept-compressed R) in omega arith
+  words-are = let e : n ≡ 8 * length anew = en ∙ ap (λ (l : List ℕ). 8 * length l) held-told in omega arith
 
   pub words-few : n / 8 ≤ 8192
   words-few = omega (arith, words-are, compressed-short g (stateOf g t), R .roomy .inside .blocks-most)
 
-  pub compressed-done : (log₀ log′ out : List ℕ) → OutLong g out → log′ ≡ writeAt log₀ 0 (bytesOf (log.compressed (g .arenas) (g .per) (kept (words t))))
-      → (replyOf (Done 1) (set out 0 (n / 8)) ≡ replied g t Compress) × ((set t 9 (n / 8) ≡ tablesLeft g t Compress)
+  pub compressed-done : (log₀ log′ out : List ℕ) → OutLong g out → log′ ≡ writeAt log₀ 0 (bytesOf (log.compressed (g .arenas) (g .per) (kept (words u))))
+      → (replyOf (Done 1) (set out 0 (n / 8)) ≡ replied g t Compress) × ((set u 9 (n / 8) ≡ tablesLeft g t Compress)
       × ((log′ ≡ logLeft g t log₀ Compress) × (set out 0 (n / 8) ≡ outLeft g t out Compress)))
   unfolding logged
   compressed-done log₀ log′ out long el =
       rw words-are (
         reply-done g t Compress accepts out (omega arith),
         (
-          store-used g t (R .roomy) (R .made) (R .free) (length anew) ∙ sym (tables-done g t Compress accepts),
+          step-used g t (R .roomy) (synced-holds R es) (length anew) .is ∙ sym (tables-done g t Compress accepts),
           (
-            el ∙ ap (λ (l : List ℕ). writeAt log₀ 0 (bytesOf l)) (kept-compressed R) ∙ sym (log-done g t Compress accepts log₀),
+            el ∙ ap (λ (l : List ℕ). writeAt log₀ 0 (bytesOf l)) held-told ∙ sym (log-done g t Compress accepts log₀),
             sym (out-done g t Compress accepts out),
           ),
         ),

@@ -11,9 +11,10 @@ use Rattle.log.specs.Compress.{runWords, runsWords}
 use Rattle.log.specs.Compress as log
 use Rattle.log.proofs.Walking.{arena-inside}
 use Rattle.log.proofs.Compressing.{wordsFrom, ending-words}
+use Rattle.model.specs.State.{State, synced}
 use Rattle.model.specs.Layout.{stateOf}
 use Rattle.model.specs.Calls.{compressed}
-use Rattle.tables.specs.Ready.{Ready}
+use Rattle.tables.specs.Ready.{Roomy, FreeWords}
 use Rattle.logging.proofs.Births.{words, kept, kept-is}
 use Rattle.logging.proofs.NextRun.{Next, next-run}
 
@@ -30,10 +31,11 @@ compressed-same : (arenas per : ℕ) (t u : ℕ → Bool) → ((b : ℕ) → b <
 unfolding log.compressed runs
 compressed-same arenas per t u f = ap runsWords (runs-same per t u 0 0 (arenas * per) (λ i l h. f i (omega arith)))
 
--- the log that the free words tell is the store's
-pub kept-compressed : {g : Geometry} {t : List ℕ} → Ready g t → log.compressed (g .arenas) (g .per) (kept (words t)) ≡ compressed g (stateOf g t)
+-- the log that the free words tell, where no block waits, is the store's
+pub kept-compressed : {g : Geometry} {t : List ℕ} → Roomy g t → FreeWords g t → (T : State) → stateOf g t ≡ synced T →
+    log.compressed (g .arenas) (g .per) (kept (words t)) ≡ compressed g T
 unfolding compressed
-kept-compressed {g} {t} R = compressed-same (g .arenas) (g .per) _ _ (kept-is R)
+kept-compressed {g} {t} roomy free T e = compressed-same (g .arenas) (g .per) _ _ (kept-is roomy free T e)
 
 -- ── the next run of blocks that may not be given ──
 

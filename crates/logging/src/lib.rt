@@ -20,11 +20,12 @@ use choice::first_kept;
 use geometry::Geometry;
 use log::compress::put_run;
 use log::word::append;
+use tables::births::release;
 use tables::cells::FREE;
 use tables::cells::USED;
 use tables::find::wide;
 
-// Y: a barrier behind the last word. It gives no numbers, whatever a result buffer holds.
+// Y: a barrier behind the last word; no block waits from now on. It gives no numbers, whatever a result buffer holds.
 pub fn barrier(g: Geometry, t: &mut [u32], log: &mut [u8]) -> Answer
     requires { ⌜ Ready g (now t) × LogLong g (now log) ⌝ }
     ensures reply { λ r. ⌜ ((out : List ℕ) → replyOf r out ≡ replied g (now (t .entry)) Barrier) ⌝ }
@@ -36,6 +37,7 @@ pub fn barrier(g: Geometry, t: &mut [u32], log: &mut [u8]) -> Answer
         return Answer::Refused(14);
     }
     append(log, 8 * used, 3);
+    release(t, g);
     t[USED] = (used + 1) as u32;
     Answer::Done(0)
 }
@@ -63,7 +65,7 @@ fn put_kept(log: &mut [u8], words: &[u32], arenas: usize, per: usize) -> usize
     append(log, used, 3)
 }
 
-// C: the log anew, compressed.
+// C: the log anew, compressed. No block waits from now on: what may not be given is then what is held.
 pub fn compress_log(g: Geometry, t: &mut [u32], log: &mut [u8], out: &mut [u32]) -> Answer
     requires { ⌜ Ready g (now t) × LogLong g (now log) × OutLong g (now out) ⌝ }
     ensures reply { λ r. ⌜ replyOf r (now (out .exit)) ≡ replied g (now (t .entry)) Compress ⌝ }
@@ -71,6 +73,7 @@ pub fn compress_log(g: Geometry, t: &mut [u32], log: &mut [u8], out: &mut [u32])
     ensures log { λ r. ⌜ now (log .exit) ≡ logLeft g (now (t .entry)) (now (log .entry)) Compress ⌝ }
     ensures out { λ r. ⌜ now (out .exit) ≡ outLeft g (now (t .entry)) (now (out .entry)) Compress ⌝ }
 {
+    release(t, g);
     let bytes = put_kept(log, &t[FREE..FREE + 64], g.arenas, g.per);
     t[USED] = (bytes / 8) as u32;
     out[0] = (bytes / 8) as u32;

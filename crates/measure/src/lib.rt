@@ -6,7 +6,7 @@ use session::start;
 // The replies to the lines of a text, in the lent buffer; stops once a longest reply no longer fits. Returns how many bytes of replies there are.
 #[no_mangle]
 pub extern "C" fn measure_script(text: &[u8], replies: &mut [u8]) -> usize {
-    let mut t = [0u32; 36864];
+    let mut t = [0u32; 43008];
     let mut log = [0u8; 65536];
     let mut out = [0u32; 4160];
     let session = start();

@@ -1,6 +1,6 @@
 -- A birth and its free word are one store: the tables with another birth are the tables with two numbers replaced.
 use mathlib.Core.Path.{_≡_, refl, sym, ap, ap₂, _∙_}
-use mathlib.Core.Bool.{Bool, cond, _&&_}
+use mathlib.Core.Bool.{Bool, not, cond, _&&_}
 use mathlib.Core.List.{List}
 use Prim.Native.Nat.{ℕ, zero, suc, _+_, _-_, _*_, _/_, _^_, _≤_, _<_, min}
 use native.Mathlib.Omega.{arith}
@@ -13,14 +13,15 @@ use Rattle.geometry.specs.Limits.{Inside, blocks}
 use Rattle.choice.specs.Words.{wordOf}
 use Rattle.model.specs.Table.{put}
 use Rattle.model.specs.View.{View, withBirth}
-use Rattle.model.specs.Held.{available}
+use Rattle.model.specs.Lists.{elem}
+use Rattle.model.specs.Held.{waits, available}
 use Rattle.model.specs.State.{State, withView}
 use Rattle.model.specs.Layout.{freeCell, birthCell, pageCell, listCell, need, freeWord, headerNumber, columnNumber, pageNumber, listNumber, stored}
 use Rattle.answer.proofs.Cases.{cases, either, same?}
 use Rattle.model.proofs.TabFacts.{put-at, put-other}
 use Rattle.model.proofs.DoneSound.{and-l}
 use Rattle.model.proofs.StoredFacts.{free-number}
-use Rattle.model.proofs.LayoutFacts.{stored-length, stored-header, stored-column, stored-spare, stored-page, stored-list, stored-birth, stored-beyond, tables-ext}
+use Rattle.model.proofs.LayoutFacts.{stored-length, stored-header, stored-column, stored-spare, stored-page, stored-list, stored-birth, stored-wait, stored-beyond, tables-ext}
 
 -- a word says of its numbers what they are
 pub word-ext : (p q : ℕ → Bool) (n i : ℕ) → ((j : ℕ) → i ≤ j → j < i + n → p j ≡ q j) → wordOf p i n ≡ wordOf q i n
@@ -30,11 +31,12 @@ word-ext p q (suc n) i h =
     ap₂ (λ v w. v + w) (word-ext p q n i (λ j l m. h j l (omega arith))) (ap (λ t. cond t (2 ^ n) 0) (h (i + n) (omega arith) (omega arith)))
 
 -- another birth of b changes the word of b alone
-pub word-off : (K : View) (b v k : ℕ) → (k ≡ b / 32 → ⊥) → freeWord (withBirth K (put (K .birth) b v)) k ≡ freeWord K k
-unfolding freeWord available
-word-off K b v k n =
-    word-ext (λ c. eqb (put (K .birth) b v c) 0) (λ c. eqb (K .birth c) 0) (min 32 (K .blocks - 32 * k)) (32 * k)
-    (λ j l m. ap (λ w. eqb w 0) (put-other (K .birth) b v j (λ e. n (let z : k ≡ b / 32 = omega arith in z))))
+pub word-off : (T : State) (b v k : ℕ) → (k ≡ b / 32 → ⊥) → freeWord (withView T (withBirth (T .view) (put (T .view .birth) b v))) k ≡ freeWord T k
+unfolding freeWord available waits
+word-off T b v k n =
+    let f : ℕ → ℕ = T .view .birth in
+    word-ext (λ c. eqb (put f b v c) 0 && not (elem c (T .waiting))) (λ c. eqb (f c) 0 && not (elem c (T .waiting))) (min 32 (T .view .blocks - 32 * k)) (32 * k)
+    (λ j l m. ap (λ w. eqb w 0 && not (elem j (T .waiting))) (put-other f b v j (λ e. n (let z : k ≡ b / 32 = omega arith in z))))
 
 module _ (g : Geometry) (T : State) (t : List ℕ) (room : need g ≤ length t) (b v : ℕ) (hb : b < blocks g) (inside : Inside g) where
   abbrev K : View
@@ -48,15 +50,15 @@ module _ (g : Geometry) (T : State) (t : List ℕ) (room : need g ≤ length t) 
   unfolding headerNumber
   header-kept i n =
       cases (either (leb 64 i && ltb (i - 64) 64))
-      (λ y. rw (word-off (T .view) b v (i - 64) (λ e. n (let z : i ≡ 64 + b / 32 = omega (arith, leb-true 64 i (and-l (leb 64 i) _ y)) in z))))
+      (λ y. rw (word-off T b v (i - 64) (λ e. n (let z : i ≡ 64 + b / 32 = omega (arith, leb-true 64 i (and-l (leb 64 i) _ y)) in z))))
       (λ m. rw m)
 
   -- THE BIRTH OF b IS v: two numbers
   pub birth-put : stored g (withView T (withBirth (T .view) (put (T .view .birth) b v))) t ≡
-      set (set (stored g T t) (birthCell (g .records) b) v) (freeCell (b / 32)) (freeWord (withBirth (T .view) (put (T .view .birth) b v)) (b / 32))
+      set (set (stored g T t) (birthCell (g .records) b) v) (freeCell (b / 32)) (freeWord (withView T (withBirth (T .view) (put (T .view .birth) b v))) (b / 32))
   unfolding columnNumber pageNumber listNumber
   birth-put =
-      let w : ℕ = freeWord K (b / 32) in
+      let w : ℕ = freeWord U (b / 32) in
       let a : ℕ = birthCell (g .records) b in
       let s : List ℕ = stored g T t in
       let low : b / 32 < 64 = omega (arith, inside .blocks-most) in
@@ -84,6 +86,8 @@ module _ (g : Geometry) (T : State) (t : List ℕ) (room : need g ≤ length t) 
             ap (λ k. getD (set s a v) (birthCell (g .records) k) 0) e ∙ getD-set-same s a v 0 (omega arith)))
             (λ n. put-other (T .view .birth) b v c n ∙
             sym (off (birthCell (g .records) c) (λ e. let z : ⊥ = omega arith in z) (λ e. n (let z : c ≡ b = omega arith in z)) ∙ stored-birth g T t room c hc));
+        wait = λ i l h. stored-wait g U t room i l h ∙
+            sym (off i (λ e. let z : ⊥ = omega arith in z) (λ e. let z : ⊥ = omega arith in z) ∙ stored-wait g T t room i l h);
         beyond = λ i h. stored-beyond g U t i h ∙
             sym (off i (λ e. let z : ⊥ = omega arith in z) (λ e. let z : ⊥ = omega arith in z) ∙ stored-beyond g T t i h);
       })

@@ -98,7 +98,7 @@ module _ (g : Geometry) (inside : Inside g) (T : State) (R : Fine g T) where
 
   listed-le : length (freeList g T) ≤ 2 * blocks g
   unfolding freeList runs
-  listed-le = omega (arith, runs-le (g .per) (available (T .view)) 0 0 (blocks g))
+  listed-le = omega (arith, runs-le (g .per) (available T) 0 0 (blocks g))
 
   some : 1 ≤ blocks g
   some = one-block (g .arenas) (g .per) (inside .arenas-least) (inside .per-least)

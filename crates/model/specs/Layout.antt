@@ -1,13 +1,15 @@
 -- THE LAYOUT of the lent tables: one list of numbers. R record slots, N blocks.
 --   0-5          the six numbers
 --   6-9          last number used, counter, writes of this turn, log words used
+--   11           how many blocks wait
 --   16-31        the arenas' marks
 --   64-127       free words: bit i of word k is 1 exactly where block 32 k + i may be given
 --   192, 256, 320, 384, 448    columns of 64 slots: number (0: empty slot), open (1) or sealed (0), record before it in its line (a link), base
 --                (a link), length of the deadlist
 --   2048         pages, 256 a slot (block + 1, 0 for nothing)
 --   2048 + 256 R deadlists, 256 a slot: the first `length` numbers of a row are the blocks, in the order of joining
---   2048 + 512 R births (0: free)
+--   2048 + 512 R births (0: on no page)
+--   2048 + 512 R + 3 N    the blocks that wait, in the order in which they were freed
 -- All others are spare.
 use mathlib.Core.Bool.{Bool, cond, _&&_}
 use mathlib.Core.List.{List, [], _∷_}
@@ -54,15 +56,18 @@ listCell R s i = 2048 + 256 * R + 256 * s + i
 abbrev pub birthCell : ℕ → ℕ → ℕ
 birthCell R b = 2048 + 512 * R + b
 
+abbrev pub waitCell : ℕ → ℕ → ℕ → ℕ
+waitCell R N i = 2048 + 512 * R + 3 * N + i
+
 -- how many numbers a geometry needs
 abbrev pub need : Geometry → ℕ
-need g = 2048 + 512 * g .records + blocks g
+need g = 2048 + 512 * g .records + 4 * blocks g
 
 -- ── the free words ──
 
 -- bit i of word k is 1 exactly where block 32 k + i may be given; no number from N on is a block
-unfoldable pub freeWord : View → ℕ → ℕ
-freeWord K k = wordOf (available K) (32 * k) (min 32 (K .blocks - 32 * k))
+unfoldable pub freeWord : State → ℕ → ℕ
+freeWord T k = wordOf (available T) (32 * k) (min 32 (T .view .blocks - 32 * k))
 
 -- ── what tables say ──
 
@@ -99,6 +104,7 @@ stateOf g t =
       counter = getD t 7 0;
       writes = getD t 8 0;
       used = getD t 9 0;
+      waiting = numbers t (waitCell (g .records) (blocks g) 0) (getD t 11 0);
     }
 
 -- ── tables that say something: every number that the layout names is written, every other stays ──
@@ -115,9 +121,10 @@ headerNumber g T t i =
     (cond (eqb i 7) (T .counter)
     (cond (eqb i 8) (T .writes)
     (cond (eqb i 9) (T .used)
+    (cond (eqb i 11) (length (T .waiting))
     (cond (leb 16 i && ltb (i - 16) (g .arenas)) (T .mark (i - 16))
-    (cond (leb 64 i && ltb (i - 64) 64) (freeWord (T .view) (i - 64))
-    (getD t i 0))))))))))))
+    (cond (leb 64 i && ltb (i - 64) 64) (freeWord T (i - 64))
+    (getD t i 0)))))))))))))
 
 -- number s of column f
 unfoldable pub columnNumber : View → List ℕ → ℕ → ℕ → ℕ
@@ -136,6 +143,10 @@ pageNumber K t s x = cond (ltb x (K .pages)) (K .page s x) (getD t (pageCell s x
 unfoldable pub listNumber : View → List ℕ → ℕ → ℕ → ℕ
 listNumber K t s i = cond (ltb i (length (K .list s))) (getD (K .list s) i 0) (getD t (listCell (K .slots) s i) 0)
 
+-- number i behind the births: of the blocks that wait, from a on
+unfoldable pub waitNumber : List ℕ → List ℕ → ℕ → ℕ → ℕ
+waitNumber l t a i = cond (leb a i && ltb (i - a) (length l)) (getD l (i - a) 0) (getD t i 0)
+
 -- number i of the tables t when they say T
 unfoldable pub numberAt : Geometry → State → List ℕ → ℕ → ℕ
 numberAt g T t i =
@@ -145,8 +156,9 @@ numberAt g T t i =
     (cond (ltb i (listCell (g .records) 0 0)) (pageNumber (T .view) t ((i - 2048) / 256) ((i - 2048) % 256))
     (cond (ltb i (birthCell (g .records) 0))
     (listNumber (T .view) t ((i - listCell (g .records) 0 0) / 256) ((i - listCell (g .records) 0 0) % 256))
-    (cond (ltb i (need g)) (T .view .birth (i - birthCell (g .records) 0))
-    (getD t i 0))))))
+    (cond (ltb i (birthCell (g .records) (blocks g))) (T .view .birth (i - birthCell (g .records) 0))
+    (cond (ltb i (need g)) (waitNumber (T .waiting) t (waitCell (g .records) (blocks g) 0) i)
+    (getD t i 0)))))))
 
 -- f at the n numbers from i on
 unfoldable pub listed : (ℕ → ℕ) → ℕ → ℕ → List ℕ

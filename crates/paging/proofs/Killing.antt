@@ -1,19 +1,21 @@
 -- The kill of a page's block: each fate's stores leave the tables with the page emptied, and what it answers.
 use mathlib.Core.Path.{_≡_, sym, ap, _∙_}
-use mathlib.Core.List.{List, [], _∷_, _++_}
+use mathlib.Core.List.{List, [], _∷_, _++_, append-nil}
 use Prim.Native.Nat.{ℕ, suc, _+_, _-_, _≤_, _<_}
 use native.Mathlib.Omega.{arith}
 use lib.ListN.{length, getD, set}
 use borrow.Author.Tests.{lt-ltb, le-ltb}
+use Rattle.answer.proofs.Cases.{cases}
 use Rattle.geometry.specs.declared.Geometry.{Geometry}
 use Rattle.geometry.specs.Limits.{blocks}
 use Rattle.model.specs.Table.{put}
 use Rattle.model.specs.View.{View, predNum, baseNum}
-use Rattle.model.specs.State.{State, withView}
+use Rattle.model.specs.State.{State, withView, withWaiting, freeAll}
 use Rattle.model.specs.Sound.{Sound}
 use Rattle.model.specs.Effects.{Fate, freed, marked, kept, fate, killed, eraseAt, erase}
 use Rattle.model.specs.Held.{freedOne, erased}
 use Rattle.model.specs.Actions.{doE, Asks}
+use Rattle.model.specs.Calls.{acted}
 use Rattle.model.specs.Layout.{lengthCell, pageCell, listCell, birthCell, viewOf, stateOf, stored}
 use Rattle.model.proofs.TabFacts.{put-same}
 use Rattle.model.proofs.DoneSound.{done-sound}
@@ -22,13 +24,15 @@ use Rattle.model.proofs.Shape.{Shaped}
 use Rattle.model.proofs.Sizes.{done-sized}
 use Rattle.model.proofs.DoneShaped.{done-shaped}
 use Rattle.model.proofs.LayoutFacts.{stored-length}
+use Rattle.model.proofs.Waiting.{once-short, acted-waits}
 use Rattle.tables.specs.Ready.{Roomy, Ready}
 use Rattle.tables.specs.Births as births
-use Rattle.tables.specs.Puts.{withPage, withList}
+use Rattle.tables.specs.Puts.{withPage, withList, withBirth, withFreed}
 use Rattle.tables.proofs.Fields
 use Rattle.tables.proofs.Ranges
 use Rattle.tables.proofs.Puts.{shaped-list}
-use Rattle.tables.proofs.Steps.{Holds, holds-first, holds-length, holds-roomy, step-page, step-freed}
+use Rattle.tables.proofs.Freeing.{waiting-length}
+use Rattle.tables.proofs.Steps.{Holds, holds-first, holds-length, holds-roomy, holds-says, step-page, step-freed}
 use Rattle.tables.proofs.Lists.{count-said, length-joined, step-joined}
 use Rattle.tables.proofs.Reading.{reads-used}
 use Rattle.tables.proofs.Matches.{freed-is, kept-is}
@@ -47,6 +51,20 @@ pub marked-dead : {g : Geometry} {t : List ℕ} → Ready g t → (s b n : ℕ) 
     n ≡ getD t (lengthCell s) 0 → set (set t (listCell (g .records) s n) b) (lengthCell s) (n + 1) ≡ stored g (deadOn g t s b) t
 unfolding deadOn
 marked-dead {g} {t} R s b n h l e = step-joined g t (R .roomy) (holds-first R) s h n b (e ∙ sym (count-said g t s h)) (omega arith) .is
+
+-- ── a block that is freed waits ──
+
+-- where none is freed, none more waits
+pub none-waits : (U : State) → U ≡ freeAll [] U
+none-waits U = ap (withWaiting U) (sym (append-nil (U .waiting)))
+
+-- a block with a birth does not wait, so that there is room for it among those that do
+pub held-room : {g : Geometry} {t : List ℕ} → Ready g t → (b : ℕ) → 0 < viewOf g t .birth b → length (stateOf g t .waiting) < blocks g
+unfolding stateOf
+held-room {g} {t} R b h =
+    once-short (b ∷ stateOf g t .waiting) (blocks g)
+    (λ c i e. omega (arith, R .waiting .unborn c i, ap (viewOf g t .birth) e), R .waiting .once)
+    (λ c i. cases i (λ e. omega (arith, Ranges.held-in R b h)) (λ j. Ranges.waiting-in R c j))
 
 -- ── page x of the record in slot s is emptied; l is its link as it was read ──
 
@@ -70,6 +88,14 @@ module _ {g : Geometry} {t : List ℕ} {s x : ℕ} (A : Target g t s x) where
   sound-after : Sound (erase (stateOf g t .view) s x)
   sound-after = done-sound (stateOf g t .view) (doE s x) (A .ready .sound) target-asks
 
+  -- not more wait than there are blocks
+  pub emptied-few : length (stateOf g t .waiting ++ freesOf g t s x) ≤ blocks g
+  unfolding acted
+  emptied-few =
+      let w = acted-waits (stateOf g t) (doE s x) (A .ready .sound) target-asks (A .ready .waiting) (λ c i. absurd i) 0 in
+      let z : erase (stateOf g t .view) s x .blocks ≡ blocks g = done-sized (stateOf g t .view) (doE s x) .blocks ∙ holds-first (A .ready) .shaped .blocks in
+      once-short (stateOf g t .waiting ++ freesOf g t s x) (blocks g) (w .once) (λ b i. omega (arith, w .below b i))
+
   -- the tables can hold the state that is left
   pub emptied-shaped : Shaped g (emptied g t s x)
   unfolding emptied
@@ -82,6 +108,7 @@ module _ {g : Geometry} {t : List ℕ} {s x : ℕ} (A : Target g t s x) where
         pages = z .pages ∙ S .pages;
         blocks = z .blocks ∙ S .blocks;
         mark = S .mark;
+        few = omega (arith, emptied-few, z .blocks ∙ S .blocks);
       }
 
   -- the answer when these blocks are freed
@@ -93,14 +120,18 @@ module _ {g : Geometry} {t : List ℕ} {s x : ℕ} (A : Target g t s x) where
     unfolding stateOf
     link-is = Fields.page-is g t s x (A .slot) (A .page) ∙ sym e
 
+    -- what is left where the page holds the link k
+    abbrev linked : ℕ → State
+    linked k = freeAll (erased (stateOf g t .view) s k) (withView (stateOf g t) (eraseAt (stateOf g t .view) s x k))
+
     pub link-le : l ≤ blocks g
     link-le = omega (arith, e, Ranges.page-cell-le (A .ready) s (A .live) x (A .page))
 
     pub emptied-none : l ≡ 0 → t ≡ stored g (emptied g t s x) t
-    unfolding emptied erase eraseAt
+    unfolding emptied erase eraseAt erased
     emptied-none z =
-        holds-first (A .ready) .is ∙
-        ap (λ k. stored g (withView (stateOf g t) (eraseAt (stateOf g t .view) s x k)) t) (sym (link-is ∙ z))
+        holds-first (A .ready) .is ∙ ap (λ U. stored g U t) (none-waits (stateOf g t)) ∙
+        ap (λ k. stored g (linked k) t) (sym (link-is ∙ z))
 
     pub none-answer : l ≡ 0 → Kept ≡ killedOf (viewOf g t .birth) (freesOf g t s x)
     unfolding erased killedOf
@@ -114,14 +145,18 @@ module _ {g : Geometry} {t : List ℕ} {s x : ℕ} (A : Target g t s x) where
       abbrev itsFate : Fate
       itsFate = fate (stateOf g t .view .birth (l - 1)) (predNum (stateOf g t .view) s) (baseNum (stateOf g t .view) s)
 
+      -- what is left before any block waits, and then
+      abbrev bare : Fate → State
+      bare f = withView (stateOf g t) (killed (stateOf g t .view) s x (l - 1) f)
+
       abbrev killedBy : Fate → State
-      killedBy f = withView (stateOf g t) (killed (stateOf g t .view) s x (l - 1) f)
+      killedBy f = freeAll (freedOne (l - 1) f) (bare f)
 
       killed-as : (f : Fate) → itsFate ≡ f → killedBy f ≡ emptied g t s x
-      unfolding emptied erase eraseAt
+      unfolding emptied erase eraseAt erased
       killed-as f d =
           let k : suc (l - 1) ≡ stateOf g t .view .page s x = omega (arith, link-is) in
-          ap killedBy (sym d) ∙ ap (λ k. withView (stateOf g t) (eraseAt (stateOf g t .view) s x k)) k
+          ap killedBy (sym d) ∙ ap linked k
 
       answer-as : (f : Fate) → itsFate ≡ f → answer (freedOne (l - 1) f) ≡ answer (freesOf g t s x)
       unfolding erased
@@ -135,8 +170,30 @@ module _ {g : Geometry} {t : List ℕ} {s x : ℕ} (A : Target g t s x) where
       pub freed-room : Roomy g (set t (pageCell s x) 0)
       freed-room = holds-roomy g t (A .ready .roomy) emptied-page
 
-      pub freed-long : (u : List ℕ) → u ≡ births.freed (g .records) (set t (pageCell s x) 0) (l - 1) → length u ≡ length t
-      freed-long u eu = ap length eu ∙ holds-length g t (A .ready .roomy) (step-freed g t (A .ready .roomy) emptied-page (l - 1) block-in)
+      -- it has a birth, and so there is room for it among those that wait
+      born : 0 < viewOf g t .birth (l - 1)
+      unfolding stateOf
+      born = let k : viewOf g t .page s x ≡ suc (l - 1) = omega (arith, link-is) in Ranges.sound (A .ready) .paged s x (l - 1) (A .live) k .born
+
+      few : length (stateOf g t .waiting) < blocks g
+      few = held-room (A .ready) (l - 1) born
+
+      pub freed-few : getD (set t (pageCell s x) 0) 11 0 < blocks g
+      unfolding withPage
+      freed-few =
+          omega (
+            arith,
+            few,
+            waiting-length g (set t (pageCell s x) 0),
+            ap (λ U. length (U .waiting)) (holds-says g t (A .ready .roomy) emptied-page),
+          )
+
+      freed-holds : Holds g t (withFreed (withPage (stateOf g t) s x 0) (l - 1)) (births.freed (g .records) (blocks g) (set t (pageCell s x) 0) (l - 1))
+      unfolding withPage stateOf
+      freed-holds = step-freed g t (A .ready .roomy) emptied-page (l - 1) block-in born few
+
+      pub freed-long : (u : List ℕ) → u ≡ births.freed (g .records) (blocks g) (set t (pageCell s x) 0) (l - 1) → length u ≡ length t
+      freed-long u eu = ap length eu ∙ holds-length g t (A .ready .roomy) freed-holds
 
       module _ (v p : ℕ) (ev : v ≡ getD t (birthCell (g .records) (l - 1)) 0) (ep : p ≡ predNum (viewOf g t) s) where
         birth-is : stateOf g t .view .birth (l - 1) ≡ v
@@ -149,10 +206,11 @@ module _ {g : Geometry} {t : List ℕ} {s x : ℕ} (A : Target g t s x) where
           unfolding stateOf
           fate-is = fate-freed _ _ _ (omega (arith, birth-is))
 
-          pub emptied-freed : (u : List ℕ) → u ≡ births.freed (g .records) (set t (pageCell s x) 0) (l - 1) → u ≡ stored g (emptied g t s x) t
+          pub emptied-freed : (u : List ℕ) → u ≡ births.freed (g .records) (blocks g) (set t (pageCell s x) 0) (l - 1) → u ≡ stored g (emptied g t s x) t
+          unfolding withFreed withBirth freedOne
           emptied-freed u eu =
-              eu ∙ step-freed g t (A .ready .roomy) emptied-page (l - 1) block-in .is ∙
-              ap (λ U. stored g U t) (freed-is (stateOf g t) s x (l - 1) ∙ killed-as freed fate-is)
+              eu ∙ freed-holds .is ∙
+              ap (λ U. stored g U t) (ap (freeAll ((l - 1) ∷ [])) (freed-is (stateOf g t) s x (l - 1)) ∙ killed-as freed fate-is)
 
           pub freed-answer : Freed (l - 1) v ≡ killedOf (viewOf g t .birth) (freesOf g t s x)
           unfolding freedOne killedOf stateOf
@@ -164,7 +222,9 @@ module _ {g : Geometry} {t : List ℕ} {s x : ℕ} (A : Target g t s x) where
           kept-fate h = fate-kept _ _ _ (omega (arith, birth-is)) (omega (arith, birth-is))
 
           pub emptied-kept : v ≤ q → set t (pageCell s x) 0 ≡ stored g (emptied g t s x) t
-          emptied-kept h = emptied-page .is ∙ ap (λ U. stored g U t) (kept-is (stateOf g t) s x (l - 1) ∙ killed-as kept (kept-fate h))
+          unfolding freedOne
+          emptied-kept h =
+              emptied-page .is ∙ ap (λ U. stored g U t) (kept-is (stateOf g t) s x (l - 1) ∙ none-waits (bare kept) ∙ killed-as kept (kept-fate h))
 
           pub kept-answer : v ≤ q → Kept ≡ killedOf (viewOf g t .birth) (freesOf g t s x)
           unfolding freedOne killedOf
@@ -203,14 +263,15 @@ module _ {g : Geometry} {t : List ℕ} {s x : ℕ} (A : Target g t s x) where
             mark-room = omega (arith, list-room, count-said g t s (A .slot))
 
             pub emptied-marked : (u : List ℕ) → u ≡ stored g (deadOn g t s (l - 1)) t → set u (pageCell s x) 0 ≡ stored g (emptied g t s x) t
-            unfolding deadOn withList withPage killed
+            unfolding deadOn withList withPage killed freedOne
             emptied-marked u eu =
                 let T : State = stateOf g t in
                 let H : Holds g t (deadOn g t s (l - 1)) u = record {
                   is = eu;
                   shaped = shaped-list g T (holds-first (A .ready) .shaped) s (list ++ ((l - 1) ∷ [])) (A .slot) (omega (arith, list-room, length-joined list (l - 1)));
                 } in
-                step-page g t (A .ready .roomy) H s x 0 (A .slot) (A .page) .is ∙ ap (λ U. stored g U t) (killed-as marked marked-fate)
+                step-page g t (A .ready .roomy) H s x 0 (A .slot) (A .page) .is ∙
+                ap (λ U. stored g U t) (none-waits (bare marked) ∙ killed-as marked marked-fate)
 
 -- ── what the tables hold when the page is empty ──
 

@@ -10,7 +10,7 @@ use Rattle.geometry.specs.Limits.{blocks}
 use Rattle.choice.specs.declared.Found.the-variants.{At}
 use Rattle.choice.specs.declared.Turn.{Turn}
 use Rattle.choice.specs.Turn.{next, turned}
-use Rattle.model.specs.State.{State, withView}
+use Rattle.model.specs.State.{State, withView, freeAll}
 use Rattle.model.specs.Effects.{place, erase, write}
 use Rattle.model.specs.Actions.{doW, Asks}
 use Rattle.model.specs.Calls.{marksAfter, given}
@@ -28,7 +28,7 @@ use Rattle.tables.proofs.Chain.{tail-longer}
 use Rattle.tables.proofs.Steps.{Holds, holds-first, holds-from, holds-roomy, holds-made, holds-free, holds-says, step-to, step-page, step-given, step-mark, step-counter, step-writes}
 use Rattle.tables.proofs.Reading.{reads-counter, reads-writes}
 use Rattle.tables.proofs.Matches.{place-is}
-use Rattle.paging.specs.Target.{Target}
+use Rattle.paging.specs.Target.{Target, freesOf}
 use Rattle.paging.specs.Kill.{emptied}
 use Rattle.paging.specs.Place.{Storable, FreeAt, placed, filled}
 use Rattle.paging.proofs.Killing
@@ -41,10 +41,11 @@ kept g t T u roomy H = record {
   made = holds-made g t roomy H;
   free = holds-free g t roomy H;
   short = λ s. omega (arith, H .shaped .view .short s, H .shaped .pages, ap (λ U. length (U .view .list s)) (holds-says g t roomy H));
+  few = omega (arith, H .shaped .few, H .shaped .blocks, ap (λ U. length (U .waiting)) (holds-says g t roomy H));
 }
 
 kept-holds : {g : Geometry} {t : List ℕ} → Storable g t → Holds g t (stateOf g t) t
-kept-holds {g} {t} k = holds-from g t (k .roomy) (k .made) (k .free) (k .short)
+kept-holds {g} {t} k = holds-from g t (k .roomy) (k .made) (k .free) (k .short) (k .few)
 
 -- ── the block's page and birth ──
 
@@ -106,9 +107,9 @@ module _ {g : Geometry} {t : List ℕ} {s x a o : ℕ} (A : Target g t s x) (P :
   abbrev b : ℕ
   b = a * g .per + o
 
-  -- the view with the block on its page
+  -- the state with the block on its page
   abbrev W : State
-  W = withView (stateOf g t) (write (stateOf g t .view) s x b)
+  W = freeAll (freesOf g t s x) (withView (stateOf g t) (write (stateOf g t .view) s x b))
 
   asks : Asks (stateOf g t .view) (doW s x b)
   unfolding stateOf viewOf
@@ -124,6 +125,7 @@ module _ {g : Geometry} {t : List ℕ} {s x a o : ℕ} (A : Target g t s x) (P :
         pages = z .pages ∙ S .pages;
         blocks = z .blocks ∙ S .blocks;
         mark = S .mark;
+        few = omega (arith, Killing.emptied-few A, z .blocks ∙ S .blocks);
       }
 
   -- u: the page is empty
@@ -148,7 +150,7 @@ module _ {g : Geometry} {t : List ℕ} {s x a o : ℕ} (A : Target g t s x) (P :
       unfolding emptied placed write place
       block-holds =
           step-to g t (A .ready .roomy) (Killing.emptied-holds A u eu) (λ U. placed U s x b) v ev written-shaped
-          (λ r h. tail-longer g t (emptied g t s x) W r (omega arith))
+          (λ r h. tail-longer g t (emptied g t s x) W r (omega arith)) (omega arith)
 
       pub block-kept : Storable g v
       block-kept = kept g t W v (A .ready .roomy) block-holds
@@ -163,7 +165,7 @@ module _ {g : Geometry} {t : List ℕ} {s x a o : ℕ} (A : Target g t s x) (P :
       unfolding filled given
       page-filled w ew =
           step-to g t (A .ready .roomy) block-holds (λ U. given g U (At a o)) w ew (given-shaped g W a o written-shaped (P .arena))
-          (λ r h. tail-longer g t W (given g W (At a o)) r (omega arith)) .is
+          (λ r h. tail-longer g t W (given g W (At a o)) r (omega arith)) (omega arith) .is
 
   -- the tables with the page filled hold that state
   pub filled-shaped : Shaped g (filled g t s x a o)

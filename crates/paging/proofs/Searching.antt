@@ -68,13 +68,13 @@ module _ {g : Geometry} {t : List ℕ} (R : Ready g t) where
   mark-at : (a : ℕ) → a < g .arenas → getD marks a 0 ≡ stateOf g t .mark a
   mark-at a h = part-at t 16 16 a (omega (arith, R .roomy .inside .arenas-most)) ∙ sym (Fields.mark-is g t a h)
 
-  word-at : (k : ℕ) → k < 64 → getD words k 0 ≡ wordOf (available (stateOf g t .view)) (32 * k) (min 32 (blocks g - 32 * k))
+  word-at : (k : ℕ) → k < 64 → getD words k 0 ≡ wordOf (available (stateOf g t)) (32 * k) (min 32 (blocks g - 32 * k))
   unfolding freeWord stateOf viewOf
   word-at k h = part-at t 64 64 k h ∙ R .free k h
 
-  free-at : (b : ℕ) → b < blocks g → freeIn words b ≡ available (stateOf g t .view) b
+  free-at : (b : ℕ) → b < blocks g → freeIn words b ≡ available (stateOf g t) b
   free-at b h =
-      says (available (stateOf g t .view)) words (min 32 (blocks g - 32 * (b / 32))) b
+      says (available (stateOf g t)) words (min 32 (blocks g - 32 * (b / 32))) b
       (word-at (b / 32) (omega (arith, R .roomy .inside .blocks-most))) (omega arith)
 
   pub search-fine : (c k : ℕ) → c ≡ getD t 7 0 → k ≤ 2 → Searchable (take 64 (drop 64 t)) (take 16 (drop 16 t)) (g .arenas) (g .per) c k
@@ -97,9 +97,9 @@ module _ {g : Geometry} {t : List ℕ} (R : Ready g t) where
     found-is : r ≡ found g (stateOf g t) v
     unfolding found markIn
     found-is =
-        d ∙ chosen-same (freeIn words) (available (stateOf g t .view)) (markIn marks) (stateOf g t .mark) (g .arenas) (g .per)
+        d ∙ chosen-same (freeIn words) (available (stateOf g t)) (markIn marks) (stateOf g t .mark) (g .arenas) (g .per)
         free-at mark-at (λ a l. omega (arith, mark-at a l, R .range .marks a)) (c + k) (R .roomy .inside .arenas-least) ∙
-        ap (λ f. chosen (available (stateOf g t .view)) (stateOf g t .mark) (g .arenas) (g .per) f)
+        ap (λ f. chosen (available (stateOf g t)) (stateOf g t .mark) (g .arenas) (g .per) f)
         (omega (arith, Fields.counter-is g t))
 
     pub search-at : (a o : ℕ) → r ≡ At a o → spot.At a o n ≡ spotOf n (found g (stateOf g t) v)

@@ -9,7 +9,7 @@ use Rattle.session.specs.declared.Session.{Session}
 use Rattle.session.specs.Step.{Kept}
 
 pub record Running (s : Session) (t log out replies text : List ℕ) (n : ℕ) : Type 0 where
-  pub tables : length t ≡ 36864
+  pub tables : length t ≡ 43008
   pub words : length log ≡ 65536
   pub numbers : length out ≡ 4160
   pub buffer : length replies ≡ 65536
@@ -23,9 +23,9 @@ within k n l h i = omega (arith, length-take-le n l i)
 
 -- before the first read
 pub running : (s : Session) → s .made ≡ 0 →
-    Running s (replicate 36864 0) (replicate 65536 0) (replicate 4160 0) (replicate 65536 0) (replicate 65536 0) 0
+    Running s (replicate 43008 0) (replicate 65536 0) (replicate 4160 0) (replicate 65536 0) (replicate 65536 0) 0
 running s e =
-    let t = length-replicate {A = ℕ} 36864 0 in
+    let t = length-replicate {A = ℕ} 43008 0 in
     let l = length-replicate {A = ℕ} 65536 0 in
     let o = length-replicate {A = ℕ} 4160 0 in
     record {

@@ -58,7 +58,7 @@ fn answer(
 }
 
 fn main() {
-    let mut t = [0u32; 36864];
+    let mut t = [0u32; 43008];
     let mut log = [0u8; 65536];
     let mut out = [0u32; 4160];
     let mut replies = [0u8; 65536];

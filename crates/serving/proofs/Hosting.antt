@@ -115,7 +115,7 @@ or-no true b e = absurd (let z : _≡_ {A = ℕ} 0 1 = cc in omega arith)
 
 pub record Long (H : Lent) : Type 0 where
   pub run : 7 ≤ length (H .run)
-  pub tables : 36864 ≤ length (H .memory .tables)
+  pub tables : 43008 ≤ length (H .memory .tables)
   pub log : 65536 ≤ length (H .memory .log)
   pub out : 4160 ≤ length (H .memory .out)
 
@@ -139,15 +139,15 @@ module _ (H : Lent) where
   run-short h = rw (lt-ltb (length (H .run)) 7 h)
 
   module _ (run : 7 ≤ length (H .run)) where
-    pub tables-short : length (H .memory .tables) < 36864 → true ≡ lentShort H
+    pub tables-short : length (H .memory .tables) < 43008 → true ≡ lentShort H
     unfolding lentShort
-    tables-short h = rw (le-ltb (length (H .run)) 7 run, lt-ltb (length (H .memory .tables)) 36864 h)
+    tables-short h = rw (le-ltb (length (H .run)) 7 run, lt-ltb (length (H .memory .tables)) 43008 h)
 
-    module _ (tables : 36864 ≤ length (H .memory .tables)) where
+    module _ (tables : 43008 ≤ length (H .memory .tables)) where
       pub log-short : length (H .memory .log) < 65536 → true ≡ lentShort H
       unfolding lentShort
       log-short h =
-          rw (le-ltb (length (H .run)) 7 run, le-ltb (length (H .memory .tables)) 36864 tables, lt-ltb (length (H .memory .log)) 65536 h)
+          rw (le-ltb (length (H .run)) 7 run, le-ltb (length (H .memory .tables)) 43008 tables, lt-ltb (length (H .memory .log)) 65536 h)
 
       module _ (log : 65536 ≤ length (H .memory .log)) where
         pub out-short : length (H .memory .out) < 4160 → true ≡ lentShort H
@@ -155,7 +155,7 @@ module _ (H : Lent) where
         out-short h =
             rw (
               le-ltb (length (H .run)) 7 run,
-              le-ltb (length (H .memory .tables)) 36864 tables,
+              le-ltb (length (H .memory .tables)) 43008 tables,
               le-ltb (length (H .memory .log)) 65536 log,
               lt-ltb (length (H .memory .out)) 4160 h,
             )
@@ -165,7 +165,7 @@ module _ (H : Lent) where
         replies-short h =
             rw (
               le-ltb (length (H .run)) 7 run,
-              le-ltb (length (H .memory .tables)) 36864 tables,
+              le-ltb (length (H .memory .tables)) 43008 tables,
               le-ltb (length (H .memory .log)) 65536 log,
               le-ltb (length (H .memory .out)) 4160 h,
             )
@@ -178,7 +178,7 @@ session-as run e₀ e₁ e₂ e₃ e₄ e₅ e₆ = cc
 pub inside-limits : (s : Session) → (made? s && not (fits (s .g))) ≡ false → 0 < s .made → Inside (s .g)
 inside-limits s e h = fits-inside (s .g) (passed s (fits (s .g)) e h)
 
-pub tables-enough : (g : Geometry) (t : List ℕ) → Inside g → 36864 ≤ length t → need g ≤ length t
+pub tables-enough : (g : Geometry) (t : List ℕ) → Inside g → 43008 ≤ length t → need g ≤ length t
 tables-enough g t i h = omega (arith, i .records-most, i .blocks-most)
 
 pub log-enough : (g : Geometry) (log : List ℕ) → Inside g → 65536 ≤ length log → 8 * g .words ≤ length log

@@ -71,7 +71,7 @@ one-more k (suc n) text room p e h a b =
     sym (enough k n text room (servedLine text p) (omega arith) (omega arith)) ∙ rw e
 
 -- before there is a store, any memory that is long enough will do
-pub no-store-kept : (s : Session) (t bytes numbers : List ℕ) → s .made ≡ 0 → 36864 ≤ length t → 65536 ≤ length bytes → 4160 ≤ length numbers
+pub no-store-kept : (s : Session) (t bytes numbers : List ℕ) → s .made ≡ 0 → 43008 ≤ length t → 65536 ≤ length bytes → 4160 ≤ length numbers
     → Kept s t bytes numbers
 no-store-kept s t bytes numbers e a b d =
     record {

@@ -40,13 +40,13 @@ long-lends : (H : Lent) → lentShort H ≡ false → Lends H
 unfolding lentShort
 long-lends H e =
     let a = or-false (ltb (length (H .run)) 7) _ e in
-    let b = or-false (ltb (length (H .memory .tables)) 36864) _ (a .1) in
+    let b = or-false (ltb (length (H .memory .tables)) 43008) _ (a .1) in
     let c = or-false (ltb (length (H .memory .log)) 65536) _ (b .1) in
     let d = or-false (ltb (length (H .memory .out)) 4160) _ (c .1) in
     record {
       run = ltb-false (length (H .run)) 7 (a .0);
       ample = record {
-        tables = ltb-false (length (H .memory .tables)) 36864 (b .0);
+        tables = ltb-false (length (H .memory .tables)) 43008 (b .0);
         log = ltb-false (length (H .memory .log)) 65536 (c .0);
         out = ltb-false (length (H .memory .out)) 4160 (d .0);
       };
@@ -58,7 +58,7 @@ unfolding lentShort
 lends-long H l =
     rw (
       le-ltb (length (H .run)) 7 (l .run),
-      le-ltb (length (H .memory .tables)) 36864 (l .ample .tables),
+      le-ltb (length (H .memory .tables)) 43008 (l .ample .tables),
       le-ltb (length (H .memory .log)) 65536 (l .ample .log),
       le-ltb (length (H .memory .out)) 4160 (l .ample .out),
       le-ltb (length (H .replies)) longest (l .replies),

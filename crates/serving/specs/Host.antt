@@ -40,7 +40,7 @@ runOf s = s .made ∷ s .g .arenas ∷ s .g .per ∷ s .g .pages ∷ s .g .recor
 unfoldable pub lentShort : Lent → Bool
 lentShort H =
     ltb (length (H .run)) 7 ||
-    (ltb (length (H .memory .tables)) 36864 ||
+    (ltb (length (H .memory .tables)) 43008 ||
     (ltb (length (H .memory .log)) 65536 || (ltb (length (H .memory .out)) 4160 || ltb (length (H .replies)) longest)))
 
 -- once a store was made: its numbers lie inside the limits, and its tables are sound

@@ -38,7 +38,7 @@ Ends text from (e ∷ es) = (from ≤ e) × ((e ≤ length text) × (((e ≡ 0) 
 
 -- memory enough for every geometry
 pub record Ample (M : Memory) : Type 0 where
-  pub tables : 36864 ≤ length (M .tables)
+  pub tables : 43008 ≤ length (M .tables)
   pub log : 65536 ≤ length (M .log)
   pub out : 4160 ≤ length (M .out)
 

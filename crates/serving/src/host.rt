@@ -83,7 +83,7 @@ fn is_too_short(run: &[u32], tables: &[u32], log: &[u8], out: &[u32], replies: &
     if run.len() < 7 {
         return true;
     }
-    if tables.len() < 36864 {
+    if tables.len() < 43008 {
         return true;
     }
     if log.len() < 65536 {
@@ -97,7 +97,7 @@ fn is_too_short(run: &[u32], tables: &[u32], log: &[u8], out: &[u32], replies: &
 
 // Whether a store was made and its tables and log are not sound.
 fn is_unsound(s: Session, tables: &[u32], log: &[u8]) -> bool
-    requires { ⌜ (0 < s .made → Inside (s .g)) × (36864 ≤ length (now tables)) × (65536 ≤ length (now log)) ⌝ }
+    requires { ⌜ (0 < s .made → Inside (s .g)) × (43008 ≤ length (now tables)) × (65536 ≤ length (now log)) ⌝ }
     ensures { λ r. ⌜ r ≡ (not (eqb (s .made) 0) && not (sound? (s .g) (now (tables .entry)) (now (log .entry)))) ⌝ }
 {
     if s.made == 0 {

@@ -47,7 +47,7 @@ stepSession s M No = s
 
 -- what the runner keeps: memory enough for every geometry inside its limits, and, once there is a store, soundness
 pub record Kept (s : Session) (t bytes numbers : List ℕ) : Type 0 where
-  pub tables : 36864 ≤ length t
+  pub tables : 43008 ≤ length t
   pub log : 65536 ≤ length bytes
   pub out : 4160 ≤ length numbers
   pub inside : 0 < s .made → Inside (s .g)

@@ -11,7 +11,8 @@ use Rattle.answer.specs.Refusal.{Condition, decide, place, Ordered}
 use Rattle.answer.proofs.Decided.{decide-accepted, decide-refused, none-in}
 use Rattle.geometry.specs.declared.Geometry.{Geometry}
 use Rattle.geometry.specs.Limits.{fits}
-use Rattle.log.specs.Tool.{heldAtEnd, readReply, readConditions, compactWords, compactReply, compactConditions, judged, alike?, verdictBy, compareConditions, compareVerdict}
+use Rattle.log.specs.Settled.{settled}
+use Rattle.log.specs.Tool.{heldAtEnd, everyConditions, everyReply, readReply, compactWords, compactReply, compactConditions, judged, alike?, verdictBy, compareConditions, compareVerdict}
 use Rattle.model.specs.declared.Call.{Call}
 use Rattle.model.specs.Calls.{result}
 use Rattle.model.specs.Layout.{stateOf}
@@ -52,9 +53,9 @@ script-iff text at H =
 
 -- the log tools
 module _ (g : Geometry) (log : List ℕ) where
-  pub read-iff : (out : List ℕ) → (codeOf (readReply g log out) ≡ 0) ↔ (readReply g log out ≡ accepted (heldAtEnd g log))
-  unfolding readReply
-  read-iff out = code-0-iff (readConditions g log out) (heldAtEnd g log) (omega arith, (omega arith, (omega arith, tt)))
+  pub read-iff : (out : List ℕ) → (codeOf (readReply g log out) ≡ 0) ↔ (readReply g log out ≡ accepted (heldAtEnd g (settled log)))
+  unfolding readReply everyReply
+  read-iff out = code-0-iff (everyConditions g (settled log) out) (heldAtEnd g (settled log)) (omega arith, (omega arith, (omega arith, tt)))
 
   pub compact-iff : (out : List ℕ) → (codeOf (compactReply g log out) ≡ 0) ↔ (compactReply g log out ≡ accepted (length (compactWords g log) ∷ []))
   unfolding compactReply

@@ -14,7 +14,8 @@ use Rattle.answer.proofs.Decided.{decide-accepted}
 use Rattle.geometry.specs.declared.Geometry.{Geometry}
 use Rattle.geometry.specs.Limits.{blocks}
 use Rattle.log.specs.Marks.{heldIn, heldBlocks}
-use Rattle.log.specs.Tool.{marksOf, heldAtEnd, readConditions, readReply, readOut, Compared, verdictOf, compactReplyOf}
+use Rattle.log.specs.Settled.{settled}
+use Rattle.log.specs.Tool.{marksOf, heldAtEnd, everyConditions, everyReply, readReply, readOut, Compared, verdictOf, compactReplyOf}
 use Rattle.log.specs.declared.tool.Compaction.{Compaction}
 use Rattle.log.specs.declared.tool.Compaction.the-variants as compaction
 use Rattle.log.specs.declared.tool.Comparison.{Comparison}
@@ -98,17 +99,17 @@ module _ (g : Geometry) (M : Memory) (c : Call) (a : Answer) (t log out : List �
 
 module _ (g : Geometry) (log out : List ℕ) where
   held-short : (l : List ℕ) → readReply g log out ≡ accepted l → length l < length out
-  unfolding readReply heldAtEnd heldBlocks
+  unfolding readReply everyReply heldAtEnd heldBlocks
   held-short l e =
-      let d = decide-accepted (readConditions g log out) (heldAtEnd g log) l e in
-      omega (arith, ap length (d .1), pass-length (heldIn (marksOf g log)) 0 (blocks g), ltb-false (length out) (2 * blocks g + 64) (d .0 .1 .0))
+      let d = decide-accepted (everyConditions g (settled log) out) (heldAtEnd g (settled log)) l e in
+      omega (arith, ap length (d .1), pass-length (heldIn (marksOf g (settled log))) 0 (blocks g), ltb-false (length out) (2 * blocks g + 64) (d .0 .1 .0))
 
   left-length : length (readOut g log out) ≡ length out
   unfolding readOut
   left-length = go (readReply g log out)
     where
-      go : (r : Reply) → length (leaves r out (sets out 0 (heldAtEnd g log))) ≡ length out
-      go (accepted l) = length-sets out 0 (heldAtEnd g log)
+      go : (r : Reply) → length (leaves r out (sets out 0 (heldAtEnd g (settled log)))) ≡ length out
+      go (accepted l) = length-sets out 0 (heldAtEnd g (settled log))
       go (refused n) = refl
 
   pub was-read : (a : Answer) (out′ : List ℕ) (old r n : ℕ) → (replyOf a out′ ≡ readReply g log out) × (out′ ≡ readOut g log out) →

@@ -3,6 +3,7 @@ pub mod Cells
 pub mod Loops
 pub mod Clauses
 pub mod Pairing
+pub mod Joining
 pub mod Free
 pub mod Whole
 pub mod Short

@@ -18,7 +18,7 @@ use Rattle.model.specs.Held.{held}
 use Rattle.model.specs.Layout.{viewOf, stateOf}
 use Rattle.model.specs.Check as check
 use Rattle.model.specs.Check.{imp, same, linked?, page?, list?, slot?, empty?, once?, allOwn, good?}
-use Rattle.model.specs.Memory.{numbers?, range?, free?, logHolds?, sound?}
+use Rattle.model.specs.Memory.{numbers?, range?, waiting?, free?, logHolds?, sound?}
 use Rattle.soundness.specs.Pairs.{linkedTo?}
 use Rattle.soundness.proofs.Pairing.{pairs-exact}
 use Rattle.soundness.proofs.Loops.{all-both, all-same, and-first, and-second, and-left, and-right}
@@ -80,6 +80,10 @@ slot-parts false links pages list none = refl
 marked-is : (x : ℕ) → not (eqb x 0) ≡ ltb 0 x
 marked-is x = cases (same? x 0) (λ e. rw (eq-eqb x 0 e, le-ltb 0 x (omega arith))) (λ d. rw (ne-eqb x 0 d, lt-ltb 0 x (omega arith)))
 
+and-assoc : (a b c : Bool) → (a && b) && c ≡ a && (b && c)
+and-assoc true b c = refl
+and-assoc false b c = refl
+
 same-turned : (a b : Bool) → same a b ≡ same b a
 same-turned true true = refl
 same-turned true false = refl
@@ -109,6 +113,10 @@ module _ (g : Geometry) (t : List ℕ) where
   abbrev pub agrees : List ℕ → Bool
   agrees m = all (blocks g) (λ b. same (heldIn m b) (held (viewOf g t) b))
 
+  -- the blocks that wait and the free words
+  abbrev pub words : Bool
+  words = waiting? (stateOf g t) && free? (stateOf g t) t
+
   marked : ℕ → ℕ
   marked = check.marksOf (λ c. 0) (allOwn (viewOf g t))
 
@@ -125,11 +133,13 @@ module _ (g : Geometry) (t : List ℕ) where
   module _ (log : List ℕ) where
     -- the whole test, from its parts
     abbrev joined : Bool → Bool → Bool
-    joined good free = numbers? g t && (range? g (stateOf g t) && (good && (free && logHolds? g (stateOf g t) log)))
+    joined good words = numbers? g t && (range? g (stateOf g t) && (good && (words && logHolds? g (stateOf g t) log)))
 
-    sound-is : sound? g t log ≡ joined (((links && paged) && single (λ c. 0)) && born) (free? (viewOf g t) t)
+    sound-is : sound? g t log ≡ joined (((links && paged) && single (λ c. 0)) && born) words
     unfolding sound? stateOf
-    sound-is = ap (λ (x : Bool). joined x (free? (viewOf g t) t)) good-is
+    sound-is =
+        ap (λ (x : Bool). numbers? g t && (range? g (stateOf g t) && x))
+        (ap₂ _&&_ good-is (sym (and-assoc (waiting? (stateOf g t)) (free? (stateOf g t) t) (logHolds? g (stateOf g t) log))))
 
     pub sound-no-numbers : numbers? g t ≡ false → false ≡ sound? g t log
     sound-no-numbers h = sym (sound-is ∙ and-first _ h)
@@ -143,7 +153,7 @@ module _ (g : Geometry) (t : List ℕ) where
     pub sound-no-links : pairs ≡ false → false ≡ sound? g t log
     sound-no-links h = no-good (and-first born (and-first (single (λ c. 0)) (and-first paged (sym pairs-are ∙ h))))
 
-    pub sound-no-words : free? (viewOf g t) t ≡ false → false ≡ sound? g t log
+    pub sound-no-words : words ≡ false → false ≡ sound? g t log
     sound-no-words h =
         sym (sound-is ∙ and-second (numbers? g t) (and-second (range? g (stateOf g t)) (and-second (((links && paged) && single (λ c. 0)) && born) (and-first _ h))))
 
@@ -174,7 +184,7 @@ module _ (g : Geometry) (t : List ℕ) where
         sound-no-births h = no-good (and-second ((links && paged) && single (λ c. 0)) (sym born-is ∙ h))
 
         pub sound-yes : {r : Bool} → numbers? g t ≡ true → range? g (stateOf g t) ≡ true → pairs ≡ true → paged && single (seen z) ≡ true →
-            agrees m ≡ true → free? (viewOf g t) t ≡ true → r ≡ logHolds? g (stateOf g t) log → r ≡ sound? g t log
+            agrees m ≡ true → words ≡ true → r ≡ logHolds? g (stateOf g t) log → r ≡ sound? g t log
         sound-yes a b c d e f h =
             let d′ : paged && single (λ c. 0) ≡ true = sym regrouped ∙ d in
             h ∙ sym (sound-is ∙ rw (a, b, sym pairs-are ∙ c, and-left paged (single (λ c. 0)) d′, and-right paged (single (λ c. 0)) d′, sym born-is ∙ e, f))

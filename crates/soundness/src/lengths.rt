@@ -12,7 +12,7 @@ pub fn is_short(g: Geometry, tables: &[u32], log: &[u8], out: &[u32]) -> bool
     ensures { λ r. ⌜ r ≡ short? g (lent (now (tables .entry)) (now (log .entry)) (now (out .entry))) ⌝ }
 {
     let blocks = g.arenas * g.per;
-    if tables.len() < PAGES + ROWS * g.records + blocks {
+    if tables.len() < PAGES + ROWS * g.records + 4 * blocks {
         return true;
     }
     if log.len() < 8 * g.words {

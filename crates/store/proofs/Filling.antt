@@ -12,8 +12,9 @@ use Rattle.geometry.specs.declared.Geometry.{Geometry}
 use Rattle.geometry.specs.Limits.{Inside, blocks}
 use Rattle.choice.specs.Words.{wordOf}
 use Rattle.choice.proofs.Bit.{one-shl}
+use Rattle.model.specs.Lists.{elem}
 use Rattle.model.specs.State.{fresh}
-use Rattle.model.specs.Held.{available}
+use Rattle.model.specs.Held.{waits, available}
 use Rattle.model.specs.Layout.{need, made, listed, freeWord}
 use Rattle.model.proofs.LayoutFacts.{stored-beyond, getD-listed, length-listed}
 use Rattle.model.proofs.MadeFacts.{NoWord, made-zero, made-free, made-for, made-length}
@@ -65,12 +66,12 @@ stores-listed f t u a i (suc n) h e j other =
 -- ── the free words ──
 
 module _ (g : Geometry) where
-  all-free : (i n : ℕ) → wordOf (available (fresh g .view)) i n ≡ 2 ^ n - 1
-  unfolding wordOf available fresh
+  all-free : (i n : ℕ) → wordOf (available (fresh g)) i n ≡ 2 ^ n - 1
+  unfolding wordOf available waits elem fresh
   all-free i zero = refl
   all-free i (suc n) = omega (arith, all-free i n)
 
-  full-is : (k : ℕ) → freeWord (fresh g .view) k ≡ fullWord (blocks g) k
+  full-is : (k : ℕ) → freeWord (fresh g) k ≡ fullWord (blocks g) k
   unfolding freeWord fullWord fresh
   full-is k = all-free (32 * k) (min 32 (blocks g - 32 * k))
 

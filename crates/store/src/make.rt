@@ -73,7 +73,7 @@ fn fill(t: &mut [u32], g: Geometry)
     ensures { λ _. ⌜ now (t .exit) ≡ made g (now (t .entry)) ⌝ }
 {
     let blocks = g.arenas * g.per;
-    clear(t, PAGES + ROWS * g.records + blocks);
+    clear(t, PAGES + ROWS * g.records + 4 * blocks);
     fill_words(t, blocks);
     put_six(t, g);
 }

@@ -1,5 +1,5 @@
 -- The stores of a birth and its bit, as the code writes them, and what the bit makes of a free word.
-use mathlib.Core.Path.{_≡_, sym, ap, _∙_}
+use mathlib.Core.Path.{_≡_, sym, ap, ap₂, _∙_}
 use mathlib.Core.Bool.{Bool, false, not, _&&_, _||_, and-true, and-false, or-true, or-false}
 use mathlib.Core.List.{List}
 use Prim.Native.Nat.{ℕ, _+_, _-_, _*_, _/_, _%_, _^_, _≤_, _<_, min}
@@ -15,11 +15,13 @@ use Rattle.choice.specs.Words.{bit, wordOf}
 use Rattle.choice.proofs.Bit.{bit-or, bit-and, bit-not, bit-one, bit-high, bit-ext}
 use Rattle.choice.proofs.Births.{word-lt, word-bit}
 use Rattle.model.specs.Table.{put}
-use Rattle.model.specs.View.{View, withBirth}
-use Rattle.model.specs.Held.{available}
-use Rattle.model.specs.Layout.{freeCell, birthCell, freeWord}
+use Rattle.model.specs.Lists.{elem}
+use Rattle.model.specs.View.{withBirth}
+use Rattle.model.specs.State.{State, withView}
+use Rattle.model.specs.Held.{waits, available}
+use Rattle.model.specs.Layout.{freeCell, birthCell, waitCell, freeWord}
 use Rattle.model.proofs.TabFacts.{put-at, put-other}
-use Rattle.tables.specs.Births.{gave, freed}
+use Rattle.tables.specs.Births.{gave, freed, raised}
 
 low : (b : ℕ) → b % 32 < 32
 low b = omega arith
@@ -32,9 +34,16 @@ module _ (R : ℕ) (t : List ℕ) (b x : ℕ) (e : x ≡ 2 ^ (b % 32)) where
   unfolding gave
   gave-is v = ap (λ (y : ℕ). set (set t (birthCell R b) v) (freeCell (b / 32)) (bitAnd (getD t (freeCell (b / 32)) 0) (2 ^ 32 - 1 - y))) e
 
-  pub freed-is : set (set t (birthCell R b) 0) (freeCell (b / 32)) (bitOr (getD t (freeCell (b / 32)) 0) x) ≡ freed R t b
-  unfolding freed
-  freed-is = ap (λ (y : ℕ). set (set t (birthCell R b) 0) (freeCell (b / 32)) (bitOr (getD t (freeCell (b / 32)) 0) y)) e
+pub raised-is : (t : List ℕ) (b x : ℕ) → x ≡ 2 ^ (b % 32) → set t (freeCell (b / 32)) (bitOr (getD t (freeCell (b / 32)) 0) x) ≡ raised t b
+unfolding raised
+raised-is t b x e = ap (λ (y : ℕ). set t (freeCell (b / 32)) (bitOr (getD t (freeCell (b / 32)) 0) y)) e
+
+-- n is how many wait, a where their list begins
+pub freed-is : (R N : ℕ) (t : List ℕ) (b n a : ℕ) → n ≡ getD t 11 0 → a ≡ waitCell R N 0 → set (set (set t (birthCell R b) 0) (a + n) b) 11 (n + 1) ≡ freed R N t b
+unfolding freed
+freed-is R N t b n a e d =
+    let f : a + n ≡ waitCell R N (getD t 11 0) = omega arith in
+    ap₂ (λ (i m : ℕ). set (set (set t (birthCell R b) 0) i b) 11 (m + 1)) f e
 
 -- ── the word of the block ──
 
@@ -82,25 +91,14 @@ module _ (p q : ℕ → Bool) (n b : ℕ) (short : n ≤ 32) (inside : b % 32 < 
       ap (λ (x : Bool). x && not (eqb k (b % 32))) (sym (word-bit p i n k m)))
       (λ m. sym (ap (λ (x : Bool). x && not (eqb k (b % 32))) (bit-high n (wordOf p i n) k (word-lt p i n) m)))))
 
--- ── the free word of a view with another birth of b ──
+-- ── the free word of a state with another birth of b ──
 
-module _ (K : View) (b : ℕ) (inside : b < K .blocks) where
-  abbrev n : ℕ
-  n = min 32 (K .blocks - 32 * (b / 32))
-
-  pub word-freed : bitOr (freeWord K (b / 32)) (2 ^ (b % 32)) ≡ freeWord (withBirth K (put (K .birth) b 0)) (b / 32)
-  unfolding freeWord available
-  word-freed =
-      word-with (λ c. eqb (K .birth c) 0) (λ c. eqb (put (K .birth) b 0 c) 0) n b (omega arith) (omega arith) (λ c.
-      cases (same? c b)
-      (λ e. rw (put-at (K .birth) b 0 c e, eq-eqb c b e) (sym (or-true (eqb (K .birth c) 0))))
-      (λ d. rw (put-other (K .birth) b 0 c d, ne-eqb c b d) (sym (or-false (eqb (K .birth c) 0)))))
-
-  pub word-given : (v : ℕ) → 0 < v →
-      bitAnd (freeWord K (b / 32)) (2 ^ 32 - 1 - 2 ^ (b % 32)) ≡ freeWord (withBirth K (put (K .birth) b v)) (b / 32)
-  unfolding freeWord available
-  word-given v h =
-      word-without (λ c. eqb (K .birth c) 0) (λ c. eqb (put (K .birth) b v c) 0) n b (omega arith) (omega arith) (λ c.
-      cases (same? c b)
-      (λ e. rw (put-at (K .birth) b v c e, eq-eqb c b e, ne-eqb v 0 (λ z. let y : ⊥ = omega arith in y)) (sym (and-false (eqb (K .birth c) 0))))
-      (λ d. rw (put-other (K .birth) b v c d, ne-eqb c b d) (sym (and-true (eqb (K .birth c) 0)))))
+pub word-given : (T : State) (b : ℕ) → b < T .view .blocks → (v : ℕ) → 0 < v →
+    bitAnd (freeWord T (b / 32)) (2 ^ 32 - 1 - 2 ^ (b % 32)) ≡ freeWord (withView T (withBirth (T .view) (put (T .view .birth) b v))) (b / 32)
+unfolding freeWord available waits
+word-given T b inside v h =
+    let f : ℕ → ℕ = T .view .birth in
+    word-without (λ c. eqb (f c) 0 && not (elem c (T .waiting))) (λ c. eqb (put f b v c) 0 && not (elem c (T .waiting))) (min 32 (T .view .blocks - 32 * (b / 32))) b (omega arith) (omega arith) (λ c.
+    cases (same? c b)
+    (λ e. rw (put-at f b v c e, eq-eqb c b e, ne-eqb v 0 (λ z. let y : ⊥ = omega arith in y)) (sym (and-false (eqb (f c) 0 && not (elem c (T .waiting))))))
+    (λ d. rw (put-other f b v c d, ne-eqb c b d) (sym (and-true (eqb (f c) 0 && not (elem c (T .waiting)))))))

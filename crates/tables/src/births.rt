@@ -1,12 +1,17 @@
-// A birth and its bit of the free words are one store: a block is given, or it is freed.
+// A block is given, freed, or released: its birth, its bit of the free words, and its place among those that wait.
 ghost use mathlib.Core.Path.{_≡_};
-ghost use Prim.Native.Nat.{_<_};
-ghost use Rattle.geometry.specs.Limits.{blocks};
-ghost use Rattle.tables.specs.Ready.{Roomy};
-ghost use Rattle.tables.specs.Births.{gave, freed};
+ghost use Prim.Native.Nat.{_<_, _≤_};
+ghost use lib.ListN.{length, getD};
+ghost use Rattle.geometry.specs.Limits.{Inside, blocks};
+ghost use Rattle.model.specs.Layout.{waitCell, stateOf, stored};
+ghost use Rattle.model.specs.State.{synced};
+ghost use Rattle.tables.specs.Ready.{Roomy, Ready};
+ghost use Rattle.tables.specs.Births.{gave, freed, raised};
 use crate::cells::FREE;
 use crate::cells::PAGES;
 use crate::cells::ROWS;
+use crate::cells::WAITS;
+use crate::find::wide;
 use choice::bit_of;
 use geometry::Geometry;
 
@@ -20,12 +25,44 @@ pub fn give_block(t: &mut [u32], g: Geometry, b: usize, n: u32)
     t[FREE + (b >> 5)] = word;
 }
 
-// Block b has no birth: it may be given from now on.
-pub fn free_block(t: &mut [u32], g: Geometry, b: usize)
-    requires { ⌜ Roomy g (now t) × (b < blocks g) ⌝ }
-    ensures { λ _. ⌜ now (t .exit) ≡ freed (g .records) (now (t .entry)) b ⌝ }
+// Where the list of the blocks that wait begins.
+pub fn waiting_at(g: Geometry) -> usize
+    requires { ⌜ Inside g ⌝ }
+    ensures { λ r. ⌜ r ≡ waitCell (g .records) (blocks g) 0 ⌝ }
 {
-    let word = t[FREE + (b >> 5)] | bit_of(b);
+    PAGES + ROWS * g.records + 3 * (g.arenas * g.per)
+}
+
+// Block b has no birth, and waits: it joins the list at its end. Its bit of the free words is 0, as it was while it was held.
+pub fn free_block(t: &mut [u32], g: Geometry, b: usize)
+    requires { ⌜ Roomy g (now t) × (b < blocks g) × (getD (now t) 11 0 < blocks g) ⌝ }
+    ensures { λ _. ⌜ now (t .exit) ≡ freed (g .records) (blocks g) (now (t .entry)) b ⌝ }
+{
+    let n = wide(t[WAITS]);
     t[PAGES + ROWS * g.records + b] = 0;
-    t[FREE + (b >> 5)] = word;
+    t[waiting_at(g) + n] = b as u32;
+    t[WAITS] = (n + 1) as u32;
+}
+
+// Block b may be given from now on.
+fn raise(t: &mut [u32], b: usize)
+    requires { ⌜ (128 ≤ length (now t)) × (b < 2048) ⌝ }
+    ensures { λ _. ⌜ now (t .exit) ≡ raised (now (t .entry)) b ⌝ }
+{
+    t[FREE + (b >> 5)] = t[FREE + (b >> 5)] | bit_of(b);
+}
+
+// The blocks that wait may be given from now on, and none waits.
+pub fn release(t: &mut [u32], g: Geometry)
+    requires { ⌜ Ready g (now t) ⌝ }
+    ensures { λ _. ⌜ now (t .exit) ≡ stored g (synced (stateOf g (now (t .entry)))) (now (t .entry)) ⌝ }
+{
+    let n = wide(t[WAITS]);
+    let mut i: usize = 0;
+    while i < n {
+        let b = wide(t[waiting_at(g) + i]);
+        raise(t, b);
+        i += 1;
+    }
+    t[WAITS] = 0;
 }

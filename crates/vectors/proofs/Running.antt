@@ -9,16 +9,16 @@ use Rattle.session.specs.Step.{Kept}
 use Rattle.serving.proofs.Serving.{no-store-kept}
 
 pub record Running (s : Session) (t log out replies : List ℕ) : Type 0 where
-  pub tables : length t ≡ 36864
+  pub tables : length t ≡ 43008
   pub words : length log ≡ 65536
   pub numbers : length out ≡ 4160
   pub buffer : length replies ≡ 65536
   pub kept : Kept s t log out
 
 -- before the first line
-pub running : (s : Session) → s .made ≡ 0 → Running s (replicate 36864 0) (replicate 65536 0) (replicate 4160 0) (replicate 65536 0)
+pub running : (s : Session) → s .made ≡ 0 → Running s (replicate 43008 0) (replicate 65536 0) (replicate 4160 0) (replicate 65536 0)
 running s e =
-    let t = length-replicate {A = ℕ} 36864 0 in
+    let t = length-replicate {A = ℕ} 43008 0 in
     let l = length-replicate {A = ℕ} 65536 0 in
     let o = length-replicate {A = ℕ} 4160 0 in
     record { tables = t; words = l; numbers = o; buffer = l; kept = no-store-kept s _ _ _ e (omega arith) (omega arith) (omega arith) }

@@ -5,7 +5,7 @@ use session::start;
 
 // A reply for each line of a text.
 fn serve(text: &[u8]) {
-    let mut t = [0u32; 36864];
+    let mut t = [0u32; 43008];
     let mut log = [0u8; 65536];
     let mut out = [0u32; 4160];
     let mut replies = [0u8; 65536];

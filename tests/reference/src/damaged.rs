@@ -1,7 +1,7 @@
 //! Calls on damaged memory: stores, damage done to their memory, one call each time. The replies and a sum over what accepted calls leave are
 //! printed. `answer` makes a call: this implementation's makes the prediction, the proved library's must print the same.
-use crate::layout::{birth_at, list_at, log_needed, pages_at, result_needed, tables_needed, Memory};
-use crate::layout::{BASE, BEFORE, FREE, LENGTH, MARKS, NUMBER, OPEN};
+use crate::layout::{birth_at, list_at, log_needed, pages_at, result_needed, tables_needed, wait_at, Memory};
+use crate::layout::{BASE, BEFORE, FREE, LENGTH, MARKS, NUMBER, OPEN, WAITING};
 use crate::store::{Call, Geometry, Reply};
 use std::fmt::Write;
 
@@ -143,6 +143,10 @@ impl Subject {
         self.six[3] as usize
     }
 
+    fn blocks(&self) -> usize {
+        self.g.blocks() as usize
+    }
+
     /// The numbers with a meaning, and some beside each part of the tables.
     fn named(&self) -> Vec<usize> {
         let (slots, pages) = (self.records() + 1, self.six[2] as usize + 1);
@@ -266,22 +270,100 @@ impl Subject {
         }
     }
 
-    /// A birth changed, and with it the block's bit of the free words.
+    /// A birth changed, and with it the block's bit of the free words, unless the block waits.
     fn births(&self, report: &mut Report) {
-        for b in 0..self.lent[0] - birth_at(&self.g, 0) {
+        for b in 0..self.blocks() {
             for birth in 0..9 {
                 let mut m = self.sound.clone();
                 m.tables[birth_at(&self.g, b)] = birth;
-                let (word, bit) = (FREE + b / 32, 1 << (b % 32));
-                m.tables[word] = m.tables[word] & !bit | if birth == 0 { bit } else { 0 };
+                let waits = self.waiting(&m).contains(&(b as u32));
+                set_bit(&mut m, b, birth == 0 && !waits);
                 self.ask_damaged(report, &m, 5 * b + birth as usize);
+            }
+        }
+    }
+
+    /// The waiting list of a memory that has one.
+    fn waiting<'a>(&self, m: &'a Memory) -> &'a [u32] {
+        &m.tables[wait_at(&self.g, 0)..][..m.tables[WAITING] as usize]
+    }
+
+    /// The waiting list longer or shorter than it is: by its length alone, and with the bits of the blocks that it has then.
+    fn wait_lengths(&self, report: &mut Report) {
+        let now = self.waiting(&self.sound).len();
+        for length in (0..=self.blocks() + 2).chain([1 << 16, u32::MAX as usize]) {
+            let mut m = self.sound.clone();
+            m.tables[WAITING] = length as u32;
+            self.ask_damaged(report, &m, length);
+            self.ask_damaged(report, &m, 3 * length + 1);
+            if length < now {
+                self.waiting(&self.sound)[length..].iter().for_each(|&b| set_bit(&mut m, b as usize, true));
+                self.ask_all(report, &m);
+            }
+        }
+    }
+
+    /// Each entry of the waiting list becomes each number: one that is no block, one that is held, one that waits already, one that may be given. Then
+    /// with the bits as they would be if the new one waited in the place of the old one.
+    fn wait_entries(&self, report: &mut Report) {
+        for (i, &old) in self.waiting(&self.sound).iter().enumerate() {
+            for b in (0..self.blocks() as u32 + 2).chain([31, 32, 2047, 2048, 1 << 16, u32::MAX]) {
+                let mut m = self.sound.clone();
+                m.tables[wait_at(&self.g, i)] = b;
+                self.ask_damaged(report, &m, 7 * i + b as usize % 100);
+                if (b as usize) < self.blocks() {
+                    set_bit(&mut m, old as usize, true);
+                    set_bit(&mut m, b as usize, false);
+                    self.ask_damaged(report, &m, 5 * i + b as usize);
+                }
+            }
+        }
+    }
+
+    /// One more entry behind the last: each number, with the bit of that block 0 and 1.
+    fn wait_joined(&self, report: &mut Report) {
+        let now = self.waiting(&self.sound).len();
+        for b in 0..self.blocks() + 2 {
+            for bit in [false, true] {
+                let mut m = self.sound.clone();
+                m.tables[WAITING] = now as u32 + 1;
+                m.tables[wait_at(&self.g, now)] = b as u32;
+                if b < self.blocks() {
+                    set_bit(&mut m, b, bit);
+                }
+                self.ask(report, &m, 2 * b);
+                self.ask(report, &m, 2 * b + 19);
+            }
+        }
+    }
+
+    /// Two entries of the waiting list exchanged; one of them twice. Each bit turned, of blocks that wait and of others, and a birth for each that waits.
+    fn wait_others(&self, report: &mut Report) {
+        let list = self.waiting(&self.sound);
+        for (i, j) in (0..list.len()).flat_map(|j| (0..j).map(move |i| (i, j))) {
+            let mut m = self.sound.clone();
+            m.tables.swap(wait_at(&self.g, i), wait_at(&self.g, j));
+            self.ask_all(report, &m);
+            m.tables[wait_at(&self.g, i)] = m.tables[wait_at(&self.g, j)];
+            self.ask(report, &m, i + j);
+        }
+        for b in 0..self.blocks() + 1 {
+            let mut m = self.sound.clone();
+            m.tables[FREE + b / 32] ^= 1 << (b % 32);
+            self.ask(report, &m, b);
+        }
+        for (i, &b) in list.iter().enumerate() {
+            for birth in 1..4 {
+                let mut m = self.sound.clone();
+                m.tables[birth_at(&self.g, b as usize)] = birth;
+                self.ask(report, &m, 3 * i + birth as usize);
             }
         }
     }
 
     /// Two numbers with a meaning changed: one goes up or down, the other becomes a number below 5.
     fn twos(&self, report: &mut Report) {
-        let mut spots = vec![6, 7, 8, 9, MARKS, FREE, birth_at(&self.g, 0), birth_at(&self.g, 1)];
+        let mut spots = vec![6, 7, 8, 9, WAITING, MARKS, FREE, birth_at(&self.g, 0), birth_at(&self.g, 1), wait_at(&self.g, 0), wait_at(&self.g, 1)];
         let columns = |s: usize| [NUMBER, OPEN, BEFORE, BASE, LENGTH].map(|column| column + s);
         spots.extend((0..self.records()).flat_map(columns));
         spots.extend((0..self.records()).flat_map(|s| [pages_at(s), list_at(&self.g, s)]));
@@ -337,7 +419,8 @@ impl Subject {
             1 | 2 => NUMBER + 64 * (at % 5) + slot,
             3 | 4 => pages_at(slot) + at / 2,
             5 => list_at(&self.g, slot) + at / 2,
-            6 => FREE + at / 4,
+            6 if at < 4 => FREE + at / 4,
+            6 => wait_at(&self.g, at % self.blocks()),
             _ => birth_at(&self.g, at),
         }
     }
@@ -410,7 +493,7 @@ impl Subject {
     /// Damage to what has a meaning.
     fn meant(&self, report: &mut Report) {
         self.group(report, "numbers", |r| self.numbers(r));
-        for apart in [1, 64, 256, 256 * self.records()] {
+        for apart in [1, 64, 256, 256 * self.records(), 3 * self.blocks()] {
             self.group(report, "pairs", |r| self.exchanged(r, apart));
         }
         self.group(report, "last", |r| self.last(r));
@@ -418,6 +501,7 @@ impl Subject {
         self.group(report, "lists", |r| self.lists(r));
         self.group(report, "slots", |r| self.slots(r));
         self.group(report, "births", |r| self.births(r));
+        self.waits(report);
         self.group(report, "few", |r| self.few(r));
         self.group(report, "log", |r| self.log_at_random(r));
         self.group(report, "history", |r| self.history(r));
@@ -429,9 +513,18 @@ impl Subject {
         self.group(report, "slots", |r| self.slots(r));
     }
 
+    /// Damage to the waiting list and to what depends on it.
+    fn waits(&self, report: &mut Report) {
+        self.group(report, "waiting, lengths", |r| self.wait_lengths(r));
+        self.group(report, "waiting, entries", |r| self.wait_entries(r));
+        self.group(report, "waiting, joined", |r| self.wait_joined(r));
+        self.group(report, "waiting, others", |r| self.wait_others(r));
+    }
+
     fn listed(&self, report: &mut Report) {
         self.group(report, "lists", |r| self.lists(r));
         self.group(report, "births", |r| self.births(r));
+        self.waits(report);
         self.group(report, "log", |r| self.log_at_random(r));
         self.group(report, "history", |r| self.history(r));
     }
@@ -442,6 +535,12 @@ impl Subject {
         let [a, b] = report.sums;
         report.line(&format!("memory {a} {b}"));
     }
+}
+
+/// The bit of a block in the free words becomes 1 or 0.
+fn set_bit(m: &mut Memory, b: usize, free: bool) {
+    let (word, bit) = (FREE + b / 32, 1 << (b % 32));
+    m.tables[word] = if free { m.tables[word] | bit } else { m.tables[word] & !bit };
 }
 
 /// A call: its reply, and what an accepted one leaves, go to the report.
@@ -478,7 +577,7 @@ fn group(report: &mut Report, name: &str) {
 const ASKS: usize = 37;
 
 /// The stores, and the calls asked of each.
-const SUBJECTS: [([u64; 6], &str, &str); 6] = [
+const SUBJECTS: [([u64; 6], &str, &str); 9] = [
     (
         [2, 4, 3, 7, 2, 24],
         "B000W100W111W122S100W200Y000S200W311W302S300E420E410D200F100W500S500W601F500E710",
@@ -516,6 +615,27 @@ const SUBJECTS: [([u64; 6], &str, &str); 6] = [
         "B000W400W413W440W100E400E410E420E430E300S400S500S100F100F300F400D100D300D400D500D900R400R110R4?0Y000C000L000\
          Q100Q300Q400Q500Q200Q600Q?00Q000W510R500",
     ),
+    // blocks that wait, not by their numbers, behind others that were released; of 34 blocks, so that two free words have some
+    (
+        [2, 17, 4, 4, 3, 70],
+        "B000W100W111W122W130W101W110Y000W121S100W201W212W202E220W231W231W230D100",
+        "B000W200W211W222W232W204W243W?00E200E210E220E230E240E100S200S100S300F100F200D200D100D300D?00R200R210R2?0R130Y000C000L000\
+         Q200Q100Q300Q?00W201Y000L000",
+    ),
+    // full: a block on a page, the others wait
+    (
+        [1, 3, 2, 2, 1, 8],
+        "B000W100W100W100",
+        "B000W100W110W120W103W200W?00W101W112E100E110E120E200S100S200S?00F100F200D100D200D?00R100R110R120R200Y000C000L000W100Y000C000L000\
+         Q100Q200Q?00E100D100",
+    ),
+    // every block waits
+    (
+        [1, 3, 2, 2, 1, 8],
+        "B000W100W100W100E100",
+        "B000W100W110W120W103W200W?00W101W112E100E110E120E200S100S200S?00F100F200D100D200D?00R100R110R120R200Y000C000L000W100Y000C000L000\
+         Q100Q200Q?00E100D100",
+    ),
 ];
 
 pub fn printed(answers: &mut dyn Answers) -> String {
@@ -524,8 +644,9 @@ pub fn printed(answers: &mut dyn Answers) -> String {
         let subject = Subject::made(six, script, asks, &mut report);
         match i {
             3 => subject.small(&mut report),
-            4 => subject.meant(&mut report),
+            4 | 6 => subject.meant(&mut report),
             5 => subject.listed(&mut report),
+            8 => subject.waits(&mut report),
             _ => subject.all(&mut report),
         }
     }

@@ -1,5 +1,6 @@
 //! Scripts made at random from a seed: forks of forks, deletes in the middle of a line, windows of records that roll on, long deadlists, full stores,
-//! full logs, full record tables, estimates of deletes, bad lines, scripts longer than what is read. `reference reached` counts them.
+//! stores that are full of blocks that wait, many barriers and few, full logs, full record tables, estimates of deletes, bad lines, scripts longer than
+//! what is read. `reference reached` counts them.
 use crate::store::{Call, Geometry, Store};
 use std::collections::BTreeSet;
 
@@ -91,13 +92,20 @@ enum Mood {
     Fill,
     /// the youngest sealed record forked, the fork written and sealed
     Fork,
+    /// the pages of one open record written again and again, until each block is on a page or waits
+    Rewrite,
 }
 
-const MOODS: [Mood; 9] = [Mood::Grow, Mood::Grow, Mood::Grow, Mood::Shrink, Mood::Shrink, Mood::Window, Mood::Fill, Mood::Fill, Mood::Fork];
+const MOODS: [Mood; 11] =
+    [Mood::Grow, Mood::Grow, Mood::Grow, Mood::Shrink, Mood::Shrink, Mood::Window, Mood::Fill, Mood::Fill, Mood::Fork, Mood::Rewrite, Mood::Rewrite];
+
+/// How often a barrier is put in front of a call: one in so many times, or never, so that there are only those that the calls lean to.
+const BARRIERS: [Option<u64>; 5] = [None, None, Some(3), Some(8), Some(30)];
 
 /// A store with what its replies tell: the lines, which records are open, whether the last call was refused.
 struct Course {
     g: [u64; 6],
+    barriers: Option<u64>,
     store: Store,
     lines: Vec<Vec<u64>>,
     open: BTreeSet<u64>,
@@ -105,9 +113,20 @@ struct Course {
 }
 
 impl Course {
-    fn new(g: [u64; 6]) -> Course {
+    fn new(d: &mut Dice, shape: fn(&mut Dice) -> [u64; 6]) -> Course {
+        let g = shape(d);
         let store = Store::new(Geometry::new(g).expect("inside the limits"));
-        Course { g, store, lines: vec![], open: BTreeSet::new(), refused: false }
+        let barriers = BARRIERS[d.below(BARRIERS.len() as u64) as usize];
+        Course { g, barriers, store, lines: vec![], open: BTreeSet::new(), refused: false }
+    }
+
+    /// Makes a call, behind a Q or a barrier where it is its time, and adds the lines.
+    fn add(&mut self, d: &mut Dice, asks: &mut Dice, c: Call, lines: &mut Vec<Vec<u8>>) {
+        let barrier = self.barriers.filter(|&n| d.below(n) == 0).map(|_| Call::Barrier);
+        for next in barrier.into_iter().chain(self.asked(asks, c)).chain([c]) {
+            self.make(next);
+            lines.push(spelled(next).into_bytes());
+        }
     }
 
     fn make(&mut self, c: Call) {
@@ -143,6 +162,7 @@ impl Course {
             (Mood::Window, Some(n)) => self.room(d).unwrap_or_else(|| self.window(d, n)),
             (Mood::Fill, Some(n)) => self.room(d).unwrap_or_else(|| self.fill(d, n, at)),
             (Mood::Fork, Some(n)) => self.fork(d, n),
+            (Mood::Rewrite, Some(n)) => self.released(d).unwrap_or_else(|| self.rewrite(d, n)),
             (Mood::Shrink, _) => call(d, &self.g, &self.store, false),
             _ => call(d, &self.g, &self.store, true),
         }
@@ -150,10 +170,29 @@ impl Course {
 
     /// What makes room, most of the time, where a call was refused.
     fn room(&self, d: &mut Dice) -> Option<Call> {
-        match d.below(4) {
+        match d.below(5) {
             1 if self.refused => Some(Call::Compress),
-            2..=3 if self.refused => Some(Call::Delete(record(d, &self.store))),
+            2 if self.refused => Some(Call::Barrier),
+            3..=4 if self.refused => Some(Call::Delete(record(d, &self.store))),
             _ => None,
+        }
+    }
+
+    /// What ends the waiting, some of the time, where a call was refused.
+    fn released(&self, d: &mut Dice) -> Option<Call> {
+        match d.below(6) {
+            0..=1 if self.refused => Some(Call::Barrier),
+            2 if self.refused => Some(Call::Compress),
+            _ => None,
+        }
+    }
+
+    fn rewrite(&self, d: &mut Dice, n: u64) -> Call {
+        let page = d.below(self.g[2].min(3));
+        match d.below(16) {
+            0 => Call::Erase(n, page),
+            1 => Call::FreeList,
+            _ => Call::Write(n, page, d.below(3)),
         }
     }
 
@@ -228,7 +267,7 @@ fn spoiled(d: &mut Dice, line: String) -> Vec<u8> {
 pub fn script(seed: u64) -> Vec<u8> {
     let (mut d, mut asks) = (Dice::new(seed), Dice::new(!seed));
     let is_large = d.below(20) == 0;
-    let mut course = Course::new(if is_large { large(&mut d) } else { geometry(&mut d) });
+    let mut course = Course::new(&mut d, if is_large { large } else { geometry });
     let mut lines = vec![line_of("store", &course.g).into_bytes()];
     let mut mood = Mood::Grow;
     let count = if is_large { 2_000 + d.below(2_000) } else if d.below(20) == 0 { 12_000 } else { 40 + d.below(1500) };
@@ -242,14 +281,12 @@ pub fn script(seed: u64) -> Vec<u8> {
             3 => lines.push(line_of("store", &[1, 4, 2, 4, 8, 9]).into_bytes()),
             5 => lines.push(spoiled(&mut d, spelled(Call::Write(1, 0, 0)))),
             4 if !is_large && d.below(6) == 0 => {
-                course = Course::new(geometry(&mut d));
+                course = Course::new(&mut d, geometry);
                 lines.push(line_of("store", &course.g).into_bytes());
             }
             _ => {
                 let c = course.next(&mut d, mood, at);
-                lines.extend(course.asked(&mut asks, c).map(|q| spelled(q).into_bytes()));
-                course.make(c);
-                lines.push(spelled(c).into_bytes());
+                course.add(&mut d, &mut asks, c, &mut lines);
             }
         }
     }

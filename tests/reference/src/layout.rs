@@ -1,9 +1,11 @@
 //! The lent memory, as docs/LAYOUT.md describes it: whether it is sound, the store it stands for, and what a call leaves in it.
 //! Soundness is decided the crude way, by the rules' sentences: every pair of records, every page of every record, sets of blocks.
 use crate::damaged::Answers;
+use crate::log::{read_every, words_of};
 use crate::store::{Call, Geometry, Line, Record, Reply, Store};
 use std::collections::{BTreeMap, BTreeSet};
 
+pub const WAITING: usize = 11;
 pub const MARKS: usize = 16;
 pub const FREE: usize = 64;
 pub const NUMBER: usize = 192;
@@ -20,7 +22,7 @@ pub struct Memory {
 }
 
 pub fn tables_needed(g: &Geometry) -> usize {
-    birth_at(g, g.blocks() as usize)
+    wait_at(g, g.blocks() as usize)
 }
 
 pub fn log_needed(g: &Geometry) -> usize {
@@ -31,7 +33,7 @@ pub fn result_needed(g: &Geometry) -> usize {
     2 * g.blocks() as usize + 64
 }
 
-/// Where the pages of a slot begin, where its deadlist does, and where the birth of a block stands.
+/// Where the pages of a slot begin, where its deadlist does, where the birth of a block stands, and where an entry of the waiting list does.
 pub fn pages_at(slot: usize) -> usize {
     2048 + 256 * slot
 }
@@ -42,6 +44,10 @@ pub fn list_at(g: &Geometry, slot: usize) -> usize {
 
 pub fn birth_at(g: &Geometry, b: usize) -> usize {
     list_at(g, g.records as usize) + b
+}
+
+pub fn wait_at(g: &Geometry, i: usize) -> usize {
+    birth_at(g, 3 * g.blocks() as usize) + i
 }
 
 /// A record; links are slots.
@@ -61,6 +67,8 @@ struct Tables<'a> {
     t: &'a [u32],
     rows: BTreeMap<usize, Row>,
     births: Vec<u64>,
+    /// the waiting list, in the order of freeing
+    waiting: Vec<u64>,
 }
 
 /// A link: slot + 1, 0 for none.
@@ -68,7 +76,8 @@ fn link(x: u32) -> Option<usize> {
     (x as usize).checked_sub(1)
 }
 
-/// A deadlist longer than a record has pages is read as far as its row goes; it is refused in any case.
+/// A deadlist longer than a record has pages is read as far as its row goes, a waiting list longer than the blocks as far as those; both are refused
+/// in any case.
 fn row_of(g: &Geometry, t: &[u32], slot: usize) -> Row {
     let pages = &t[pages_at(slot)..][..g.pages as usize];
     let list = &t[list_at(g, slot)..][..(t[LENGTH + slot] as usize).min(256)];
@@ -85,8 +94,10 @@ fn row_of(g: &Geometry, t: &[u32], slot: usize) -> Row {
 fn rows_of(g: Geometry, t: &[u32]) -> Tables<'_> {
     let used = (0..g.records as usize).filter(|slot| t[NUMBER + slot] > 0);
     let rows = used.map(|slot| (slot, row_of(&g, t, slot))).collect();
-    let births = t[birth_at(&g, 0)..tables_needed(&g)].iter().map(|&n| n as u64).collect();
-    Tables { g, t, rows, births }
+    let blocks = g.blocks() as usize;
+    let births = t[birth_at(&g, 0)..][..blocks].iter().map(|&n| n as u64).collect();
+    let waiting = t[wait_at(&g, 0)..][..(t[WAITING] as usize).min(blocks)].iter().map(|&b| b as u64).collect();
+    Tables { g, t, rows, births, waiting }
 }
 
 impl Tables<'_> {
@@ -192,9 +203,15 @@ impl Tables<'_> {
         })
     }
 
+    /// The waiting list has blocks that are not held, each once.
+    fn waiting_sound(&self) -> bool {
+        let waiting: BTreeSet<u64> = self.waiting.iter().copied().collect();
+        self.t[WAITING] as usize == waiting.len() && waiting.iter().all(|&b| b < self.g.blocks() && self.births[b as usize] == 0)
+    }
+
     fn free_sound(&self) -> bool {
-        let held = self.held();
-        (0..64).all(|k| self.t[FREE + k] == free_word(&held, &self.g, k))
+        let kept = self.held().into_iter().chain(self.waiting.iter().copied()).collect();
+        (0..64).all(|k| self.t[FREE + k] == free_word(&kept, &self.g, k))
     }
 
     fn held(&self) -> BTreeSet<u64> {
@@ -207,8 +224,9 @@ impl Tables<'_> {
             && self.pages_sound()
             && self.births_sound()
             && self.deadlists_sound()
+            && self.waiting_sound()
             && self.free_sound()
-            && read_log(&self.g, &words_of(&log[..8 * self.t[9] as usize])) == Some(self.held())
+            && read_every(&self.g, &words_of(&log[..8 * self.t[9] as usize])) == Some(self.held())
     }
 
     /// The record that follows another in its line.
@@ -246,6 +264,8 @@ impl Tables<'_> {
         for b in self.held() {
             store.births.insert(b, self.births[b as usize]);
         }
+        store.freed = self.waiting.clone();
+        store.waiting = self.waiting.iter().copied().collect();
         for (&slot, row) in &self.rows {
             let record = Record { open: row.open, pages: row.pages.clone(), dead: self.shards(&row.list) };
             store.records.insert(row.number, record);
@@ -271,45 +291,10 @@ fn pair_sound(x: &Row, y: &Row) -> bool {
     x.number != y.number && !both_follow
 }
 
-/// Bit i of word k is 1 exactly where block 32 k + i is free.
-fn free_word(held: &BTreeSet<u64>, g: &Geometry, k: usize) -> u32 {
-    let free = |b: u64| b < g.blocks() && !held.contains(&b);
+/// Bit i of word k is 1 exactly where block 32 k + i may be given; `kept` are those that may not.
+fn free_word(kept: &BTreeSet<u64>, g: &Geometry, k: usize) -> u32 {
+    let free = |b: u64| b < g.blocks() && !kept.contains(&b);
     (0..32).filter(|&i| free(32 * k as u64 + i)).map(|i| 1 << i).sum()
-}
-
-fn words_of(bytes: &[u8]) -> Vec<u64> {
-    bytes.chunks(8).map(|w| u64::from_be_bytes(w.try_into().expect("whole words"))).collect()
-}
-
-/// The held blocks, or nothing where the words are no log.
-fn read_log(g: &Geometry, words: &[u64]) -> Option<BTreeSet<u64>> {
-    let mut held = BTreeSet::new();
-    let mut at = words.iter();
-    while let Some(&w) = at.next() {
-        let (code, address) = (w % 256, w - w % 256);
-        if code == 3 && address == 0 {
-            continue;
-        }
-        if ![1, 2, 4, 5].contains(&code) || address % 16384 != 0 {
-            return None;
-        }
-        let first = address / 16384;
-        let length = if code < 4 { 16384 } else { *at.next()? };
-        if length == 0 || length % 16384 != 0 || first >= g.blocks() {
-            return None;
-        }
-        let end = first.checked_add(length / 16384)?;
-        if end > g.blocks() || first / g.per != (end - 1) / g.per {
-            return None;
-        }
-        for b in first..end {
-            let fine = if code == 1 || code == 4 { held.insert(b) } else { held.remove(&b) };
-            if !fine {
-                return None;
-            }
-        }
-    }
-    Some(held)
 }
 
 /// The calls of this implementation, on lent memory.
@@ -436,9 +421,13 @@ fn lay_list(g: &Geometry, slot: usize, list: &[u64], t: &mut [u32]) {
 }
 
 fn lay_blocks(store: &Store, t: &mut [u32]) {
-    let held = store.births.keys().copied().collect();
+    let kept = store.births.keys().chain(&store.waiting).copied().collect();
     for k in 0..64 {
-        t[FREE + k] = free_word(&held, &store.g, k);
+        t[FREE + k] = free_word(&kept, &store.g, k);
+    }
+    t[WAITING] = store.freed.len() as u32;
+    for (i, &b) in store.freed.iter().enumerate() {
+        t[wait_at(&store.g, i)] = b as u32;
     }
     for b in 0..store.g.blocks() {
         t[birth_at(&store.g, b as usize)] = store.births.get(&b).map_or(0, |&n| n as u32);

@@ -15,11 +15,38 @@ fn dead(store: &Store, r: u64) -> usize {
 
 type Reached = Vec<(bool, &'static str)>;
 
-fn refused(c: Call, number: u32) -> Reached {
+/// What there was before a call.
+#[derive(Default)]
+struct Before {
+    call: Option<Call>,
+    /// the last records of all lines
+    lasts: Vec<u64>,
+    waiting: BTreeSet<u64>,
+    /// the blocks that waited at some time
+    waited: BTreeSet<u64>,
+}
+
+impl Before {
+    /// Behind a line: a store line, if accepted, begins a store in which no block ever waited.
+    fn go_on(&mut self, store: &Store, call: Option<Call>, reply: &Reply) {
+        if call.is_none() && reply.is_ok() {
+            self.waited.clear();
+        }
+        self.call = call;
+        self.lasts = store.lines.iter().map(|line| line.records[line.records.len() - 1]).collect();
+        self.waited.extend(&store.waiting);
+        self.waiting = store.waiting.clone();
+    }
+}
+
+fn refused(c: Call, number: u32, before: &Before) -> Reached {
+    let waits = !before.waiting.is_empty();
     vec![
+        (number == 13 && waits, "W refused by 13 while a block waits"),
+        (number == 13 && !waits, "W refused by 13 while no block waits"),
+        (number == 14 && waits && c == Call::Barrier, "Y refused by 14 while a block waits"),
         (number == 14 && matches!(c, Call::Delete(_)), "D refused by 14"),
         (number == 14 && matches!(c, Call::Write(..)), "W refused by 14"),
-        (number == 13, "W refused by 13"),
         (number == 11, "refused by 11"),
         (number == 10 && matches!(c, Call::Delete(_)), "D refused by 10"),
         (number == 10 && matches!(c, Call::Estimate(_)), "Q refused by 10"),
@@ -51,9 +78,24 @@ fn begun(store: &Store, kind: u64) -> Reached {
     ]
 }
 
-fn deleted(store: &Store, freed: usize, was_last: bool, was_asked: bool) -> Reached {
+/// A W that was given a block, a Y, a C or an L: what it has to do with blocks that wait, or did.
+fn waited(c: Call, given: &[u64], before: &Before) -> Reached {
+    let many = before.waiting.len();
+    let again = matches!(c, Call::Write(..)) && before.waited.contains(&given[0]);
     vec![
-        (was_asked, "D straight behind a Q of its record"),
+        (again, "W given a block that had waited"),
+        (c == Call::Barrier && many > 0, "Y that ends a block's wait"),
+        (c == Call::Compress && many > 0, "C that ends a block's wait"),
+        (c == Call::Barrier && many > 31, "Y that ends the wait of 32 or more"),
+        (c == Call::FreeList && many > 0, "L that leaves out a waiting block"),
+        (c == Call::FreeList && many > 0 && given.is_empty(), "L of nothing while a block waits"),
+    ]
+}
+
+fn deleted(store: &Store, r: u64, freed: usize, before: &Before) -> Reached {
+    let was_last = before.lasts.contains(&r);
+    vec![
+        (before.call == Some(Call::Estimate(r)), "D straight behind a Q of its record"),
         (!was_last, "D with a follower"),
         (!was_last && freed > 1, "D with a follower that frees 2 or more"),
         (!was_last && freed > 31, "D with a follower that frees 32 or more"),
@@ -100,16 +142,15 @@ fn sealed(store: &Store, r: u64) -> Reached {
     vec![(rolled, "S in a line of 6 or more that lost its first"), (store.records.len() > 31, "S with 32 records or more")]
 }
 
-/// What a call, its reply and the store behind it are an instance of. Of a D: whether its record was a line's last, and whether the call before it
-/// was a Q of its record.
-fn instances(store: &Store, c: Call, reply: &Reply, was_last: bool, was_asked: bool) -> Reached {
+/// What a call, its reply and the store behind it are an instance of.
+fn instances(store: &Store, c: Call, reply: &Reply, before: &Before) -> Reached {
     let given = match reply {
-        Err(number) => return refused(c, *number),
+        Err(number) => return refused(c, *number, before),
         Ok(given) => given,
     };
     let mut reached = match c {
         Call::Write(r, ..) | Call::Erase(r, _) => written(store, r),
-        Call::Delete(_) => deleted(store, given.len() / 2, was_last, was_asked),
+        Call::Delete(r) => deleted(store, r, given.len() / 2, before),
         Call::Estimate(r) => estimated(store, r, given),
         Call::Seal(r) => sealed(store, r),
         _ => vec![],
@@ -120,29 +161,32 @@ fn instances(store: &Store, c: Call, reply: &Reply, was_last: bool, was_asked: b
     if c.gives_blocks() {
         reached.extend(named(c, given));
     }
+    reached.extend(waited(c, given, before));
     let logs = matches!(c, Call::Write(..) | Call::Erase(..) | Call::Delete(_) | Call::Barrier);
     reached.push((logs && store.g.words - (store.log.len() as u64) < 3, "log words left: under 3"));
     reached
+}
+
+/// How often a script reaches each situation.
+fn of_script(text: &[u8]) -> BTreeMap<&'static str, u64> {
+    let mut here: BTreeMap<&'static str, u64> = BTreeMap::new();
+    let mut before = Before::default();
+    script::each_reply(text, |store, call, reply| {
+        let Some(store) = store else { return };
+        let reached = call.map_or(vec![], |c| instances(store, c, reply, &before));
+        for (_, name) in reached.into_iter().filter(|x| x.0) {
+            *here.entry(name).or_default() += 1;
+        }
+        before.go_on(store, call, reply);
+    });
+    here
 }
 
 /// Prints, for the scripts of the seeds, how often each situation is reached.
 pub fn print(from: u64, to: u64) {
     let mut counts: BTreeMap<&'static str, (u64, u64)> = BTreeMap::new();
     for seed in from..to {
-        let mut here: BTreeMap<&'static str, u64> = BTreeMap::new();
-        let mut lasts: Vec<u64> = Vec::new();
-        let mut before: Option<Call> = None;
-        script::each_reply(&generate::script(seed), |store, call, reply| {
-            let asked = std::mem::replace(&mut before, call);
-            let (Some(store), Some(c)) = (store, call) else { return };
-            let was_last = matches!(c, Call::Delete(r) if lasts.contains(&r));
-            let was_asked = matches!(c, Call::Delete(r) if asked == Some(Call::Estimate(r)));
-            for (_, name) in instances(store, c, reply, was_last, was_asked).into_iter().filter(|x| x.0) {
-                *here.entry(name).or_default() += 1;
-            }
-            lasts = store.lines.iter().map(|line| line.records[line.records.len() - 1]).collect();
-        });
-        for (name, n) in here {
+        for (name, n) in of_script(&generate::script(seed)) {
             let count = counts.entry(name).or_default();
             *count = (count.0 + 1, count.1 + n);
         }

@@ -49,6 +49,16 @@ pub fn run(text: &[u8]) -> Vec<u8> {
     out
 }
 
+/// The words of the log behind each line of a script, a line each.
+pub fn logs(text: &[u8]) -> Vec<u8> {
+    let mut out = Vec::new();
+    each_reply(text, |store, _, _| {
+        let words: Vec<String> = store.iter().flat_map(|s| &s.log).map(|w| format!("{w:x}")).collect();
+        out.extend(words.join(" ").bytes().chain([b'\n']));
+    });
+    out
+}
+
 /// Runs a script; `seen` gets the store behind each line, if there is one, the call and the reply.
 pub fn each_reply(text: &[u8], mut seen: impl FnMut(Option<&Store>, Option<Call>, &Reply)) {
     let text = &text[..text.len().min(65_536)];

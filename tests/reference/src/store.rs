@@ -1,5 +1,6 @@
 //! The store of the rules, the crude way: a block is freed when it leaves the last page of the last record.
 //! Deadlists are kept only for the order in which a delete gives its blocks, and checked against the crude walk.
+//! A freed block waits in a set that an accepted Y or C empties; behind each accepted call no page may have a block of it.
 use std::collections::{BTreeMap, BTreeSet};
 
 #[derive(Clone, Copy)]
@@ -74,6 +75,10 @@ pub struct Store {
     pub lines: Vec<Line>,
     /// of a held block: the number of the record that was open when it was given
     pub births: BTreeMap<u64, u64>,
+    /// the blocks freed since the last accepted Y or C: none of them is given or listed
+    pub waiting: BTreeSet<u64>,
+    /// the same in the order in which they were freed
+    pub freed: Vec<u64>,
     pub marks: Vec<u64>,
     pub counter: u64,
     pub writes: u64,
@@ -92,6 +97,8 @@ impl Store {
             records: BTreeMap::new(),
             lines: Vec::new(),
             births: BTreeMap::new(),
+            waiting: BTreeSet::new(),
+            freed: Vec::new(),
             marks: vec![0; g.arenas as usize],
             counter: 0,
             writes: 0,
@@ -125,12 +132,23 @@ impl Store {
         self.records.values().any(|r| r.pages.contains(&Some(b)))
     }
 
+    /// For each block, whether a page of a record has it.
+    fn on_pages(&self) -> Vec<bool> {
+        let mut on = vec![false; self.g.blocks() as usize];
+        self.records.values().flat_map(|r| r.pages.iter().flatten()).for_each(|&b| on[b as usize] = true);
+        on
+    }
+
+    fn may_be_given(&self, b: u64) -> bool {
+        !self.births.contains_key(&b) && !self.waiting.contains(&b)
+    }
+
     fn choose(&self, kind: u64) -> Option<(u64, u64)> {
         let first = (self.counter + kind) % self.g.arenas;
         for i in 0..self.g.arenas {
             let arena = (first + i) % self.g.arenas;
             let mark = self.marks[arena as usize];
-            let free = |o: &u64| !self.births.contains_key(&(arena * self.g.per + o));
+            let free = |o: &u64| self.may_be_given(arena * self.g.per + o);
             if let Some(o) = (mark..self.g.per).find(free).or_else(|| (0..mark).find(free)) {
                 return Some((arena, o));
             }
@@ -142,12 +160,33 @@ impl Store {
         self.g.words - self.log.len() as u64
     }
 
-    /// Gives the block and the birth that it had.
+    /// The block waits from now on. Gives it and the birth that it had.
     fn free(&mut self, b: u64) -> [u64; 2] {
         assert!(!self.on_a_page(b), "a freed block is on no page");
         let birth = self.births.remove(&b).expect("a freed block was held");
+        assert!(self.waiting.insert(b), "a held block does not wait");
+        self.freed.push(b);
         self.log.push(b * 16384 + 2);
         [b, birth]
+    }
+
+    /// An accepted Y or C: nothing waits any more.
+    fn release(&mut self) {
+        self.waiting.clear();
+        self.freed.clear();
+    }
+
+    /// A block that waits is on no page, and a block on a page is held.
+    fn check_waiting(&self) {
+        let on = self.on_pages();
+        assert!(self.waiting.iter().all(|&b| !on[b as usize] && !self.births.contains_key(&b)), "a waiting block is on no page");
+        assert_eq!(self.freed.len(), self.waiting.len(), "each block waits once");
+    }
+
+    /// 13: each block is on a page or waits.
+    fn check_full(&self) {
+        let on = self.on_pages();
+        assert!((0..self.g.blocks()).all(|b| on[b as usize] || self.waiting.contains(&b)), "13 with a block that may be given");
     }
 
     /// Would emptying this page free its block? The crude way: no other page of any record has it.
@@ -201,6 +240,11 @@ impl Store {
             (Call::Delete(r), Some((n, said))) if n == r => kept(&said, &reply, unused, unused - self.unused()),
             _ => {}
         }
+        match reply {
+            Ok(_) => self.check_waiting(),
+            Err(13) => self.check_full(),
+            _ => {}
+        }
         reply
     }
 
@@ -214,28 +258,8 @@ impl Store {
             }
             Call::Write(r, page, kind) => self.write(r, page, kind),
             Call::Erase(r, page) => self.erase(r, page),
-            Call::Seal(r) => {
-                if !self.open(r)? {
-                    return Err(9);
-                }
-                self.room()?;
-                let pages = self.records[&r].pages.clone();
-                self.records.get_mut(&r).unwrap().open = false;
-                let n = self.open_record(pages);
-                let line = self.line_of(r);
-                self.lines[line].records.push(n);
-                Ok(vec![n])
-            }
-            Call::Fork(r) => {
-                if self.open(r)? {
-                    return Err(9);
-                }
-                self.room()?;
-                let pages = self.records[&r].pages.clone();
-                let n = self.open_record(pages);
-                self.lines.push(Line { base: r, records: vec![n] });
-                Ok(vec![n])
-            }
+            Call::Seal(r) => self.seal(r),
+            Call::Fork(r) => self.fork(r),
             Call::Delete(r) => self.delete(r),
             Call::Read(r, page) => {
                 if page >= self.g.pages {
@@ -249,12 +273,37 @@ impl Store {
                     return Err(14);
                 }
                 self.log.push(3);
+                self.release();
                 Ok(vec![])
             }
             Call::Compress => Ok(vec![self.compress()]),
-            Call::FreeList => Ok(self.runs(false).into_iter().flat_map(|(b, n)| [b, n]).collect()),
+            Call::FreeList => Ok(self.runs(|b| self.may_be_given(b)).into_iter().flat_map(|(b, n)| [b, n]).collect()),
             Call::Estimate(r) => self.estimate(r),
         }
+    }
+
+    fn seal(&mut self, r: u64) -> Reply {
+        if !self.open(r)? {
+            return Err(9);
+        }
+        self.room()?;
+        let pages = self.records[&r].pages.clone();
+        self.records.get_mut(&r).unwrap().open = false;
+        let n = self.open_record(pages);
+        let line = self.line_of(r);
+        self.lines[line].records.push(n);
+        Ok(vec![n])
+    }
+
+    fn fork(&mut self, r: u64) -> Reply {
+        if self.open(r)? {
+            return Err(9);
+        }
+        self.room()?;
+        let pages = self.records[&r].pages.clone();
+        let n = self.open_record(pages);
+        self.lines.push(Line { base: r, records: vec![n] });
+        Ok(vec![n])
     }
 
     fn write(&mut self, r: u64, page: u64, kind: u64) -> Reply {
@@ -366,13 +415,10 @@ impl Store {
         Ok([mine.len(), mine.len(), shards].map(|n| n as u64).to_vec())
     }
 
-    /// The longest runs, inside arenas, of blocks that are held, or of those that are not.
-    fn runs(&self, held: bool) -> Vec<(u64, u64)> {
+    /// The longest runs, inside arenas, of the blocks that are meant.
+    fn runs(&self, meant: impl Fn(u64) -> bool) -> Vec<(u64, u64)> {
         let mut runs: Vec<(u64, u64)> = Vec::new();
-        for b in 0..self.g.blocks() {
-            if self.births.contains_key(&b) != held {
-                continue;
-            }
+        for b in (0..self.g.blocks()).filter(|&b| meant(b)) {
             match runs.last_mut() {
                 Some((at, n)) if *at + *n == b && b % self.g.per != 0 => *n += 1,
                 _ => runs.push((b, 1)),
@@ -383,7 +429,8 @@ impl Store {
 
     fn compress(&mut self) -> u64 {
         self.log.clear();
-        for (b, n) in self.runs(true) {
+        self.release();
+        for (b, n) in self.runs(|b| self.births.contains_key(&b)) {
             if n == 1 {
                 self.log.push(b * 16384 + 1);
             } else {

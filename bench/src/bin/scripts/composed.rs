@@ -38,6 +38,14 @@ impl Composed {
         }
     }
 
+    /// A barrier where fewer than `blocks` may be given while others wait: without it the writes that follow would be refused by 13 only because of what
+    /// waits, and the script would be one of refusals.
+    pub fn release(&mut self, blocks: usize) {
+        if self.store.free_blocks() < blocks && self.store.waiting_blocks() > 0 {
+            self.call(Call::Barrier);
+        }
+    }
+
     pub fn newest(&self) -> u64 {
         self.store.last as u64
     }

@@ -7,6 +7,8 @@ use std::process::exit;
 const ROUNDS: usize = 150;
 const WRITES: usize = 1000;
 const PAIRS: usize = 500;
+/// How many calls there are between two barriers: a store with 1,750 dead blocks has 42 free, and what the calls free waits.
+const BETWEEN: usize = 32;
 
 /// The times of calls, in nanoseconds, where `at` pages, records or dead blocks are there.
 pub struct Point {
@@ -46,17 +48,19 @@ impl Begun {
         self
     }
 
-    /// With calls behind them, made from `count` numbers of records from the open one on.
+    /// With calls behind them, made from `count` numbers of records from the open one on, and a barrier behind every so many.
     fn with(&self, count: usize, unit: impl Fn(usize) -> String) -> String {
-        let calls: String = (self.r..self.r + count).map(unit).collect();
+        let barrier = |i: usize| if i % BETWEEN == 0 { "Y\n" } else { "" };
+        let calls: String = (1..=count).map(|i| unit(self.r + i - 1) + barrier(i)).collect();
         format!("{}{calls}", self.text)
     }
 }
 
-/// The scripts of a point: the first lines alone, then with calls behind them.
+/// The scripts of a point: the first lines with barriers alone, then with calls between them. So a call's time has what the end of its blocks' waiting
+/// takes, and not the barrier itself.
 struct Scripts {
     at: usize,
-    texts: [String; 6],
+    texts: [String; 7],
 }
 
 impl Scripts {
@@ -65,17 +69,18 @@ impl Scripts {
         let writes = begun.with(WRITES, |_| format!("W {r} 0 0\n"));
         let pairs = begun.with(PAIRS, |n| format!("S {n}\nD {n}\n"));
         let threes = begun.with(PAIRS, |n| format!("S {n}\nW {} 0 0\nD {n}\n", n + 1));
-        let first = begun.text.clone();
+        let [first, shorter] = [WRITES, PAIRS].map(|count| begun.with(count, |_| String::new()));
         let sealed = begun.seal();
+        let none = sealed.with(PAIRS, |_| String::new());
         let forks = sealed.with(PAIRS, |n| format!("F {r}\nD {}\n", n + 1));
-        Scripts { at, texts: [first, writes, pairs, threes, sealed.text, forks] }
+        Scripts { at, texts: [first, writes, pairs, threes, none, forks, shorter] }
     }
 
     /// The point from the times of the texts.
     fn point(&self, t: &[Times]) -> Point {
         let write = t[1].minus(t[0]).each(WRITES);
         let listed = t[3].minus(t[2]).each(PAIRS);
-        let seal = t[2].minus(t[0]).each(PAIRS);
+        let seal = t[2].minus(t[6]).each(PAIRS);
         let fork = t[5].minus(t[4]).each(PAIRS);
         Point { at: self.at, times: [write, listed, seal, fork] }
     }

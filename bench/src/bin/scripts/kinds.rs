@@ -38,16 +38,19 @@ fn composed(seed: u64, shape: fn(&mut Dice) -> [u64; 6], begin: fn(&mut Composed
 
 fn nothing(_: &mut Composed) {}
 
-/// A call of the reference's generator; for some hundred calls it leans towards new records, then for as many towards deletes.
+/// A call of the reference's generator; for some hundred calls it leans towards new records, then for as many towards deletes. A barrier where all that
+/// is free waits, here and in the next two: small stores are full of held blocks often enough.
 fn random(c: &mut Composed) {
     let grow = c.dice.below(2) == 0;
     for _ in 0..1 + c.dice.below(400) {
+        c.release(1);
         let next = call(&mut c.dice, &c.six, &c.store, grow);
         c.call(next);
     }
 }
 
 fn deletes(c: &mut Composed) {
+    c.release(1);
     let next = match c.dice.below(10) {
         0..=2 => Call::Delete(record(&mut c.dice, &c.store)),
         3..=4 => Call::Seal(record(&mut c.dice, &c.store)),
@@ -57,6 +60,7 @@ fn deletes(c: &mut Composed) {
 }
 
 fn reads(c: &mut Composed) {
+    c.release(1);
     let next = match c.dice.below(10) {
         0..=7 => Call::Read(record(&mut c.dice, &c.store), c.dice.below(c.six[2])),
         _ => call(&mut c.dice, &c.six, &c.store, true),
@@ -71,21 +75,25 @@ fn written(c: &mut Composed) {
     c.write_many(r, c.six[2]);
 }
 
-/// A line of eight records, each with its own block on every page: the newest is sealed and rewritten, the oldest goes.
+/// A line of eight records, each with its own block on every page: the newest is sealed and rewritten, the oldest goes. They have all 2,048 blocks, so
+/// that the next one's are those that the delete freed: a barrier behind each delete.
 fn listed(c: &mut Composed) {
     let all = c.store.numbers();
     if all.len() == 8 {
         c.room(1024);
         c.call(Call::Delete(all[0]));
+        c.release(256);
     }
     c.call(Call::Seal(c.newest()));
     let r = c.newest();
     c.write_many(r, c.six[2]);
 }
 
-/// A line of 32 records: a seal, a few writes, and the oldest goes.
+/// A line of 32 records: a seal, a few writes, and the oldest goes. What the deletes free would use up the store before the log is full: a barrier where
+/// the few writes have no blocks left, which is every few thousand calls.
 fn window(c: &mut Composed) {
     c.room(1024);
+    c.release(8);
     c.call(Call::Seal(c.newest()));
     for _ in 0..c.dice.below(8) {
         c.write_any(c.newest());
@@ -96,9 +104,11 @@ fn window(c: &mut Composed) {
     }
 }
 
-/// 64 records in lines that fork: where the table is full one goes, else a seal or a fork; writes and reads between.
+/// 64 records in lines that fork: where the table is full one goes, else a seal or a fork; writes and reads between. A barrier where the two writes have
+/// no blocks left.
 fn forks(c: &mut Composed) {
     c.room(1024);
+    c.release(2);
     let all = c.store.numbers();
     match c.dice.below(3) {
         _ if all.is_empty() => c.call(Call::Begin),
@@ -129,9 +139,10 @@ fn written_and_sealed(c: &mut Composed) {
     c.call(Call::Seal(1));
 }
 
-/// Deletes where all of 256 pages are written: of a record in a line, and of a fork.
+/// Deletes where all of 256 pages are written: of a record in a line, and of a fork. A barrier where the writes between have no blocks left.
 fn wide_deletes(c: &mut Composed) {
     c.room(1024);
+    c.release(32);
     let r = c.any(true);
     let count = [1, 4, 32][c.dice.below(3) as usize];
     if c.dice.below(2) == 0 {
@@ -153,8 +164,10 @@ fn four_records(c: &mut Composed) {
     }
 }
 
+/// Each write but the first ones frees a block: a barrier where none is left to give, which is every thousand writes or more.
 fn writes(c: &mut Composed) {
-    c.room(2);
+    c.room(3);
+    c.release(1);
     let r = 1 + c.dice.below(4);
     c.write_any(r);
 }
@@ -169,9 +182,11 @@ fn nearly_all(c: &mut Composed) {
     }
 }
 
-/// A write to one of the newest record's own pages, or one is emptied and written again.
+/// A write to one of the newest record's own pages, or one is emptied and written again. Each takes one of the few free blocks and frees another, which
+/// waits: a barrier once none is left, so that one to eight are free at each search, as before.
 fn far(c: &mut Composed) {
     c.room(4);
+    c.release(1);
     let (r, page) = (c.newest(), c.dice.below(256));
     if c.store.free_blocks() > 1 && c.dice.below(4) == 0 {
         c.call(Call::Erase(r, page));

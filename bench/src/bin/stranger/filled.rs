@@ -25,11 +25,19 @@ impl Filled {
         self.store.last as u64
     }
 
+    /// A barrier where no block is left to give but those that wait: a store is to be as full as calls can make it.
+    fn release(&mut self) {
+        if self.store.free_blocks() == 0 && self.store.waiting_blocks() > 0 {
+            self.call(Call::Barrier);
+        }
+    }
+
     /// Blocks given to different pages of the newest record.
     fn rewrite(&mut self, d: &mut Dice, count: u64) {
         let (r, pages) = (self.newest(), self.store.g.pages as u64);
         let first = d.below(pages);
         for i in 0..count.min(pages) {
+            self.release();
             self.call(Call::Write(r, (first + 7 * i) % pages, d.below(3)));
         }
     }
@@ -44,12 +52,14 @@ impl Filled {
         }
     }
 
-    /// Empties and fills pages of the newest record until the log has no two words left.
+    /// Empties and fills pages of the newest record until the log has no two words left. What is emptied waits: without barriers the pages would stay
+    /// empty and the log as it is.
     fn churn(&mut self) {
         let r = self.newest();
         let mut page = 0;
         while self.store.unused() >= 2 {
             self.call(Call::Erase(r, page));
+            self.release();
             self.call(Call::Write(r, page, 0));
             page = (page + 1) % self.store.g.pages as u64;
         }
@@ -75,6 +85,19 @@ pub fn filled(six: [u64; 6], records: u64, rewritten: u64, long_log: bool) -> Fi
     }
     f.rewrite(&mut d, 256);
     if long_log { f.churn() } else { f.call(Call::Compress) }
+    f
+}
+
+/// A store in which every block waits: all were given, to eight records, and the records are deleted.
+pub fn waiting(six: [u64; 6]) -> Filled {
+    let mut f = Filled::new(six);
+    let mut d = Dice::new(7);
+    for _ in 0..8 {
+        f.call(Call::Begin);
+        f.rewrite(&mut d, 256);
+    }
+    (1..=8).for_each(|r| f.call(Call::Delete(r)));
+    assert_eq!(f.store.waiting_blocks(), f.store.g.blocks(), "every block waits");
     f
 }
 

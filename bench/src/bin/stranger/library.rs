@@ -47,7 +47,7 @@ impl Lent {
     pub fn new(six: [usize; 6]) -> Lent {
         let [arenas, per, _, records, _, words] = six;
         let blocks = arenas * per;
-        let tables = vec![0; 2048 + 512 * records + blocks];
+        let tables = vec![0; 2048 + 512 * records + 4 * blocks];
         let mut lent = Lent { six, tables, log: vec![0; 8 * words], out: vec![0; 2 * blocks + 64] };
         let [arenas, per, pages, records, turn, words] = six;
         let (t, l, o) = (lent.tables.len(), lent.log.len(), lent.out.len());

@@ -5,7 +5,7 @@ mod reads;
 
 use bench::clock::seconds;
 use bench::store::Call;
-use filled::{filled, hostile, Filled};
+use filled::{filled, hostile, waiting, Filled};
 use reads::{read, sum};
 
 const ROUNDS: usize = 300;
@@ -35,7 +35,7 @@ impl Case {
         let (lent, used) = (&mut self.store.lent, self.store.store.used);
         let mut answer = Ok(0);
         self.call = self.call.min(seconds(|| answer = lent.call(Call::Read(1, 3))));
-        let sound = answer.is_ok() || answer == Err(8) && self.store.store.last == 0;
+        let sound = answer.is_ok() || answer == Err(8) && self.store.store.numbers().is_empty();
         assert!(sound, "a call on a sound store is refused: {answer:?}");
         self.read = self.read.min(seconds(|| read(lent, used)));
         self.sum = self.sum.min(seconds(|| sum(lent, used)));
@@ -47,11 +47,12 @@ impl Case {
 
     fn row(&self) {
         let store = &self.store.store;
-        let held = store.g.blocks() - store.free_blocks();
+        let waits = store.waiting_blocks();
+        let held = store.g.blocks() - store.free_blocks() - waits;
         let lent = &self.store.lent;
         let bytes = 4 * (lent.tables.len() + lent.out.len()) + 8 * store.used;
         println!(
-            "| {} | {} | {held} | {} | {} | {bytes} | {:.1} | {:.1} | {:.1} | {:.1} | {:.1} |",
+            "| {} | {} | {held} | {} | {waits} | {} | {bytes} | {:.1} | {:.1} | {:.1} | {:.1} | {:.1} |",
             self.name, store.numbers().len(), store.dead_blocks(), store.used, self.ratio(), self.call / self.sum,
             1e6 * self.call, 1e6 * self.read, 1e6 * self.sum
         );
@@ -72,6 +73,7 @@ fn cases() -> Vec<Case> {
         Case::new(middle, filled(MIDDLE, 16, 12, true)),
         Case::new(middle, filled(MIDDLE, 16, 12, false)),
         Case::new(small, filled(SMALL, 4, 4, true)),
+        Case::new("16 × 128 blocks, every block waiting", waiting(LARGEST)),
         Case::new("2 × 1,024 blocks, a log of runs of 1,024", hostile(TWO)),
     ]
 }
@@ -81,7 +83,8 @@ fn main() {
     for _ in 0..ROUNDS {
         cases.iter_mut().for_each(|c| (0..IN_A_ROW).for_each(|_| c.round()));
     }
-    println!("| made for | records | held blocks | dead blocks | log words | bytes | call / read | call / sum | call, µs | read, µs | sum, µs |\n|---|---|---|---|---|---|---|---|---|---|---|");
+    println!("| made for | records | held blocks | dead blocks | waiting | log words | bytes | call / read | call / sum | call, µs | read, µs | sum, µs |");
+    println!("|---|---|---|---|---|---|---|---|---|---|---|---|");
     cases.iter().for_each(Case::row);
     let met = cases.iter().filter(|c| c.ratio() <= MOST).count();
     let sums = cases.iter().filter(|c| c.call <= MOST * c.sum).count();

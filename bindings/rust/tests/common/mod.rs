@@ -138,6 +138,7 @@ pub fn refused(m: &mut Owned, g: Geometry, call: Call, number: u32) {
 pub const SMALL: Geometry = Geometry { arenas: 2, per: 3, pages: 5, records: 6, turn: 7, words: 20 };
 
 /// A small store with a fork, a delete, deadlists and free blocks: records 1 (sealed, forked), 2 (sealed), 4 (open, behind 2), 5 (open, fork of 1).
+/// Block 4 was freed behind the last barrier, so that it waits.
 pub fn small() -> Owned {
     let mut m = Owned::made(SMALL);
     let s = &mut m.lend();
@@ -152,6 +153,9 @@ pub fn small() -> Owned {
         Call::S(3),
         Call::D(3),
         Call::W(4, 2, 2),
+        Call::W(4, 1, 1),
+        Call::Y,
+        Call::E(4, 1),
         Call::F(1),
         Call::E(5, 4),
     ] {

@@ -7,10 +7,10 @@ use Rattle.logging.proofs.barrier.Statement.{statement}
 use Rattle.logging.proofs.barrier.Tie as tie
 
 slice-read-wide : tie.Need-slice-read-wide
-slice-read-wide c = omega arith
+slice-read-wide c = search needs
 
 wide-requires : tie.Need-wide-requires
-wide-requires c κs = omega arith
+wide-requires c κs = search needs
 
 sub-if1 : tie.Need-sub-if1
 unfolding stateOf
@@ -25,19 +25,22 @@ returns c =
     barrier-refused (s .g) (s .t .now) (s .log .now) (w .wide .result) (w .wide .ensures) (c .if1 .taken)
 
 mul-append : tie.Need-mul-append
-mul-append c = omega arith
+mul-append c = search needs
 
 append-requires : tie.Need-append-requires
-append-requires c κs = omega arith
+append-requires c κs = search needs
+
+release-requires : tie.Need-release-requires
+release-requires c κs = search needs
 
 add-t : tie.Need-add-t
-add-t c = omega arith
+add-t c = search needs
 
 cast-t : tie.Need-cast-t
-cast-t c = omega arith
+cast-t c = search needs
 
 slice-write-t : tie.Need-slice-write-t
-slice-write-t c = omega arith
+slice-write-t c = search needs
 
 same-length : tie.Need-same-length
 same-length c = search needs
@@ -47,11 +50,13 @@ same-length-2 c = search needs
 
 returns-2 : tie.Need-returns-2
 returns-2 c =
-    let p = c .before .before in
+    let q = c .before .before in
+    let p = q .before .before .before .before in
     let k = p .before .before in
     let w = k .before .before in
     let s = w .before .before .before .before in
-    barrier-done (s .args .g) (s .args .t .now) (s .args .log .now) (w .wide .result) (w .wide .ensures) _ (s .pre .0) (k .if1 .left) (p .append .ensures .1)
+    barrier-done (s .args .g) (s .args .t .now) (s .args .log .now) (w .wide .result) (w .wide .ensures) _ _ (s .pre .0) (k .if1 .left) (p .append .ensures .1)
+    (q .release .ensures)
 
 pub barrier-spec : {M : Type 1} → statement M
 barrier-spec =
@@ -63,6 +68,7 @@ barrier-spec =
     returns
     mul-append
     append-requires
+    release-requires
     add-t
     cast-t
     slice-write-t

@@ -5,6 +5,9 @@ use borrow.Author.Needs.{needs}
 use Rattle.logging.proofs.compress_log.Statement.{statement}
 use Rattle.logging.proofs.compress_log.Tie as tie
 
+release-requires : tie.Need-release-requires
+release-requires c κs = search needs
+
 add-put-kept : tie.Need-add-put-kept
 add-put-kept c = search needs
 
@@ -23,8 +26,9 @@ put-kept-requires c κs = search needs
 cast-t : tie.Need-cast-t
 cast-t c =
     let p = c .before .before in
-    let s = p .before .before .before .before .before .before .before in
-    omega (arith, words-few (s .args .g) (s .args .t .now) (s .pre .0) (p .put-kept .result) (p .put-kept .ensures .0))
+    let r = p .before .before .before .before .before .before in
+    let s = r .before .before .before .before .before in
+    omega (arith, words-few (s .args .g) (s .args .t .now) _ (s .pre .0) (r .release .ensures) (p .put-kept .result) (p .put-kept .ensures .0))
 
 slice-write-t : tie.Need-slice-write-t
 slice-write-t c = search needs
@@ -32,8 +36,9 @@ slice-write-t c = search needs
 cast-out : tie.Need-cast-out
 cast-out c =
     let p = c .before .before in
-    let s = p .before .before .before .before .before .before .before in
-    omega (arith, words-few (s .args .g) (s .args .t .now) (s .pre .0) (p .put-kept .result) (p .put-kept .ensures .0))
+    let r = p .before .before .before .before .before .before in
+    let s = r .before .before .before .before .before in
+    omega (arith, words-few (s .args .g) (s .args .t .now) _ (s .pre .0) (r .release .ensures) (p .put-kept .result) (p .put-kept .ensures .0))
 
 slice-write-out : tie.Need-slice-write-out
 slice-write-out c = search needs
@@ -50,14 +55,16 @@ same-length-3 c = search needs
 returns : tie.Need-returns
 returns c =
     let p = c .before .before in
-    let s = p .before .before .before .before .before .before .before in
-    compressed-done (s .args .g) (s .args .t .now) (s .pre .0) (p .put-kept .result) (p .put-kept .ensures .0) (s .args .log .now) _ (s .args .out .now) (s .pre .2)
-    (p .put-kept .ensures .1)
+    let r = p .before .before .before .before .before .before in
+    let s = r .before .before .before .before .before in
+    compressed-done (s .args .g) (s .args .t .now) _ (s .pre .0) (r .release .ensures) (p .put-kept .result) (p .put-kept .ensures .0) (s .args .log .now) _
+    (s .args .out .now) (s .pre .2) (p .put-kept .ensures .1)
 
 pub compress-log-spec : {M : Type 1} → statement M
 compress-log-spec =
     tie.close
     (tie.spec
+    release-requires
     add-put-kept
     sub-put-kept
     part-put-kept-start

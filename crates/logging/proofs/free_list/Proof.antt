@@ -63,12 +63,12 @@ loop2-holds c =
 first-given-requires : tie.Need-first-given-requires Inv-loop2 μ-loop2 Inv-loop μ-loop
 first-given-requires c κs =
     let s = c .before .before .before .before .before .before .before .before .before in
-    omega (arith, words-long (s .pre .0))
+    omega (arith, words-long (s .pre .0 .roomy) (s .pre .0 .free))
 
 first-kept-requires : tie.Need-first-kept-requires Inv-loop2 μ-loop2 Inv-loop μ-loop
 first-kept-requires c κs =
     let s = c .before .before .before .before .before .before .before .before .before .before in
-    omega (arith, words-long (s .pre .0))
+    omega (arith, words-long (s .pre .0 .roomy) (s .pre .0 .free))
 
 put-pair-requires : tie.Need-put-pair-requires Inv-loop2 μ-loop2 Inv-loop μ-loop
 put-pair-requires c κs =

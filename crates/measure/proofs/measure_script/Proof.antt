@@ -21,7 +21,7 @@ slice-aggregate-serve-part-3 c = search needs
 
 serve-part-requires : tie.Need-serve-part-requires
 serve-part-requires c κs =
-    no-store-kept _ _ _ _ (c .before .before .before .before .start .ensures) (omega (arith, length-replicate {A = ℕ} 36864 0))
+    no-store-kept _ _ _ _ (c .before .before .before .before .start .ensures) (omega (arith, length-replicate {A = ℕ} 43008 0))
     (omega (arith, length-replicate {A = ℕ} 65536 0)) (omega (arith, length-replicate {A = ℕ} 4160 0))
 
 same-length : tie.Need-same-length

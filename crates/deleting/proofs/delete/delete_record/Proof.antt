@@ -37,6 +37,7 @@ free-all-requires c κs =
       Leaving.leave-roomy (pre .0) (a .s) (pre .2) (a .link) (pre .3) _ (out .1 .0),
       Leaving.leave-long (pre .0) (a .s) (pre .2) (a .link) (pre .3) _ (out .1 .0) _ _ (out .1 .1) (pre .1) _ (out .0) _ born,
       Leaving.leave-blocks (pre .0) (a .s) (pre .2) (a .link) (pre .3) _ (out .1 .0) _ _ (out .1 .1) (pre .1) _ (out .0) _ born,
+      Leaving.leave-fit (pre .0) (a .s) (pre .2) (a .link) (pre .3) _ (out .1 .0) _ _ (out .1 .1) (pre .1) _ (out .0),
     )
 
 -- the slot is one of the store's

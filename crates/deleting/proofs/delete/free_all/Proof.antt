@@ -2,8 +2,9 @@
 use native.Mathlib.Omega.{arith}
 use borrow.Author.Needs.{needs}
 use mathlib.Core.Path.{_≡_, refl, ap, _∙_}
-use Prim.Native.Nat.{_-_, _≤_}
-use lib.ListN.{length}
+use Prim.Native.Nat.{_+_, _-_, _≤_}
+use lib.ListN.{length, getD}
+use Rattle.geometry.specs.Limits.{blocks}
 use Rattle.deleting.specs.Stages.{freedAll}
 use Rattle.deleting.proofs.Pairing.{firsts}
 use Rattle.deleting.proofs.Leaving
@@ -11,13 +12,14 @@ use Rattle.deleting.proofs.delete.free_all.Statement.{statement}
 use Rattle.deleting.proofs.delete.free_all.Tie as tie
 
 abbrev Inv-loop : tie.InvT-loop
-Inv-loop g t₀ out n i₀ t i = (length t ≡ length t₀) × (i ≤ n) × (t ≡ freedAll (g .records) t₀ (firsts i out))
+Inv-loop g t₀ out n i₀ t i =
+    (length t ≡ length t₀) × (i ≤ n) × (t ≡ freedAll (g .records) (blocks g) t₀ (firsts i out)) × (getD t 11 0 ≡ getD t₀ 11 0 + i)
 
 abbrev μ-loop : tie.MeasureT-loop
 μ-loop g t₀ out n i₀ t i = n - i
 
 loop-holds : tie.Need-loop-holds Inv-loop μ-loop
-loop-holds c = (refl, omega arith, Leaving.freed-none _ _ (c .before .before .args .out .now))
+loop-holds c = (refl, omega arith, Leaving.freed-none _ _ _ (c .before .before .args .out .now), omega arith)
 
 mul-wide : tie.Need-mul-wide Inv-loop μ-loop
 mul-wide c = omega arith
@@ -37,6 +39,7 @@ free-block-requires c κs =
     let turn = c .before .before .before .before .loop in (
       Leaving.roomy-as (turn .inv .0) (start .pre .0),
       omega (arith, c .wide .ensures, start .pre .2 (turn .i) (c .before .before .before .loop-test .taken)),
+      omega (arith, turn .inv .3, start .pre .3),
     )
 
 add-i : tie.Need-add-i Inv-loop μ-loop
@@ -50,10 +53,11 @@ loop-again c =
     let start = c .before .before .before .before .before .before .before .before .before .before in
     let made = c .before .before .free-block .ensures in
     let turn = c .before .before .before .before .before .before .before .loop in (
-      ap length made ∙ Leaving.freed-length _ _ _ ∙ turn .inv .0,
+      ap length made ∙ Leaving.freed-length _ _ _ _ ∙ turn .inv .0,
       omega arith,
-      Leaving.freed-turn (start .args .g .records) _ _ _ (start .args .out .now) (turn .i) _ (omega arith) (turn .inv .2)
+      Leaving.freed-turn (start .args .g .records) (blocks (start .args .g)) _ _ _ (start .args .out .now) (turn .i) _ (omega arith) (turn .inv .2)
           (c .before .before .before .wide .ensures) made,
+      Leaving.count-turn (start .args .g .records) (blocks (start .args .g)) _ _ _ _ _ (omega (arith, start .pre .0 .room, turn .inv .0)) (turn .inv .3) made,
     )
 
 same-length : tie.Need-same-length Inv-loop μ-loop
@@ -64,7 +68,7 @@ returns c =
     let start = c .before .before .before .before in
     let turn = c .before .loop in
     let e : turn .i ≡ start .args .n = omega arith in
-    turn .inv .2 ∙ ap (λ j. freedAll (start .args .g .records) (start .args .t .now) (firsts j (start .args .out .now))) e
+    turn .inv .2 ∙ ap (λ j. freedAll (start .args .g .records) (blocks (start .args .g)) (start .args .t .now) (firsts j (start .args .out .now))) e
 
 pub free-all-spec : {M : Type 1} → statement M
 free-all-spec =

@@ -1,7 +1,9 @@
 -- The call Q: its two refusals, and its three numbers.
 use native.Mathlib.Omega.{arith}
 use borrow.Author.Needs.{needs}
+use Prim.Native.Nat.{_-_}
 use lib.ListN.{set, length-set}
+use Rattle.deleting.proofs.Calling
 use Rattle.deleting.proofs.Verdicts
 use Rattle.deleting.proofs.Estimating
 use Rattle.deleting.proofs.estimate.estimate.Statement.{statement}
@@ -26,8 +28,8 @@ returns-2 c =
 follower-of-requires : tie.Need-follower-of-requires
 follower-of-requires c κs = search needs
 
-gain-of-requires : tie.Need-gain-of-requires
-gain-of-requires c κs =
+count-frees-requires : tie.Need-count-frees-requires
+count-frees-requires c κs =
     let start = c .before .before .before .before .before .before .before in
     let slot = c .before .before .before .before .slot-of in (
       start .pre .0,
@@ -37,27 +39,42 @@ gain-of-requires c κs =
     )
 
 cast-out : tie.Need-cast-out
-cast-out c = search needs
+cast-out c =
+    let start = c .before .before .before .before .before .before .before .before in
+    let most = Calling.deleted-most (start .args .g) (start .args .t .now) (c .before .before .before .before .before .slot-of .result - 1) (start .pre .0) (c .before .follower-of .result) in
+    omega (arith, c .count-frees .ensures, most, start .pre .0 .roomy .inside .pages-most)
 
 slice-write-out : tie.Need-slice-write-out
 slice-write-out c = search needs
 
 cast-out-2 : tie.Need-cast-out-2
-cast-out-2 c = search needs
+cast-out-2 c =
+    let start = c .before .before .before .before .before .before .before .before in
+    let most = Calling.deleted-most (start .args .g) (start .args .t .now) (c .before .before .before .before .before .slot-of .result - 1) (start .pre .0) (c .before .follower-of .result) in
+    omega (arith, c .count-frees .ensures, most, start .pre .0 .roomy .inside .pages-most)
 
 slice-write-out-2 : tie.Need-slice-write-out-2
 slice-write-out-2 c =
-    let start = c .before .before .before .before .before .before .before .before .before .before in
-    let blocks = c .before .before .gain-of .result .blocks in
-    omega (arith, start .pre .1, length-set (start .args .out .now) 0 blocks)
+    let start = c .before .before .before .before .before .before .before .before in
+    omega (arith, start .pre .1, length-set (start .args .out .now) 0 (c .count-frees .result))
+
+shards-of-requires : tie.Need-shards-of-requires
+shards-of-requires c κs =
+    let start = c .before .before .before .before .before .before .before .before in
+    let slot = c .before .before .before .before .before .slot-of in (
+      start .pre .0,
+      omega (arith, slot .ensures .1),
+      Verdicts.slot-live _ _ _ _ (slot .ensures .0) (c .before .before .before .before .if1 .left) (start .pre .0),
+      c .before .follower-of .ensures .1,
+    )
 
 cast-out-3 : tie.Need-cast-out-3
 cast-out-3 c = search needs
 
 slice-write-out-3 : tie.Need-slice-write-out-3
 slice-write-out-3 c =
-    let start = c .before .before .before .before .before .before .before .before .before .before .before in
-    let blocks = c .before .before .before .gain-of .result .blocks in
+    let start = c .before .before .before .before .before .before .before .before .before in
+    let blocks = c .before .count-frees .result in
     omega (arith, start .pre .1, length-set (start .args .out .now) 0 blocks, length-set (set (start .args .out .now) 0 blocks) 1 blocks)
 
 same-length : tie.Need-same-length
@@ -65,14 +82,13 @@ same-length c = search needs
 
 returns-3 : tie.Need-returns-3
 returns-3 c =
-    let start = c .before .before .before .before .before .before .before .before .before .before .before in
-    let slot = c .before .before .before .before .before .before .before .before .slot-of .ensures .0 in
-    let there = c .before .before .before .before .before .before .before .if1 .left in
-    let fork = c .before .before .before .before .before .before .is-forked .ensures in
-    let none = c .before .before .before .before .before .if2 .left in
-    let next = c .before .before .before .before .follower-of .ensures .0 in
-    let gain = c .before .before .before .gain-of .ensures in
-    Estimating.answered _ _ _ _ _ slot there _ fork none _ next _ _ (gain .0) (gain .1 .0) (start .pre .1)
+    let start = c .before .before .before .before .before .before .before .before .before in
+    let slot = c .before .before .before .before .before .before .slot-of .ensures .0 in
+    let there = c .before .before .before .before .before .if1 .left in
+    let fork = c .before .before .before .before .is-forked .ensures in
+    let none = c .before .before .before .if2 .left in
+    let next = c .before .before .follower-of .ensures .0 in
+    Estimating.answered _ _ _ _ _ slot there _ fork none _ next _ _ (c .before .count-frees .ensures) (c .shards-of .ensures .0) (start .pre .1)
 
 pub estimate-spec : {M : Type 1} → statement M
 estimate-spec =
@@ -84,11 +100,12 @@ estimate-spec =
     is-forked-requires
     returns-2
     follower-of-requires
-    gain-of-requires
+    count-frees-requires
     cast-out
     slice-write-out
     cast-out-2
     slice-write-out-2
+    shards-of-requires
     cast-out-3
     slice-write-out-3
     same-length

@@ -13,6 +13,9 @@ mul-if1 c = search needs
 add-if1 : tie.Need-add-if1
 add-if1 c = search needs
 
+mul-if1-2 : tie.Need-mul-if1-2
+mul-if1-2 c = search needs
+
 add-if1-2 : tie.Need-add-if1-2
 add-if1-2 c = search needs
 
@@ -41,6 +44,7 @@ is-short-spec =
     mul-blocks
     mul-if1
     add-if1
+    mul-if1-2
     add-if1-2
     returns
     mul-if2

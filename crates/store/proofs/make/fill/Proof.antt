@@ -19,6 +19,9 @@ mul-clear c = search needs
 add-clear : tie.Need-add-clear
 add-clear c = search needs
 
+mul-clear-2 : tie.Need-mul-clear-2
+mul-clear-2 c = search needs
+
 add-clear-2 : tie.Need-add-clear-2
 add-clear-2 c = search needs
 
@@ -52,6 +55,7 @@ fill-spec =
     mul-blocks
     mul-clear
     add-clear
+    mul-clear-2
     add-clear-2
     clear-requires
     fill-words-requires

@@ -2,10 +2,9 @@
 use native.Mathlib.Omega.{arith}
 use borrow.Author.Needs.{needs}
 use mathlib.Core.Path.{_∙_}
-use Rattle.deleting.proofs.Parting
 use Rattle.deleting.proofs.Estimating
-use Rattle.deleting.proofs.estimate.gain_next.Statement.{statement}
-use Rattle.deleting.proofs.estimate.gain_next.Tie as tie
+use Rattle.deleting.proofs.estimate.count_shards.Statement.{statement}
+use Rattle.deleting.proofs.estimate.count_shards.Tie as tie
 
 pred-number-requires : tie.Need-pred-number-requires
 pred-number-requires c κs = search needs
@@ -48,16 +47,11 @@ returns c =
     let pred = c .before .before .before .before .before .before .before .before .pred-number .ensures in
     let gone = c .before .before .before .before .before .before .list-gone .ensures in
     let sorted = c .before .before .before .sort-by-birth .ensures in
-    let counted = c .count-stretches .ensures in (
-      gone .0 ∙ Parting.freed-many (start .pre .0) (start .args .s) (start .args .n) _ pred,
-      (
-        counted .0 ∙ Estimating.shards-are (start .pre .0) (start .args .n) _ _ _ _ (gone .0) (gone .1 .1) (omega arith) _ sorted (start .args .s) pred,
-        (gone .1 .0, counted .1),
-      ),
-    )
+    let counted = c .count-stretches .ensures in
+    (counted .0 ∙ Estimating.shards-are (start .pre .0) (start .args .n) _ _ _ _ (gone .0) (gone .1 .1) (omega arith) _ sorted (start .args .s) pred, counted .1)
 
-pub gain-next-spec : {M : Type 1} → statement M
-gain-next-spec =
+pub count-shards-spec : {M : Type 1} → statement M
+count-shards-spec =
     tie.close
     (tie.spec
     pred-number-requires

@@ -1,0 +1,431 @@
+-- A PLUG PULLED: the log of a store, cut at any byte. The statement is `Crash` in specs/Crash.antt.
+use mathlib.Core.Path.{_≡_, refl, sym, ap, ap₂, _∙_, subst}
+use mathlib.Core.Logic.{_⊎_, inl, inr}
+use mathlib.Core.Bool.{Bool, true, false, not, cond, _&&_, false≢true}
+use mathlib.Core.List.{List, [], _∷_, _++_, append-assoc, append-nil}
+use Prim.Native.Nat.{ℕ, zero, suc, _+_, _-_, _*_, _%_, _≤_, _<_}
+use native.Mathlib.Omega.{arith}
+use lib.ListN.{length, getD, take}
+use borrow.Author.Tests.{eq-eqb}
+use lib.Seq.{take-take, take-append-add, take-append-le, length-take-le, take-all}
+use Rattle.answer.specs.Reply.{Reply, accepted, refused}
+use Rattle.answer.specs.Refusal.{NoneHolds}
+use Rattle.answer.proofs.Cases.{cases, either, lt?, same?}
+use Rattle.geometry.specs.declared.Geometry.{Geometry}
+use Rattle.geometry.specs.Limits.{Inside, blocks}
+use Rattle.log.specs.Word.{words, wordBytes, bytesOf, barrier}
+use Rattle.log.specs.Settled.{settled, NoBarrier}
+use Rattle.log.specs.Marks.{heldIn, passing, heldBlocks}
+use Rattle.log.specs.Read.{Reads}
+use Rattle.log.specs.Tool.{readable, marksOf, heldAtEnd, everyReply, readReply}
+use Rattle.log.proofs.Writing.{length-bytes, bytes-append}
+use Rattle.log.proofs.Appending.{words-append}
+use Rattle.log.proofs.SettledFacts.{settled-judged, settled-cut, every-accepted}
+use Rattle.model.specs.Book.{Some}
+use Rattle.model.specs.View.{View}
+use Rattle.model.specs.Lists.{In}
+use Rattle.model.specs.Sound.{Sound}
+use Rattle.model.specs.Actions.{Action, doB, doS, doF, Asks, done, vacant}
+use Rattle.model.specs.Held.{held, frees}
+use Rattle.model.specs.State.{State}
+use Rattle.model.specs.Calls.{slot, block, writing, erasing, deleting, written, conditions, result, acted, given, effect}
+use Rattle.model.specs.Layout.{stateOf}
+use Rattle.model.specs.Memory.{Memory, usedLog, wordsUsed, reply, makeReply, makeAfter}
+use Rattle.model.specs.SoundStore.{SoundStore}
+use Rattle.model.specs.History.{Event, give, Entry, entryOf, eventsOf, historyFrom, wasAccepted, syncs, synced?}
+use Rattle.model.specs.HistoryFacts.{Synced, Gives}
+use Rattle.model.specs.Demand.{Own, withOut, ownStore, run}
+use Rattle.model.specs.Crash.{isC, compacts?, Compacts, Ended, entryAfter, usedAfter, heldAfter, startFrom, Cut, Crash}
+use Rattle.model.specs.declared.Call.{Call}
+use Rattle.model.specs.declared.Call.the-variants.{Begin, Write, Erase, Seal, Fork, Delete, Read, Barrier, Compress, FreeList, Estimate}
+use Rattle.model.proofs.ListFacts.{in-left, in-right}
+use Rattle.model.proofs.HeldFacts.{frees-is}
+use Rattle.model.proofs.ChoiceFacts.{given-block}
+use Rattle.model.proofs.Fine.{Fine, not-zero, asks-W, asks-E, asks-S, asks-F, asks-D}
+use Rattle.model.proofs.MadeFacts.{made-zero}
+use Rattle.model.proofs.AfterBarrier.{GaveBy, gave-by, same-first}
+use Rattle.model.proofs.Keeps.{sound-fine, accepted-state, calls-keep-sound, making-is, made-tables, fresh-is-sound}
+use Rattle.model.proofs.Demands.{run-sound}
+use Rattle.model.proofs.Along.{
+  not-true,
+  run-append,
+  history-append,
+  some-append,
+  compacts-syncs,
+  quiet-keeps,
+  usedOf,
+  Whole,
+  wrote,
+  wroteAll,
+  refused-tables,
+  joined,
+  grown,
+  wrote-append,
+  Plain,
+  plain-bytes,
+  plain-wrote,
+  Ends,
+  ended,
+  barriered,
+  whole-run,
+  synced-ends,
+}
+
+-- ── where the calls since the last C begin ──
+
+-- the calls up to the last accepted C, and those behind it
+pub record Since (g : Geometry) (M : Memory) (n : ℕ) (l : List Own) : Type 0 where
+  pub front : List Own
+  pub back : List Own
+  pub split : l ≡ front ++ back
+  pub none : Some Compacts (historyFrom (ownStore g) (run g M front) back) → ⊥
+  pub at : ((front ≡ []) × (startFrom g M n l ≡ n)) ⊎
+      ((calls : List Own) × (a : Own) × (front ≡ calls ++ (a ∷ [])) × Compacts (entryAfter g M calls a) × (startFrom g M n l ≡ usedAfter g M front))
+
+-- where the calls behind hold no C
+behind-none : (g : Geometry) (N : Memory) (k : ℕ) (l : List Own) (s : Since g N k l) → s .front ≡ [] → Some Compacts (historyFrom (ownStore g) N l) → ⊥
+behind-none g N k l s z i =
+    s .none (subst (λ f. Some Compacts (historyFrom (ownStore g) (run g N f) (s .back))) (sym z)
+    (subst (λ b. Some Compacts (historyFrom (ownStore g) N b)) (s .split ∙ ap (λ f. f ++ s .back) z) i))
+
+since : (g : Geometry) (l : List Own) (M : Memory) (n : ℕ) → Since g M n l
+unfolding startFrom
+since g [] M n = record { front = []; back = []; split = refl; none = λ i. i; at = inl (refl, refl) }
+since g (a ∷ l) M n =
+    let N : Memory = ownStore g .after M a in
+    let t : Bool = compacts? (entryOf (ownStore g) M a) in
+    let s = since g l N (cond t (wordsUsed N) n) in
+    cases (s .at)
+    (λ z. cases (either t)
+    (λ y. record {
+      front = a ∷ [];
+      back = l;
+      split = refl;
+      none = behind-none g N (cond t (wordsUsed N) n) l s (z .0);
+      at = inr ([], a, refl, y, z .1 ∙ ap (λ b. cond b (wordsUsed N) n) y);
+    })
+    (λ y. record {
+      front = [];
+      back = a ∷ l;
+      split = refl;
+      none = λ i. cases i (λ c. false≢true (sym y ∙ c)) (behind-none g N (cond t (wordsUsed N) n) l s (z .0));
+      at = inl (refl, z .1 ∙ ap (λ b. cond b (wordsUsed N) n) y);
+    }))
+    (λ z. record {
+      front = a ∷ s .front;
+      back = s .back;
+      split = ap (λ k. a ∷ k) (s .split);
+      none = s .none;
+      at = inr (a ∷ z .0, z .1, ap (λ k. a ∷ k) (z .2), z .3, z .4);
+    })
+
+-- ── the last whole barrier ──
+
+-- an accepted Y or C is the last of the calls, or there are none
+abbrev pub Closed : Geometry → Memory → List Own → Type 0
+Closed g M l = (l ≡ []) ⊎ ((calls : List Own) × (a : Own) × (l ≡ calls ++ (a ∷ [])) × Synced (entryAfter g M calls a))
+
+pub record Found (g : Geometry) (M : Memory) (l : List Own) (n : ℕ) : Type 0 where
+  pub early : List Own
+  pub mid : List Own
+  pub late : List Own
+  pub split : l ≡ early ++ (mid ++ late)
+  pub barrier : Closed g M early
+  pub quiet : Some Synced (historyFrom (ownStore g) (run g M early) mid) → ⊥
+  pub same-log : Some Compacts (historyFrom (ownStore g) (run g M (early ++ mid)) late) → ⊥
+  pub from : 8 * usedAfter g M early ≤ n
+  pub upTo : ((late ≡ []) × (n ≤ 8 * usedAfter g M (early ++ mid))) ⊎
+      ((a : Own) × (rest : List Own) × (late ≡ a ∷ rest) × Ended (entryAfter g M (early ++ mid) a) × (n < 8 * usedAfter g M (early ++ mid) + 8))
+
+module _ (g : Geometry) (M : Memory) (l : List Own) (n : ℕ) (most : n ≤ 8 * usedAfter g M l) where
+  -- one call more
+  run-one : (m : List Own) (a : Own) → run g M (m ++ (a ∷ [])) ≡ ownStore g .after (run g M m) a
+  run-one m a = run-append (ownStore g) m (a ∷ []) M
+
+  find : (rest early mid : List Own) → l ≡ early ++ (mid ++ rest) → Closed g M early → (Some Synced (historyFrom (ownStore g) (run g M early) mid) → ⊥) →
+      (Some Compacts (historyFrom (ownStore g) (run g M (early ++ mid)) rest) → ⊥) → 8 * usedAfter g M early ≤ n → Found g M l n
+  find [] early mid s c q k f = record {
+    early = early;
+    mid = mid;
+    late = [];
+    split = s;
+    barrier = c;
+    quiet = q;
+    same-log = λ i. i;
+    from = f;
+    upTo = inl (refl, subst (λ m. n ≤ 8 * usedAfter g M m) (s ∙ ap (λ m. early ++ m) (append-nil mid)) most);
+  }
+  find (a ∷ r) early mid s c q k f =
+      let N : Memory = run g M (early ++ mid) in
+      let assoc : early ++ (mid ++ (a ∷ r)) ≡ (early ++ mid) ++ (a ∷ r) = sym (append-assoc early mid (a ∷ r)) in
+      cases (either (synced? (entryAfter g M (early ++ mid) a)))
+      (λ y.
+      let no : compacts? (entryAfter g M (early ++ mid) a) ≡ false = not-true (compacts? (entryAfter g M (early ++ mid) a)) (λ z. k (inl z)) in
+      let e = ended (a .call) (wasAccepted (reply g (withOut N (a .out)) (a .call))) y (λ z. k (inl z)) in
+      let j = joined g N a no in
+      cases (lt? n (8 * usedAfter g M (early ++ mid) + 8))
+      (λ h. record {
+        early = early;
+        mid = mid;
+        late = a ∷ r;
+        split = s;
+        barrier = c;
+        quiet = q;
+        same-log = k;
+        from = f;
+        upTo = inr (a, r, refl, e, h);
+      })
+      (λ h.
+      let E : List Own = (early ++ mid) ++ (a ∷ []) in
+      let o : run g M E ≡ ownStore g .after N a = run-one (early ++ mid) a in
+      find r E [] (s ∙ assoc ∙ sym (append-assoc (early ++ mid) (a ∷ []) r)) (inr (early ++ mid, a, refl, y)) (λ i. i)
+      (λ i. k (inr (subst (λ U. Some Compacts (historyFrom (ownStore g) U r)) (ap (run g M) (append-nil E) ∙ o) i)))
+      (omega (arith, ap wordsUsed o, j .used, ap length (barriered g N a (e .0) (e .1))))))
+      (λ y.
+      let m : List Own = mid ++ (a ∷ []) in
+      find r early m (s ∙ ap (λ z. early ++ z) (sym (append-assoc mid (a ∷ []) r))) c
+      (λ i. cases (some-append Synced (historyFrom (ownStore g) (run g M early) mid) (historyFrom (ownStore g) (run g (run g M early) mid) (a ∷ []))
+      (subst (Some Synced) (history-append (ownStore g) mid (a ∷ []) (run g M early)) i)) q
+      (λ z. cases z
+      (λ w. false≢true (sym y ∙ subst (λ U. Synced (entryOf (ownStore g) U a)) (sym (run-append (ownStore g) early mid M)) w))
+      (λ w. w)))
+      (λ i. k (inr (subst (λ U. Some Compacts (historyFrom (ownStore g) U r)) (ap (run g M) (sym (append-assoc early mid (a ∷ []))) ∙ run-one (early ++ mid) a) i))) f)
+
+-- ── reading what is left ──
+
+-- fewer than eight bytes are no word
+words-few : (l : List ℕ) → length l < 8 → words l ≡ []
+unfolding words
+words-few [] h = refl
+words-few (a ∷ []) h = refl
+words-few (a ∷ b ∷ []) h = refl
+words-few (a ∷ b ∷ c ∷ []) h = refl
+words-few (a ∷ b ∷ c ∷ d ∷ []) h = refl
+words-few (a ∷ b ∷ c ∷ d ∷ e ∷ []) h = refl
+words-few (a ∷ b ∷ c ∷ d ∷ e ∷ f ∷ []) h = refl
+words-few (a ∷ b ∷ c ∷ d ∷ e ∷ f ∷ i ∷ []) h = refl
+words-few (a ∷ b ∷ c ∷ d ∷ e ∷ f ∷ i ∷ j ∷ l) h = absurd (let z : ⊥ = omega arith in z)
+
+-- a word that is torn
+torn : (A Z : List ℕ) (k : ℕ) → k < length A + 8 → take k (A ++ Z) ≡ take k (A ++ take 7 Z)
+torn A Z k h = sym (take-take k (length A + 7) (A ++ Z) (omega arith)) ∙ ap (take k) (take-append-add A Z 7)
+
+torn-plain : (A Z : List ℕ) → length A % 8 ≡ 0 → NoBarrier (words A) → NoBarrier (words (A ++ take 7 Z))
+torn-plain A Z h p =
+    subst NoBarrier
+    (sym (words-append A (take 7 Z) h ∙ ap (λ k. words A ++ k) (words-few (take 7 Z) (omega (arith, few Z))) ∙ append-nil (words A))) p
+  where
+    few : (l : List ℕ) → length (take 7 l) ≤ 7
+    few l = cases (lt? (length l) 7) (λ k. omega (arith, ap length (take-all 7 l (omega arith)))) (λ k. omega (arith, length-take-le 7 l k))
+
+passing-ext : (t u : ℕ → Bool) (b n : ℕ) → ((i : ℕ) → i < b + n → t i ≡ u i) → passing t b n ≡ passing u b n
+passing-ext t u b zero h = refl
+passing-ext t u b (suc n) h =
+    ap₂ (λ (x : Bool) (k : List ℕ). cond x (b ∷ k) k) (h b (omega arith)) (passing-ext t u (suc b) n (λ i l. h i (omega arith)))
+
+module _ (g : Geometry) (inside : Inside g) where
+  -- the used part of a sound store's log, and plain bytes behind it, cut
+  reads-cut : (E : Memory) → SoundStore g (E .tables) (E .log) → Whole g E → Ends (usedOf g E) → (tail : List ℕ) → NoBarrier (words tail) → (k : ℕ) (out : List ℕ) →
+      2 * blocks g + 64 ≤ length out →
+      readReply g (usedOf g E ++ take k tail) out ≡ accepted (passing (held (stateOf g (E .tables) .view)) 0 (blocks g))
+  unfolding readable heldAtEnd heldBlocks marksOf
+  reads-cut E S w e tail p k out h =
+      settled-judged g (usedOf g E ++ take k tail) out ∙
+      ap (λ l. everyReply g l out) (settled-cut (usedOf g E) tail k (omega (arith, w)) p e) ∙
+      every-accepted g (usedOf g E) out inside h (S .logged .readable) ∙
+      ap accepted (passing-ext (heldIn (marksOf g (usedOf g E))) (held (stateOf g (E .tables) .view)) 0 (blocks g) (λ i l. S .logged .marks i (omega arith)))
+
+  module _ (M : Memory) (S : SoundStore g (M .tables) (M .log)) (bare : wordsUsed M ≡ 0) (l : List Own) (n : ℕ) (most : n ≤ 8 * usedAfter g M l) where
+    -- nothing is used at first
+    used-none : usedOf g M ≡ []
+    unfolding stateOf take
+    used-none = ap (λ u. take (8 * u) (M .log)) bare
+
+    whole-first : Whole g M
+    whole-first = ap length used-none ∙ ap (λ u. 8 * u) (sym bare)
+
+    module _ (F : Found g M l n) where
+      abbrev E : Memory
+      E = run g M (F .early)
+
+      ends : Ends (usedOf g (run g M (F .early)))
+      ends = cases (F .barrier)
+          (λ z. inl (ap (λ k. usedOf g (run g M k)) z ∙ used-none))
+          (λ z. subst (λ U. Ends (usedOf g U)) (sym (ap (run g M) (z .2) ∙ run-append (ownStore g) (z .0) (z .1 ∷ []) M))
+          (synced-ends g (run g M (z .0)) (z .1) (whole-run g (z .0) M whole-first) (z .3)))
+
+      -- no C since
+      none : Some Compacts (historyFrom (ownStore g) E (F .mid ++ F .late)) → ⊥
+      none i = cases (some-append Compacts (historyFrom (ownStore g) E (F .mid)) (historyFrom (ownStore g) (run g E (F .mid)) (F .late))
+          (subst (Some Compacts) (history-append (ownStore g) (F .mid) (F .late) E) i))
+          (quiet-keeps (historyFrom (ownStore g) E (F .mid)) (F .quiet))
+          (λ j. F .same-log (subst (λ U. Some Compacts (historyFrom (ownStore g) U (F .late))) (sym (run-append (ownStore g) (F .early) (F .mid) M)) j))
+
+      there : run g M l ≡ run g E (F .mid ++ F .late)
+      there = ap (run g M) (F .split) ∙ run-append (ownStore g) (F .early) (F .mid ++ F .late) M
+
+      long : length (usedOf g E) ≡ 8 * wordsUsed E
+      long = whole-run g (F .early) M whole-first
+
+      abbrev k : ℕ
+      k = n - 8 * wordsUsed E
+
+      -- the cut log: that of the last whole barrier, and some of the words behind it
+      cut-is : take n (run g M l .log) ≡ usedOf g E ++ take k (bytesOf (wroteAll g E (F .mid ++ F .late)))
+      unfolding stateOf
+      cut-is =
+          let X : List ℕ = bytesOf (wroteAll g E (F .mid ++ F .late)) in
+          sym (take-take n (8 * wordsUsed (run g M l)) (run g M l .log) most) ∙
+          ap (take n) (ap (usedOf g) there ∙ grown g (F .mid ++ F .late) E none .1) ∙
+          ap (λ m. take m (usedOf g E ++ X)) (let z : n ≡ length (usedOf g E) + k = omega (arith, long, F .from) in z) ∙
+          take-append-add (usedOf g E) X k
+
+      quiet-words : NoBarrier (words (bytesOf (wroteAll g E (F .mid))))
+      quiet-words = plain-bytes (wroteAll g E (F .mid)) (plain-wrote g (F .mid) E (F .quiet))
+
+      mid-used : usedAfter g M (F .early ++ F .mid) ≡ wordsUsed E + length (wroteAll g E (F .mid))
+      mid-used = ap wordsUsed (run-append (ownStore g) (F .early) (F .mid) M) ∙ grown g (F .mid) E (quiet-keeps (historyFrom (ownStore g) E (F .mid)) (F .quiet)) .0
+
+      -- what is left behind the last whole barrier is plain
+      tail-is : (tail : List ℕ) × NoBarrier (words tail) × (take k (bytesOf (wroteAll g E (F .mid ++ F .late))) ≡ take k tail)
+      unfolding wroteAll
+      tail-is =
+          let A : List ℕ = bytesOf (wroteAll g E (F .mid)) in
+          let Z : List ℕ = bytesOf (wroteAll g (run g E (F .mid)) (F .late)) in
+          let all : bytesOf (wroteAll g E (F .mid ++ F .late)) ≡ A ++ Z =
+          ap bytesOf (wrote-append g (F .mid) (F .late) E) ∙ bytes-append (wroteAll g E (F .mid)) (wroteAll g (run g E (F .mid)) (F .late)) in
+          let len : length A ≡ 8 * length (wroteAll g E (F .mid)) = length-bytes (wroteAll g E (F .mid)) in
+          cases (F .upTo)
+          (λ z. (A, quiet-words, ap (take k) (all ∙ ap (λ x. A ++ bytesOf (wroteAll g (run g E (F .mid)) x)) (z .0) ∙ append-nil A)))
+          (λ z. (
+            A ++ take 7 Z,
+            torn-plain A Z (omega (arith, len)) quiet-words,
+            ap (take k) all ∙ torn A Z k (omega (arith, len, mid-used, z .4, F .from)),
+          ))
+
+      pub cut-reads : (out : List ℕ) → 2 * blocks g + 64 ≤ length out →
+          readReply g (take n (run g M l .log)) out ≡ accepted (passing (heldAfter g M (F .early)) 0 (blocks g))
+      cut-reads out h =
+          let t = tail-is in
+          ap (λ x. readReply g x out) (cut-is ∙ ap (λ x. usedOf g E ++ x) (t .2)) ∙
+          reads-cut E (run-sound g (F .early) M S) long ends (t .0) (t .1) k out h
+
+-- ── a block that was held is not given before the next barrier ──
+
+-- an action keeps a block that is held or waits so
+acted-stays : (T : State) (a : Action) (k b : ℕ) → Sound (T .view) → Asks (T .view) a → (0 < T .view .birth b) ⊎ In b (T .waiting) →
+    (0 < acted T a k .view .birth b) ⊎ In b (acted T a k .waiting)
+unfolding acted
+acted-stays T a k b S q o =
+    cases o
+    (λ h. cases (same? (done (T .view) a .birth b) 0)
+    (λ e. inr (in-right b (T .waiting) (frees (T .view) a) (frees-is (T .view) a S q b .1 (h, e))))
+    (λ n. inl (omega arith)))
+    (λ i. inr (in-left b (T .waiting) (frees (T .view) a) i))
+
+-- the numbers of an accepted reply
+numbersOf : Reply → List ℕ
+numbersOf (accepted l) = l
+numbersOf (refused n) = []
+
+same-list : (l m : List ℕ) → accepted l ≡ accepted m → l ≡ m
+unfolding numbersOf
+same-list l m e = ap numbersOf e
+
+module _ (g : Geometry) (inside : Inside g) where
+  module _ (T : State) (R : Fine g T) (b : ℕ) where
+    abbrev Kept : State → Type 0
+    Kept U = (0 < U .view .birth b) ⊎ In b (U .waiting)
+
+    stays : (c : Call) → NoneHolds (conditions g T c) → syncs c ≡ false → Kept T → Kept (effect g T c)
+    unfolding given
+    stays Begin n e o = acted-stays T doB 0 b (R .sound) (not-zero (vacant (T .view)) (n .0)) o
+    stays (Write r x k) n e o = acted-stays T (writing g T r x k) (length (written g T (Write r x k))) b (R .sound) (asks-W g inside T R r x k n) o
+    stays (Erase r x) n e o = acted-stays T (erasing T r x) (length (written g T (Erase r x))) b (R .sound) (asks-E g inside T R r x n) o
+    stays (Seal r) n e o = acted-stays T (doS (slot T r)) 0 b (R .sound) (asks-S g inside T R r n) o
+    stays (Fork r) n e o = acted-stays T (doF (slot T r)) 0 b (R .sound) (asks-F g inside T R r n) o
+    stays (Delete r) n e o = acted-stays T (deleting T r) (length (written g T (Delete r))) b (R .sound) (asks-D g inside T R r (n .0) (n .1 .0)) o
+    stays (Read r x) n e o = o
+    stays Barrier n e o = absurd (false≢true (sym e))
+    stays Compress n e o = absurd (false≢true (sym e))
+    stays FreeList n e o = o
+    stays (Estimate r) n e o = o
+
+    -- and it is not given
+    not-given : (c : Call) (l : List ℕ) → NoneHolds (conditions g T c) → result g T c ≡ l → Kept T → GaveBy b c (accepted l) → ⊥
+    not-given c l n e o G =
+        let m = subst (λ d. NoneHolds (conditions g T d)) (G .call) n in
+        let q = given-block g inside T (R .range) (G .k) (m .1 .1 .1 .1 .0) in
+        let f : block g T (G .k) ≡ b = same-first (block g T (G .k)) b _ (G .rest) (ap (result g T) (sym (G .call)) ∙ e ∙ same-list l (b ∷ G .rest) (G .answer)) in
+        cases o
+        (λ h. let z : ⊥ = omega (arith, q .1, ap (T .view .birth) f) in z)
+        (λ i. q .2 (subst (λ d. In d (T .waiting)) (sym f) i))
+
+  -- along calls with no accepted Y or C
+  untouched : (m : List Own) (M : Memory) (b : ℕ) → SoundStore g (M .tables) (M .log) → (Some Synced (historyFrom (ownStore g) M m) → ⊥) →
+      (0 < stateOf g (M .tables) .view .birth b) ⊎ In b (stateOf g (M .tables) .waiting) → Some (Gives b) (historyFrom (ownStore g) M m) → ⊥
+  untouched [] M b S n o i = i
+  untouched (a ∷ m) M b S n o i =
+      go (untouched m (ownStore g .after M a) b (calls-keep-sound g (withOut M (a .out)) (a .call) S) (λ j. n (inr j)))
+      (reply g (withOut M (a .out)) (a .call)) refl
+    where
+      N : Memory
+      N = withOut M (a .out)
+
+      T : State
+      T = stateOf g (M .tables)
+
+      go : ((0 < stateOf g (ownStore g .after M a .tables) .view .birth b) ⊎ In b (stateOf g (ownStore g .after M a .tables) .waiting) →
+          Some (Gives b) (historyFrom (ownStore g) (ownStore g .after M a) m) → ⊥) →
+          (r : Reply) → reply g (withOut M (a .out)) (a .call) ≡ r → ⊥
+      go next (refused k) e =
+          cases i
+          (λ j. let w : Some (λ v. v ≡ give b) (eventsOf (a .call) (refused k)) = subst (λ r. Some (λ v. v ≡ give b) (eventsOf (a .call) r)) e j in w)
+          (next (subst (λ t. (0 < stateOf g t .view .birth b) ⊎ In b (stateOf g t .waiting)) (sym (refused-tables g N (a .call) k e)) o))
+      go next (accepted l) e =
+          let A = Rattle.model.proofs.Keeps.accepted-is g N (a .call) l e in
+          let R = sound-fine g (M .tables) (M .log) S in
+          let c : syncs (a .call) ≡ false = not-true (syncs (a .call)) (λ y. n (inl (ap (λ r. wasAccepted r && syncs (a .call)) e ∙ y))) in
+          cases i
+          (λ j. not-given T R b (a .call) l (A .0 .none) (A .1) o (gave-by b (a .call) (accepted l) (subst (λ r. Some (λ v. v ≡ give b) (eventsOf (a .call) r)) e j)))
+          (next (subst (λ U. (0 < U .view .birth b) ⊎ In b (U .waiting)) (sym (accepted-state g N (a .call) l e)) (stays T R b (a .call) (A .0 .none) c o)))
+
+-- a held block has a birth
+held-born : (K : View) (b : ℕ) → held K b ≡ true → 0 < K .birth b
+unfolding held
+held-born K b e = cases (same? (K .birth b) 0) (λ z. absurd (false≢true (sym (ap not (eq-eqb (K .birth b) 0 z)) ∙ e))) (λ n. omega arith)
+
+-- a fresh store has used no word
+fresh-used : (g : Geometry) (M : Memory) → makeReply g M ≡ accepted [] → wordsUsed (makeAfter g M) ≡ 0
+fresh-used g M e =
+    let (i, L) = making-is g M e in
+    ap (λ t. getD t 9 0) (made-tables g M e) ∙ made-zero g (M .tables) (L .tables) 9 (omega arith) (inl (omega arith)) (omega arith)
+
+-- A PLUG PULLED
+pub crash : Crash
+crash g M e l n least most =
+    let F = makeAfter g M in
+    let (inside, L) = making-is g M e in
+    let S = fresh-is-sound g M e (makeAfter g M .log) in
+    let s = since g l F 0 in
+    let bare : wordsUsed F ≡ 0 = fresh-used g M e in
+    let start : 8 * usedAfter g F (s .front) ≤ n = cases (s .at)
+    (λ z. omega (arith, ap (usedAfter g F) (z .0), bare))
+    (λ z. omega (arith, z .4)) in
+    let closed : Closed g F (s .front) = cases (s .at) (λ z. inl (z .0))
+    (λ z. inr (z .0, z .1, z .2, compacts-syncs (z .1 .call) (wasAccepted (entryAfter g F (z .0) (z .1) .answer)) (z .3))) in
+    let f = find g F l n most (s .back) (s .front) [] (s .split) closed (λ i. i)
+    (λ i. s .none (subst (λ m. Some Compacts (historyFrom (ownStore g) (run g F m) (s .back))) (append-nil (s .front)) i)) start in
+    record {
+      early = f .early;
+      mid = f .mid;
+      late = f .late;
+      split = f .split;
+      barrier = f .barrier;
+      quiet = f .quiet;
+      same-log = f .same-log;
+      from = f .from;
+      upTo = f .upTo;
+      reads = cut-reads g inside F S bare l n most f;
+      kept = λ b h i. untouched g inside (f .mid) (run g F (f .early)) b (run-sound g (f .early) F S) (f .quiet) (inl (held-born (stateOf g (run g F (f .early) .tables) .view) b h)) i;
+    }

@@ -1,0 +1,93 @@
+-- What waits in a state is what is reckoned from the freed blocks and the accepted calls.
+use mathlib.Core.Path.{_≡_, refl, sym, ap, ap₂, _∙_}
+use mathlib.Core.Logic.{_⊎_, inl, inr}
+use mathlib.Core.Bool.{Bool, true, false, cond, _&&_, _||_}
+use mathlib.Core.List.{List, [], _∷_, _++_, map}
+use Prim.Native.Nat.{ℕ}
+use lib.Dec.{eqb}
+use Rattle.answer.specs.Reply.{Reply, accepted, refused}
+use Rattle.answer.proofs.Cases.{cases, either}
+use Rattle.geometry.specs.declared.Geometry.{Geometry}
+use Rattle.model.specs.Lists.{elem}
+use Rattle.model.specs.Held.{waits, frees}
+use Rattle.model.specs.State.{State, fresh}
+use Rattle.model.specs.Calls.{writing, erasing, deleting, acted, given, logged, result, effect}
+use Rattle.model.specs.History.{Machine, Event, give, free, Entry, entryOf, eventsOf, stateFrom, historyFrom, wasAccepted, freedAmong, syncs, synced?, unsyncedAfter, unsyncedFrom, unsynced}
+use Rattle.model.specs.Model.{Screened, answer, keepOr, modelAfter, model, stateAfter, history}
+use Rattle.model.specs.Births.{moves}
+use Rattle.model.specs.declared.Call.{Call}
+use Rattle.model.specs.declared.Call.the-variants.{Begin, Write, Erase, Seal, Fork, Delete, Read, Barrier, Compress, FreeList, Estimate}
+use Rattle.model.proofs.StepFacts.{events-are}
+use Rattle.model.proofs.ModelFacts.{accepted-is}
+
+or-nothing : (t : Bool) → (t || false) ≡ t
+or-nothing true = refl
+or-nothing false = refl
+
+or-assoc : (s t u : Bool) → ((s || t) || u) ≡ (s || (t || u))
+or-assoc true t u = refl
+or-assoc false t u = refl
+
+elem-append : (b : ℕ) (l m : List ℕ) → elem b (l ++ m) ≡ (elem b l || elem b m)
+unfolding elem
+elem-append b [] m = refl
+elem-append b (c ∷ l) m = ap (λ t. eqb b c || t) (elem-append b l m) ∙ sym (or-assoc (eqb b c) (elem b l) (elem b m))
+
+-- the freed blocks of a list are among its events
+freed-elem : (b : ℕ) (l : List ℕ) → freedAmong b (map free l) ≡ elem b l
+unfolding elem
+freed-elem b [] = refl
+freed-elem b (c ∷ l) = ap (λ t. eqb b c || t) (freed-elem b l)
+
+-- ── one call ──
+
+joins : (T : State) (b : ℕ) (l : List ℕ) → elem b (T .waiting ++ l) ≡ (elem b (T .waiting) || freedAmong b (map free l))
+joins T b l = elem-append b (T .waiting) l ∙ ap (λ t. elem b (T .waiting) || t) (sym (freed-elem b l))
+
+same-or : (T : State) (b : ℕ) → elem b (T .waiting) ≡ (elem b (T .waiting) || false)
+same-or T b = sym (or-nothing (elem b (T .waiting)))
+
+effect-waits : (g : Geometry) (T : State) (c : Call) (b : ℕ) →
+    waits (effect g T c) b ≡ cond (syncs c) false (waits T b || freedAmong b (moves g T c))
+unfolding waits acted given logged elem
+effect-waits g T Begin b = joins T b []
+effect-waits g T (Write r x k) b = joins T b (frees (T .view) (writing g T r x k))
+effect-waits g T (Erase r x) b = joins T b (frees (T .view) (erasing T r x))
+effect-waits g T (Seal r) b = joins T b []
+effect-waits g T (Fork r) b = joins T b []
+effect-waits g T (Delete r) b = joins T b (frees (T .view) (deleting T r))
+effect-waits g T (Read r x) b = same-or T b
+effect-waits g T Barrier b = refl
+effect-waits g T Compress b = refl
+effect-waits g T FreeList b = same-or T b
+effect-waits g T (Estimate r) b = same-or T b
+
+step-waits : (g : Geometry) (T : State) (i : Screened) (b : ℕ) → waits (modelAfter g T i) b ≡ unsyncedAfter (waits T) (entryOf (model g) T i) b
+unfolding modelAfter
+step-waits g T i b = go (answer g T i) refl
+  where
+    go : (A : Reply) → answer g T i ≡ A →
+        waits (keepOr A T (effect g T (i .call))) b ≡ cond (wasAccepted A && syncs (i .call)) false (waits T b || freedAmong b (eventsOf (i .call) A))
+    go (refused n) e = sym (or-nothing (waits T b))
+    go (accepted l) e =
+        let w = accepted-is g T i l e in
+        effect-waits g T (i .call) b ∙
+        ap (λ v. cond (syncs (i .call)) false (waits T b || freedAmong b v)) (sym (events-are g T (i .call)) ∙ ap (λ m. eventsOf (i .call) (accepted m)) (w .1))
+
+-- the reckoning looks at nothing but what waited
+unsynced-ext : (u v : ℕ → Bool) (l : List Entry) → ((b : ℕ) → u b ≡ v b) → (b : ℕ) → unsyncedFrom u l b ≡ unsyncedFrom v l b
+unsynced-ext u v [] h b = h b
+unsynced-ext u v (e ∷ l) h b =
+    unsynced-ext (unsyncedAfter u e) (unsyncedAfter v e) l (λ c. ap (λ t. cond (synced? e) false (t || freedAmong c (eventsOf (e .call) (e .answer)))) (h c)) b
+
+waits-from : (g : Geometry) (l : List Screened) (T : State) (b : ℕ) →
+    waits (stateFrom (model g) T l) b ≡ unsyncedFrom (waits T) (historyFrom (model g) T l) b
+waits-from g [] T b = refl
+waits-from g (i ∷ l) T b =
+    waits-from g l (modelAfter g T i) b ∙
+    unsynced-ext (waits (modelAfter g T i)) (unsyncedAfter (waits T) (entryOf (model g) T i)) (historyFrom (model g) (modelAfter g T i) l) (step-waits g T i) b
+
+-- WHAT WAITS IS WHAT IS RECKONED
+pub waits-reckoned : (g : Geometry) (l : List Screened) (b : ℕ) → waits (stateAfter g l) b ≡ unsynced (history g l) b
+unfolding waits fresh elem
+waits-reckoned g l b = waits-from g l (fresh g) b ∙ unsynced-ext (waits (fresh g)) (λ c. false) (history g l) (λ c. refl) b

@@ -1,0 +1,90 @@
+-- A PLUG PULLED (6.10): "For the log of a store begun fresh, after any calls, each getting tables and log as the last one left them, cut at any byte of the
+-- words appended since the last C (or since the beginning), reading gives the blocks held at the last whole barrier, and none of those was given to a write
+-- between that barrier and the cut. C counts as one moment, done or not done."
+use mathlib.Core.Path.{_≡_}
+use mathlib.Core.Logic.{_⊎_}
+use mathlib.Core.Bool.{Bool, true, false, cond, _&&_}
+use mathlib.Core.List.{List, [], _∷_, _++_}
+use Prim.Native.Nat.{ℕ, _+_, _*_, _≤_, _<_}
+use lib.ListN.{length, take}
+use Rattle.answer.specs.Reply.{accepted}
+use Rattle.geometry.specs.declared.Geometry.{Geometry}
+use Rattle.geometry.specs.Limits.{blocks}
+use Rattle.log.specs.Marks.{passing}
+use Rattle.log.specs.Tool.{readReply}
+use Rattle.model.specs.Held.{held}
+use Rattle.model.specs.Layout.{stateOf}
+use Rattle.model.specs.Memory.{Memory, wordsUsed, makeReply, makeAfter}
+use Rattle.model.specs.Book.{Some}
+use Rattle.model.specs.History.{Entry, entryOf, historyFrom, wasAccepted, synced?}
+use Rattle.model.specs.HistoryFacts.{Synced, Gives}
+use Rattle.model.specs.Demand.{Own, ownStore, run}
+use Rattle.model.specs.declared.Call.{Call}
+use Rattle.model.specs.declared.Call.the-variants.{Begin, Write, Erase, Seal, Fork, Delete, Read, Barrier, Compress, FreeList, Estimate}
+
+-- an accepted C, and an accepted Y
+abbrev pub isC : Call → Bool
+isC Begin = false
+isC (Write r x k) = false
+isC (Erase r x) = false
+isC (Seal r) = false
+isC (Fork r) = false
+isC (Delete r) = false
+isC (Read r x) = false
+isC Barrier = false
+isC Compress = true
+isC FreeList = false
+isC (Estimate r) = false
+
+abbrev pub compacts? : Entry → Bool
+compacts? e = wasAccepted (e .answer) && isC (e .call)
+
+abbrev pub Compacts : Entry → Type 0
+Compacts e = compacts? e ≡ true
+
+abbrev pub Ended : Entry → Type 0
+Ended e = (e .call ≡ Barrier) × (wasAccepted (e .answer) ≡ true)
+
+-- what a call is, on the memory that some calls of the store M lead to
+abbrev pub entryAfter : Geometry → Memory → List Own → Own → Entry
+entryAfter g M l a = entryOf (ownStore g) (run g M l) a
+
+-- how many log words are used after some calls, and which blocks are held
+abbrev pub usedAfter : Geometry → Memory → List Own → ℕ
+usedAfter g M l = wordsUsed (run g M l)
+
+abbrev pub heldAfter : Geometry → Memory → List Own → ℕ → Bool
+heldAfter g M l = held (stateOf g (run g M l .tables) .view)
+
+-- "the words appended since the last C (or since the beginning)" (6.10) begin here: the words that were used right after the last accepted C, or n
+unfoldable pub startFrom : Geometry → Memory → ℕ → List Own → ℕ
+startFrom g M n [] = n
+startFrom g M n (a ∷ l) =
+    let N = ownStore g .after M a in
+    startFrom g N (cond (compacts? (entryOf (ownStore g) M a)) (wordsUsed N) n) l
+
+-- the log of the store M after the calls l, cut at byte n
+pub record Cut (g : Geometry) (M : Memory) (l : List Own) (n : ℕ) : Type 0 where
+  -- `early` are the calls up to the last whole barrier, `mid` those behind it up to the next barrier, which is not whole and begins `late`
+  pub early : List Own
+  pub mid : List Own
+  pub late : List Own
+  pub split : l ≡ early ++ (mid ++ late)
+  -- an accepted Y or C is the last of `early`; where there is none, it is empty
+  pub barrier : (early ≡ []) ⊎ ((calls : List Own) × (a : Own) × (early ≡ calls ++ (a ∷ [])) × Synced (entryAfter g M calls a))
+  pub quiet : Some Synced (historyFrom (ownStore g) (run g M early) mid) → ⊥
+  pub same-log : Some Compacts (historyFrom (ownStore g) (run g M (early ++ mid)) late) → ⊥
+  -- the cut stands behind the words of `early`, and before the end of the next barrier's word
+  pub from : 8 * usedAfter g M early ≤ n
+  pub upTo : ((late ≡ []) × (n ≤ 8 * usedAfter g M (early ++ mid))) ⊎
+      ((a : Own) × (rest : List Own) × (late ≡ a ∷ rest) × Ended (entryAfter g M (early ++ mid) a) × (n < 8 * usedAfter g M (early ++ mid) + 8))
+  -- "reading gives the blocks held at the last whole barrier"
+  pub reads : (out : List ℕ) → 2 * blocks g + 64 ≤ length out →
+      readReply g (take n (run g M l .log)) out ≡ accepted (passing (heldAfter g M early) 0 (blocks g))
+  -- "and none of those was given to a write between that barrier and the cut"
+  pub kept : (b : ℕ) → heldAfter g M early b ≡ true → Some (Gives b) (historyFrom (ownStore g) (run g M early) mid) → ⊥
+
+-- "C counts as one moment, done or not done": a cut inside C is one of the calls without it, or with it
+abbrev pub Crash : Type 0
+Crash = (g : Geometry) (M : Memory) → makeReply g M ≡ accepted [] → (l : List Own) (n : ℕ) →
+    8 * startFrom g (makeAfter g M) 0 l ≤ n → n ≤ 8 * usedAfter g (makeAfter g M) l → Cut g (makeAfter g M) l n
