@@ -1,7 +1,7 @@
 -- What waits in a state is what is reckoned from the freed blocks and the accepted calls.
 use mathlib.Core.Path.{_≡_, refl, sym, ap, ap₂, _∙_}
 use mathlib.Core.Logic.{_⊎_, inl, inr}
-use mathlib.Core.Bool.{Bool, true, false, cond, _&&_, _||_}
+use mathlib.Core.Bool.{Bool, true, false, cond, _&&_, _||_, or-false}
 use mathlib.Core.List.{List, [], _∷_, _++_, map}
 use Prim.Native.Nat.{ℕ}
 use lib.Dec.{eqb}
@@ -19,19 +19,7 @@ use Rattle.model.specs.declared.Call.{Call}
 use Rattle.model.specs.declared.Call.the-variants.{Begin, Write, Erase, Seal, Fork, Delete, Read, Barrier, Compress, FreeList, Estimate}
 use Rattle.model.proofs.StepFacts.{events-are}
 use Rattle.model.proofs.ModelFacts.{accepted-is}
-
-or-nothing : (t : Bool) → (t || false) ≡ t
-or-nothing true = refl
-or-nothing false = refl
-
-or-assoc : (s t u : Bool) → ((s || t) || u) ≡ (s || (t || u))
-or-assoc true t u = refl
-or-assoc false t u = refl
-
-elem-append : (b : ℕ) (l m : List ℕ) → elem b (l ++ m) ≡ (elem b l || elem b m)
-unfolding elem
-elem-append b [] m = refl
-elem-append b (c ∷ l) m = ap (λ t. eqb b c || t) (elem-append b l m) ∙ sym (or-assoc (eqb b c) (elem b l) (elem b m))
+use Rattle.model.proofs.Waiting.{elem-append}
 
 -- the freed blocks of a list are among its events
 freed-elem : (b : ℕ) (l : List ℕ) → freedAmong b (map free l) ≡ elem b l
@@ -45,7 +33,7 @@ joins : (T : State) (b : ℕ) (l : List ℕ) → elem b (T .waiting ++ l) ≡ (e
 joins T b l = elem-append b (T .waiting) l ∙ ap (λ t. elem b (T .waiting) || t) (sym (freed-elem b l))
 
 same-or : (T : State) (b : ℕ) → elem b (T .waiting) ≡ (elem b (T .waiting) || false)
-same-or T b = sym (or-nothing (elem b (T .waiting)))
+same-or T b = sym (or-false (elem b (T .waiting)))
 
 effect-waits : (g : Geometry) (T : State) (c : Call) (b : ℕ) →
     waits (effect g T c) b ≡ cond (syncs c) false (waits T b || freedAmong b (moves g T c))
@@ -68,7 +56,7 @@ step-waits g T i b = go (answer g T i) refl
   where
     go : (A : Reply) → answer g T i ≡ A →
         waits (keepOr A T (effect g T (i .call))) b ≡ cond (wasAccepted A && syncs (i .call)) false (waits T b || freedAmong b (eventsOf (i .call) A))
-    go (refused n) e = sym (or-nothing (waits T b))
+    go (refused n) e = sym (or-false (waits T b))
     go (accepted l) e =
         let w = accepted-is g T i l e in
         effect-waits g T (i .call) b ∙

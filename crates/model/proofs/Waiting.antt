@@ -1,7 +1,7 @@
 -- The blocks that wait: what the calls do to them keeps them blocks of the store, none twice and none with a birth.
 use mathlib.Core.Path.{_≡_, refl, sym, ap, _∙_}
 use mathlib.Core.Logic.{inl, inr}
-use mathlib.Core.Bool.{Bool, true, false, not, _&&_, _||_, false≢true}
+use mathlib.Core.Bool.{Bool, true, false, not, _&&_, _||_, or-assoc, false≢true}
 use mathlib.Core.List.{List, [], _∷_, _++_}
 use Prim.Native.Nat.{ℕ, zero, suc, _≤_, _<_}
 use native.Mathlib.Omega.{arith}
@@ -47,6 +47,11 @@ not-in-elem b l n = cases (either (elem b l)) (λ e. absurd (n (elem-in b l e)))
 
 pub elem-not-in : (b : ℕ) (l : List ℕ) → elem b l ≡ false → In b l → ⊥
 elem-not-in b l e i = false≢true (sym e ∙ in-elem b l i)
+
+pub elem-append : (b : ℕ) (l m : List ℕ) → elem b (l ++ m) ≡ (elem b l || elem b m)
+unfolding elem
+elem-append b [] m = refl
+elem-append b (c ∷ l) m = ap (λ t. eqb b c || t) (elem-append b l m) ∙ sym (or-assoc (eqb b c) (elem b l) (elem b m))
 
 -- each below n, as a test
 pub below-in : (n : ℕ) (l : List ℕ) → below? n l ≡ true → (b : ℕ) → In b l → b < n

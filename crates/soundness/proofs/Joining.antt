@@ -1,7 +1,7 @@
 -- Words that are joined by the blocks of a list, bit by bit.
 use mathlib.Core.Path.{_≡_, refl, sym, ap, _∙_}
 use mathlib.Core.Logic.{inl, inr}
-use mathlib.Core.Bool.{Bool, true, false, not, _&&_, _||_, and-false, or-false, false≢true}
+use mathlib.Core.Bool.{Bool, true, false, not, _&&_, _||_, and-false, or-false, false≢true, or-assoc}
 use mathlib.Core.List.{List, [], _∷_}
 use Prim.Native.Nat.{ℕ, suc, _+_, _-_, _*_, _/_, _%_, _^_, _≤_, _<_}
 use native.Mathlib.Nat.{lt-of-le-of-lt}
@@ -82,10 +82,6 @@ Inside words l = (b : ℕ) → In b l → b < 32 * length words
 
 inside-next : (words l : List ℕ) (b : ℕ) → Inside words (b ∷ l) → Inside (withBit words b) l
 inside-next words l b h c i = omega (arith, h c (inr i), with-long words b)
-
-or-assoc : (s t u : Bool) → ((s || t) || u) ≡ (s || (t || u))
-or-assoc true t u = refl
-or-assoc false t u = refl
 
 pub joined-long : (l words : List ℕ) → length (joined words l) ≡ length words
 unfolding joined

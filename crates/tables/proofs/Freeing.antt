@@ -49,14 +49,14 @@ wait-dropped g t i =
 
 -- ── one more that waits ──
 
-pub last-is : (l : List ℕ) (b : ℕ) → getD (l ++ (b ∷ [])) (length l) 0 ≡ b
-last-is [] b = refl
-last-is (c ∷ l) b = last-is l b
+pub joined-last : (l : List ℕ) (b : ℕ) → getD (l ++ (b ∷ [])) (length l) 0 ≡ b
+joined-last [] b = refl
+joined-last (c ∷ l) b = joined-last l b
 
-before-last : (l : List ℕ) (b i : ℕ) → i < length l → getD (l ++ (b ∷ [])) i 0 ≡ getD l i 0
-before-last [] b i h = absurd (let z : ⊥ = omega arith in z)
-before-last (c ∷ l) b zero h = refl
-before-last (c ∷ l) b (suc i) h = before-last l b i (omega arith)
+pub joined-before : (l : List ℕ) (b i : ℕ) → i < length l → getD (l ++ (b ∷ [])) i 0 ≡ getD l i 0
+joined-before [] b i h = absurd (let z : ⊥ = omega arith in z)
+joined-before (c ∷ l) b zero h = refl
+joined-before (c ∷ l) b (suc i) h = joined-before l b i (omega arith)
 
 -- every number but its own stays
 pub wait-joined : (l t : List ℕ) (a b i : ℕ) → (i ≡ a + length l → ⊥) → waitNumber (l ++ (b ∷ [])) t a i ≡ waitNumber l t a i
@@ -67,15 +67,11 @@ wait-joined l t a b i n =
     (λ h. cases (lt? i (a + length l))
     (λ k.
     let e : i ≡ a + (i - a) = omega arith in
-    ap (waitNumber (l ++ (b ∷ [])) t a) e ∙ wait-number (l ++ (b ∷ [])) t a (i - a) (omega arith) ∙ before-last l b (i - a) (omega arith) ∙
+    ap (waitNumber (l ++ (b ∷ [])) t a) e ∙ wait-number (l ++ (b ∷ [])) t a (i - a) (omega arith) ∙ joined-before l b (i - a) (omega arith) ∙
     sym (ap (waitNumber l t a) e ∙ wait-number l t a (i - a) (omega arith)))
     (λ k. wait-other (l ++ (b ∷ [])) t a i (inr (omega arith)) ∙ sym (wait-other l t a i (inr k))))
 
 -- ── the state with b freed ──
-
-or-nothing : (t : Bool) → (t || false) ≡ t
-or-nothing true = refl
-or-nothing false = refl
 
 elem-other : (l : List ℕ) (b c : ℕ) → (c ≡ b → ⊥) → elem c (l ++ (b ∷ [])) ≡ elem c l
 unfolding elem

@@ -1,7 +1,7 @@
 -- The blocks that wait are released one after another: their bits of the free words are set, then none waits.
 use mathlib.Core.Path.{_≡_, refl, sym, ap, ap₂, _∙_}
 use mathlib.Core.Logic.{_⊎_, inl, inr}
-use mathlib.Core.Bool.{Bool, true, false, not, _&&_, _||_, or-true}
+use mathlib.Core.Bool.{Bool, true, false, not, _&&_, _||_, or-false, or-assoc}
 use mathlib.Core.List.{List, [], _∷_, _++_}
 use Prim.Native.Nat.{ℕ, zero, suc, _+_, _-_, _*_, _/_, _%_, _^_, _≤_, _<_, min}
 use native.Mathlib.Omega.{arith}
@@ -22,7 +22,7 @@ use Rattle.model.proofs.LayoutFacts.{stored-header}
 use Rattle.model.proofs.StoredFacts.{free-number}
 use Rattle.model.proofs.BirthPut.{word-ext}
 use Rattle.model.proofs.MadeFacts.{NoWord}
-use Rattle.model.proofs.Waiting.{in-elem, elem-in, held-unavailable}
+use Rattle.model.proofs.Waiting.{elem-append, elem-in}
 use Rattle.tables.specs.Ready.{Ready}
 use Rattle.tables.specs.Births.{raised}
 use Rattle.tables.proofs.Ranges.{in-getD, waiting-in, waiting-le}
@@ -39,18 +39,9 @@ take-whole : (l : List ℕ) → take (length l) l ≡ l
 take-whole [] = refl
 take-whole (x ∷ l) = ap (λ m. x ∷ m) (take-whole l)
 
-or-nothing : (t : Bool) → (t || false) ≡ t
-or-nothing true = refl
-or-nothing false = refl
-
-or-assoc : (s t u : Bool) → ((s || t) || u) ≡ (s || (t || u))
-or-assoc true t u = refl
-or-assoc false t u = refl
-
 elem-one : (l : List ℕ) (b c : ℕ) → elem c (l ++ (b ∷ [])) ≡ (elem c l || eqb c b)
 unfolding elem
-elem-one [] b c = or-nothing (eqb c b)
-elem-one (d ∷ l) b c = ap (λ t. eqb c d || t) (elem-one l b c) ∙ sym (or-assoc (eqb c d) (elem c l) (eqb c b))
+elem-one l b c = elem-append c l (b ∷ []) ∙ ap (λ t. elem c l || t) (or-false (eqb c b))
 
 -- block c may be given once the first k of those that t₀ lets wait are released
 unfoldable pub may : Geometry → List ℕ → ℕ → ℕ → Bool
@@ -71,7 +62,7 @@ module _ (g : Geometry) (t₀ : List ℕ) (R : Ready g t₀) where
   unfolding may freeWord stateOf viewOf elem
   raised-none = record {
     long = refl;
-    words = λ j h. R .free j h ∙ word-ext (available (stateOf g t₀)) (may g t₀ 0) (width g j) (32 * j) (λ c l m. sym (or-nothing (available (stateOf g t₀) c)));
+    words = λ j h. R .free j h ∙ word-ext (available (stateOf g t₀)) (may g t₀ 0) (width g j) (32 * j) (λ c l m. sym (or-false (available (stateOf g t₀) c)));
     rest = λ i o. refl;
   }
 
@@ -102,7 +93,7 @@ module _ (g : Geometry) (t₀ : List ℕ) (R : Ready g t₀) where
             word-with (may g t₀ k) (may g t₀ (suc k)) (width g (b / 32)) b (omega arith) (omega arith) (λ c. may-next k b c h e)))
             (λ d. getD-set-other t a (freeCell j) w 0 (λ z. d (omega arith)) ∙ H .words j l ∙
             word-ext (may g t₀ k) (may g t₀ (suc k)) (width g j) (32 * j) (λ c m n.
-            sym (may-next k b c h e ∙ ap (λ s. may g t₀ k c || s) (ne-eqb c b (λ z. d (omega arith))) ∙ or-nothing (may g t₀ k c))));
+            sym (may-next k b c h e ∙ ap (λ s. may g t₀ k c || s) (ne-eqb c b (λ z. d (omega arith))) ∙ or-false (may g t₀ k c))));
         rest = λ i o. getD-set-other t a i w 0 (λ z. cases o (λ l. let y : ⊥ = omega arith in y) (λ l. let y : ⊥ = omega arith in y)) ∙ H .rest i o;
       }
 
@@ -113,7 +104,7 @@ module _ (g : Geometry) (t₀ : List ℕ) (R : Ready g t₀) where
       ap (λ l. (eqb (stateOf g t₀ .view .birth c) 0 && not (elem c (stateOf g t₀ .waiting))) || elem c l) (take-whole (stateOf g t₀ .waiting)) ∙
       cases (either (elem c (stateOf g t₀ .waiting)))
       (λ y. rw (y, eq-eqb (stateOf g t₀ .view .birth c) 0 (R .waiting .unborn c (elem-in c (stateOf g t₀ .waiting) y))))
-      (λ n. rw n (or-nothing (eqb (stateOf g t₀ .view .birth c) 0 && true)))
+      (λ n. rw n (or-false (eqb (stateOf g t₀ .view .birth c) 0 && true)))
 
   word-synced : (j : ℕ) → wordOf (may g t₀ (length (stateOf g t₀ .waiting))) (32 * j) (width g j) ≡ freeWord (synced (stateOf g t₀)) j
   unfolding freeWord stateOf viewOf
