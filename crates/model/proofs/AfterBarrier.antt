@@ -19,7 +19,7 @@ use Rattle.model.specs.State.{State, fresh}
 use Rattle.model.specs.Calls.{pairs, freeList, result}
 use Rattle.model.specs.FreeList.{freeRuns}
 use Rattle.model.specs.History.{Machine, Event, give, free, Entry, entryOf, eventsOf, writeEvents, stateFrom, historyFrom, wasAccepted, freedAmong, syncs, synced?, unsyncedAfter, unsyncedFrom, unsynced}
-use Rattle.model.specs.HistoryFacts.{Synced, Frees, Gives, runsIn, Lists}
+use Rattle.model.specs.HistoryFacts.{Synced, Frees, Gives, runsOfPairs, Lists}
 use Rattle.model.specs.Model.{Screened, answer, model, stateAfter, history}
 use Rattle.model.specs.declared.Call.{Call}
 use Rattle.model.specs.declared.Call.the-variants.{Begin, Write, Erase, Seal, Fork, Delete, Read, Barrier, Compress, FreeList, Estimate}
@@ -195,7 +195,7 @@ same-first b c l m e = ap firstOf e
 
 -- ── what lists a block ──
 
-runs-back : (l : List Run) → runsIn (pairs l) ≡ l
+runs-back : (l : List Run) → runsOfPairs (pairs l) ≡ l
 unfolding pairs
 runs-back [] = refl
 runs-back (r ∷ l) = ap {B = List Run} (λ m. r ∷ m) (runs-back l)
@@ -225,7 +225,7 @@ module _ (g : Geometry) (inside : Inside g) (before : List Screened) where
       let F = free-list-is g inside T (reached g inside (A .calls) .fine .sound) in
       let w = accepted-is g T a l (sym (ap (λ x. x .answer) (A .is)) ∙ fa) .1 in
       let r : l ≡ pairs (freeRuns g T) = sym w ∙ ap (result g T) (sym (ap (λ x. x .call) (A .is)) ∙ fc) ∙ F .given in
-      let c : Covered b (freeRuns g T) = subst (Covered b) (ap runsIn r ∙ runs-back (freeRuns g T)) cov in
+      let c : Covered b (freeRuns g T) = subst (Covered b) (ap runsOfPairs r ∙ runs-back (freeRuns g T)) cov in
       let free? = F .covered b (covered-below (g .per) (blocks g) b _ (freeRuns g T) (F .longest .each) c) .0 c in
       cases (freed-waits (λ c. false) b xs e ys i)
       (λ y. y)

@@ -20,8 +20,9 @@ use Rattle.model.specs.State.{State}
 use Rattle.model.specs.Held.{waits, available}
 use Rattle.model.specs.Layout.{freeCell, waitCell, freeWord, numbers, viewOf, stateOf}
 use Rattle.model.specs.Memory.{waiting?, free?}
-use Rattle.model.proofs.Reflect.{Says, _&_, once-marked}
-use Rattle.model.proofs.Waiting.{in-elem, elem-in, not-in-elem, below-in, in-below, once-short, waits-unavailable}
+use Rattle.model.proofs.Reflect.{Says, _&_, says-map}
+use Rattle.model.proofs.SoundTest.{says-waiting}
+use Rattle.model.proofs.Waiting.{in-elem, elem-in, not-in-elem, once-short, waits-unavailable}
 use Rattle.tables.specs.Ready.{Roomy}
 use Rattle.tables.proofs.Fields
 use Rattle.tables.proofs.Freeing.{waiting-length}
@@ -89,9 +90,7 @@ abbrev Waits : State → Type 0
 Waits T = ((b : ℕ) → In b (T .waiting) → b < T .view .blocks) × (((b : ℕ) → In b (T .waiting) → T .view .birth b ≡ 0) × Once (T .waiting))
 
 says-waits : (T : State) → Says (waiting? T) (Waits T)
-unfolding waiting?
-says-waits T =
-    record { holds = below-in (T .view .blocks) (T .waiting); passes = in-below (T .view .blocks) (T .waiting) } & once-marked (T .view .birth) (T .waiting)
+says-waits T = says-map (λ w. (w .below, (w .unborn, w .once))) (λ p. record { below = p .0; unborn = p .1 .0; once = p .1 .1 }) (says-waiting T)
 
 -- 64 words, and a test p that a block has no birth
 module _ (T : State) (words : List ℕ) (p : ℕ → Bool) (size : length words ≡ 64) (few : T .view .blocks ≤ 2048) (fits : (k : ℕ) → getD words k 0 < 2 ^ 32)
