@@ -61,33 +61,26 @@ single-word n m w e f l h d k =
     (λ z. let x : 1 - e % 16384 ≡ 1 = omega arith in rw x (one-turned n m w b true (omega arith) h z))
     (λ z. let x : 1 - e % 16384 ≡ 0 = omega arith in rw x (one-turned n m w b false (omega arith) h (omega arith)))
 
--- ── some words ──
+-- ── the log was read up to a byte position ──
 
 module _ (arenas per : ℕ) (log : List ℕ) where
-  pub on-none : {m k : List ℕ} (at : ℕ) → at ≤ length log → Table (arenas * per) k → k ≡ m → ReadOn arenas per log m at k at
-  on-none at h t e = record { least = omega arith; most = h; whole = refl; table = t; same = rw e }
+  pub on-none : {m : List ℕ} (at : ℕ) → at ≤ length log → Table (arenas * per) m → ReadOn arenas per log m at m at
+  on-none at h t = record { least = omega arith; most = h; whole = refl; table = t; same = refl }
 
-  pub on-one : {m k : List ℕ} {w : ℕ} (at : ℕ) → at + 8 ≤ length log → Table (arenas * per) k → w ≡ wordAt log at
-      → firstWord (arenas * per) m w ≡ (Ready, k) → ReadOn arenas per log m at k (at + 8)
-  unfolding byProgress
-  on-one {m} {k} at h t f e =
-      record {
-        least = omega arith;
-        most = h;
-        whole = omega arith;
-        table = t;
-        same = sym (read-next arenas per (Ready, m) log at h ∙ ap (λ (s : State). readWords arenas per s (words (drop (at + 8) log))) (rw f at e));
-      }
+  -- the word that stands there is read
+  module _ {m k : List ℕ} {from at w : ℕ} (r : ReadOn arenas per log m from k at) (h : at + 8 ≤ length log) (f : w ≡ wordAt log at) where
+    pub on-word : {l : List ℕ} → Table (arenas * per) l → firstWord (arenas * per) k w ≡ (Ready, l) → ReadOn arenas per log m from l (at + 8)
+    unfolding byProgress
+    on-word t e =
+        record {
+          least = omega (arith, r .least);
+          most = h;
+          whole = omega (arith, r .whole);
+          table = t;
+          same =
+              sym (read-next arenas per (Ready, k) log at h ∙ ap (λ (s : State). readWords arenas per s (words (drop (at + 8) log))) (rw f at e))
+              ∙ r .same;
+        }
 
-  pub on-barrier : {m : List ℕ} {w : ℕ} (at : ℕ) → at + 8 ≤ length log → Table (arenas * per) m → w ≡ wordAt log at → w ≡ 3 → ReadOn arenas per log m at m (at + 8)
-  on-barrier {m} at h t f e = on-one at h t f (rw e (barrier-word (arenas * per) m))
-
-  pub on-more : {m k l : List ℕ} {a b c : ℕ} → ReadOn arenas per log m a k b → ReadOn arenas per log k b l c → ReadOn arenas per log m a l c
-  on-more r q =
-      record {
-        least = omega (arith, r .least, q .least);
-        most = q .most;
-        whole = q .whole ∙ r .whole;
-        table = q .table;
-        same = q .same ∙ r .same;
-      }
+    pub on-barrier : w ≡ 3 → ReadOn arenas per log m from k (at + 8)
+    on-barrier e = on-word (r .table) (rw e (barrier-word (arenas * per) k))

@@ -6,7 +6,7 @@ use lib.ListN.{length, drop}
 use borrow.Author.Needs.{needs}
 use Rattle.log.specs.Word.{wordAt, words}
 use Rattle.log.specs.Marks.{Table}
-use Rattle.log.specs.Read.{State, RunInside, firstWord, secondWord, byProgress, readWords}
+use Rattle.log.specs.Read.{RunInside, firstWord, byProgress, readWords}
 use Rattle.log.specs.declared.read.Progress.{Progress}
 use Rattle.log.specs.declared.read.Progress.the-variants.{Ready}
 use Rattle.log.proofs.Reading.{words-end}
@@ -28,14 +28,13 @@ loop-holds c = (omega arith, refl, tt, c .before .pre .3, refl)
 enum-told : tie.Need-enum-told Inv-loop μ-loop
 enum-told c = search needs
 
-read-singles-requires : tie.Need-read-singles-requires Inv-loop μ-loop
-read-singles-requires c κs =
+read-pairs-requires : tie.Need-read-pairs-requires Inv-loop μ-loop
+read-pairs-requires c κs =
     let d = c .before .before .before .before in
-    let q = d .before .before .pre in
-    (q .1, d .loop .inv .0, d .loop .inv .1, q .2, d .loop .inv .3)
+    (d .before .before .pre .1, d .loop .inv .0, d .loop .inv .3)
 
 get-word-requires : tie.Need-get-word-requires Inv-loop μ-loop
-get-word-requires c κs = omega (arith, c .before .before .read-singles .ensures .whole)
+get-word-requires c κs = omega (arith, c .before .before .read-pairs .ensures .whole)
 
 mul-first-word : tie.Need-mul-first-word Inv-loop μ-loop
 mul-first-word c = omega arith
@@ -47,17 +46,17 @@ add-at : tie.Need-add-at Inv-loop μ-loop
 add-at c = omega arith
 
 loop-less : tie.Need-loop-less Inv-loop μ-loop
-loop-less c = omega (arith, c .before .before .before .before .read-singles .ensures .least)
+loop-less c = omega (arith, c .before .before .before .before .read-pairs .ensures .least)
 
--- behind the single entries what is left still leads there
-singles : (c : tie.After-read-singles Inv-loop μ-loop) →
+-- behind the words that `read_pairs` read, what is left still leads there
+behind : (c : tie.After-read-pairs Inv-loop μ-loop) →
     let s = c .before .before .before .before .before .before .before .args in
-    readWords (s .arenas) (s .per) (Ready, c .read-singles .last .0) (words (drop (c .read-singles .result) (s .log .now)))
+    readWords (s .arenas) (s .per) (Ready, c .read-pairs .last .0) (words (drop (c .read-pairs .result) (s .log .now)))
     ≡ readWords (s .arenas) (s .per) (Ready, s .marks .now) (words (s .log .now))
-singles c =
+behind c =
     let d = c .before .before .before .before .before in
     let s = d .before .before .args in
-    c .read-singles .ensures .same
+    c .read-pairs .ensures .same
     ∙ sym (ap (λ (q : Progress). readWords (s .arenas) (s .per) (q, d .loop .marks) (words (drop (d .loop .at) (s .log .now)))) (c .before .before .enum-told .given .1))
     ∙ d .loop .inv .4
 
@@ -67,25 +66,25 @@ loop-again c =
     let j = c .before .before .before .before in
     let d = j .before .before .before .before .before .before .before in
     let s = d .args in
-    let r = j .read-singles in
+    let r = j .read-pairs in
     let h : r .result + 8 ≤ length (s .log .now) = omega (arith, r .ensures .whole) in
     let e = c .first-word .ensures ∙ ap (firstWord (s .arenas * s .per) (r .last .0)) (c .before .get-word .ensures) in
     let v = word-read (s .arenas) (s .per) (d .pre .0) (s .log .now) (r .result) h Ready (c .first-word .result) (r .last .0) (c .first-word .last .0) tt (r .ensures .table) e in
-    (h, omega (arith, r .ensures .whole), v .0, v .1, v .2 ∙ singles j)
+    (h, omega (arith, r .ensures .whole), v .0, v .1, v .2 ∙ behind j)
 
 loop-less-2 : tie.Need-loop-less-2 Inv-loop μ-loop
 loop-less-2 c = omega arith
 
 loop-again-2 : tie.Need-loop-again-2 Inv-loop μ-loop
 loop-again-2 c =
-    let r = c .before .read-singles in
+    let r = c .before .read-pairs in
     let s = c .before .before .before .before .before .before .before .before .args in
     let told = c .before .before .before .enum-told .given .1 in (
       r .ensures .most,
       omega (arith, r .ensures .whole),
       subst (RunInside (s .arenas * s .per)) (sym told) tt,
       r .ensures .table,
-      ap (λ (q : Progress). readWords (s .arenas) (s .per) (q, r .last .0) (words (drop (r .result) (s .log .now)))) told ∙ singles (c .before),
+      ap (λ (q : Progress). readWords (s .arenas) (s .per) (q, r .last .0) (words (drop (r .result) (s .log .now)))) told ∙ behind (c .before),
     )
 
 enum-known-p : tie.Need-enum-known-p Inv-loop μ-loop
@@ -144,7 +143,7 @@ read-all-spec =
     μ-loop
     loop-holds
     enum-told
-    read-singles-requires
+    read-pairs-requires
     get-word-requires
     mul-first-word
     first-word-requires
