@@ -25,6 +25,7 @@ use tables::cells::PREV;
 use tables::cells::ROW;
 use tables::cells::ROWS;
 use tables::differ::differing;
+use tables::differ::differing_whole;
 use tables::find::wide;
 
 // What the walk over a record's pages asks of the record each time: its number, a link to its pred, the pred's number, whether a record is before
@@ -226,10 +227,12 @@ fn row_words(g: Geometry, t: &[u32], words: &mut [u32; 8], s: usize, link: usize
     ensures { λ _. ⌜ RowWords (viewOf g (now (t .entry))) s link (now (words .exit)) ⌝ }
 {
     let mut k: usize = 0;
-    while 32 * k < g.pages {
-        let n = width(g, k);
-        words[k] = differing(g, t, s, link, 32 * k, n);
+    while 32 * k + 32 <= g.pages {
+        words[k] = differing_whole(g, t, s, link, 32 * k);
         k += 1;
+    }
+    if 32 * k < g.pages {
+        words[k] = differing(g, t, s, link, 32 * k, g.pages - 32 * k);
     }
 }
 

@@ -93,6 +93,18 @@ pub fn differing(g: Geometry, t: &[u32], s: usize, link: usize, x: usize, n: usi
     differ_few(t, a, b, n)
 }
 
+// The same of 32 pages: for the check of a stranger's rows, whose loop over whole words has nothing of the last pages in it.
+pub fn differing_whole(g: Geometry, t: &[u32], s: usize, link: usize, x: usize) -> u32
+    requires { ⌜ Roomy g (now t) × (s < g .records) × (link ≤ g .records) × (x + 32 ≤ g .pages) ⌝ }
+    ensures { λ r. ⌜ r ≡ wordOf (differs (viewOf g (now (t .entry))) s link) x 32 ⌝ }
+{
+    let a = PAGES + ROW * s + x;
+    if link == 0 {
+        return filled_word(t, a);
+    }
+    differ_word(t, a, PAGES + ROW * (link - 1) + x)
+}
+
 // How many pages the next word of a row is for, of those that are left.
 pub fn stretch(left: usize) -> usize
     ensures { λ r. ⌜ (r ≤ left) × (r ≤ 32) × (0 < left → 0 < r) ⌝ }
