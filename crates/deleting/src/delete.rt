@@ -14,7 +14,7 @@ ghost use Rattle.model.specs.State.{withView, freeAll};
 ghost use Rattle.model.specs.Held.{deleted};
 ghost use Rattle.model.specs.Layout.{viewOf, stateOf, stored};
 ghost use Rattle.model.specs.Results.{paired, blocksIn};
-ghost use Rattle.tables.specs.Ready.{Roomy, Ready, OutLong, LogLong};
+ghost use Rattle.tables.specs.Ready.{Roomy, Ready, OutLong, LogLong, LinkOf};
 ghost use Rattle.tables.specs.Outcome.{replied, tablesLeft, logLeft, outLeft};
 ghost use Rattle.deleting.specs.Stages.{unhooked, freedAll};
 ghost use Rattle.deleting.specs.Verdict.{verdictOf};
@@ -33,7 +33,6 @@ use tables::cells::ROWS;
 use tables::cells::USED;
 use tables::find::follower_of;
 use tables::find::is_forked;
-use tables::find::slot_of;
 use tables::find::wide;
 use tables::links::pred_number;
 
@@ -68,11 +67,10 @@ fn log_is_short(t: &[u32], g: Geometry, s: usize, follower: usize) -> bool
 }
 
 // The first refusal of a deletion that applies, or its slot and follower.
-fn delete_verdict(t: &[u32], g: Geometry, number: u32) -> Verdict
-    requires { ⌜ Ready g (now t) ⌝ }
+fn delete_verdict(t: &[u32], g: Geometry, number: u32, link: usize) -> Verdict
+    requires { ⌜ Ready g (now t) × LinkOf g (now t) number link ⌝ }
     ensures { λ r. ⌜ r ≡ verdictOf g (stateOf g (now (t .entry))) number ⌝ }
 {
-    let link = slot_of(t, g, number);
     if link == 0 {
         return Verdict::Refused(8);
     }
@@ -158,15 +156,22 @@ fn delete_record(g: Geometry, t: &mut [u32], out: &mut [u32], s: usize, link: us
     count
 }
 
-// D: the record leaves the store; the numbers of the result are the freed blocks, each with its birth behind it.
-pub fn delete(g: Geometry, t: &mut [u32], log: &mut [u8], out: &mut [u32], number: u32) -> Answer
-    requires { ⌜ Ready g (now t) × LogLong g (now log) × OutLong g (now out) ⌝ }
+// D on the record of that number, with its link: it leaves the store; the numbers of the result are the freed blocks, each with its birth behind it.
+pub fn delete(
+    g: Geometry,
+    t: &mut [u32],
+    log: &mut [u8],
+    out: &mut [u32],
+    number: u32,
+    link: usize,
+) -> Answer
+    requires { ⌜ Ready g (now t) × LogLong g (now log) × OutLong g (now out) × LinkOf g (now t) number link ⌝ }
     ensures reply { λ r. ⌜ replyOf r (now (out .exit)) ≡ replied g (now (t .entry)) (Delete number) ⌝ }
     ensures tables { λ r. ⌜ now (t .exit) ≡ tablesLeft g (now (t .entry)) (Delete number) ⌝ }
     ensures log { λ r. ⌜ now (log .exit) ≡ logLeft g (now (t .entry)) (now (log .entry)) (Delete number) ⌝ }
     ensures out { λ r. ⌜ now (out .exit) ≡ outLeft g (now (t .entry)) (now (out .entry)) (Delete number) ⌝ }
 {
-    let verdict = delete_verdict(t, g, number);
+    let verdict = delete_verdict(t, g, number, link);
     match verdict {
         Verdict::Refused(k) => Answer::Refused(k),
         Verdict::Accept(s, follower) => {

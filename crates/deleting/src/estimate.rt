@@ -10,7 +10,7 @@ ghost use Rattle.model.specs.View.{predNum};
 ghost use Rattle.model.specs.Held.{shardsAbove, shardsFreed};
 ghost use Rattle.model.specs.Sorted.{stretches};
 ghost use Rattle.model.specs.Layout.{viewOf};
-ghost use Rattle.tables.specs.Ready.{Roomy, Ready, OutLong};
+ghost use Rattle.tables.specs.Ready.{Roomy, Ready, OutLong, LinkOf};
 ghost use Rattle.tables.specs.Outcome.{replied, outLeft};
 ghost use Rattle.deleting.specs.Stages.{younger};
 use crate::delete::count_frees;
@@ -23,7 +23,6 @@ use tables::cells::ROW;
 use tables::cells::ROWS;
 use tables::find::follower_of;
 use tables::find::is_forked;
-use tables::find::slot_of;
 use tables::find::wide;
 use tables::links::pred_number;
 
@@ -98,13 +97,13 @@ fn shards_of(t: &[u32], g: Geometry, s: usize, follower: usize) -> usize
     count_shards(t, g, s, follower - 1)
 }
 
-// Q: the numbers of the blocks that D would free, of the log words that it would write (one for each block), and of the shards.
-pub fn estimate(g: Geometry, t: &[u32], out: &mut [u32], number: u32) -> Answer
-    requires { ⌜ Ready g (now t) × OutLong g (now out) ⌝ }
+// Q on the record of that number, with its link: the numbers of the blocks that D would free, of the log words that it would write (one for
+// each block), and of the shards.
+pub fn estimate(g: Geometry, t: &[u32], out: &mut [u32], number: u32, link: usize) -> Answer
+    requires { ⌜ Ready g (now t) × OutLong g (now out) × LinkOf g (now t) number link ⌝ }
     ensures reply { λ r. ⌜ replyOf r (now (out .exit)) ≡ replied g (now (t .entry)) (Estimate number) ⌝ }
     ensures out { λ r. ⌜ now (out .exit) ≡ outLeft g (now (t .entry)) (now (out .entry)) (Estimate number) ⌝ }
 {
-    let link = slot_of(t, g, number);
     if link == 0 {
         return Answer::Refused(8);
     }

@@ -1,7 +1,7 @@
 // The eleven calls on tables that are known to be sound. Internal: `store` is what users call.
 ghost use mathlib.Core.Path.{_≡_};
 ghost use Rattle.answer.specs.Reply.{replyOf};
-ghost use Rattle.tables.specs.Ready.{Ready, OutLong, LogLong};
+ghost use Rattle.tables.specs.Ready.{Ready, OutLong, LogLong, LinkOf, recordOf};
 ghost use Rattle.tables.specs.Outcome.{replied, tablesLeft, logLeft, outLeft};
 use answer::Answer;
 use deleting::delete::delete;
@@ -18,25 +18,53 @@ use paging::erase::erase;
 use paging::read::read;
 use paging::write::write;
 
-// One call. A call costs what it touches: no table is scanned that it does not change.
-pub fn perform(g: Geometry, t: &mut [u32], log: &mut [u8], out: &mut [u32], c: Call) -> Answer
-    requires { ⌜ Ready g (now t) × LogLong g (now log) × OutLong g (now out) ⌝ }
+// The number of the record that a call is on, 0 for a call that is on none.
+pub fn record_of(c: Call) -> u32
+    ensures { λ r. ⌜ r ≡ recordOf c ⌝ }
+{
+    match c {
+        Call::Begin => 0,
+        Call::Write(n, _, _) => n,
+        Call::Erase(n, _) => n,
+        Call::Seal(n) => n,
+        Call::Fork(n) => n,
+        Call::Delete(n) => n,
+        Call::Read(n, _) => n,
+        Call::Barrier => 0,
+        Call::Compress => 0,
+        Call::FreeList => 0,
+        Call::Estimate(n) => n,
+    }
+}
+
+// One call, with the link of the record that it is on: whoever calls has found it. A call costs what it touches: no table is scanned that it does not
+// change. Of the hints nothing is asked or promised.
+pub fn perform(
+    g: Geometry,
+    t: &mut [u32],
+    log: &mut [u8],
+    out: &mut [u32],
+    hints: &mut [u8; 1024],
+    c: Call,
+    link: usize,
+) -> Answer
+    requires { ⌜ Ready g (now t) × LogLong g (now log) × OutLong g (now out) × LinkOf g (now t) (recordOf c) link ⌝ }
     ensures reply { λ r. ⌜ replyOf r (now (out .exit)) ≡ replied g (now (t .entry)) c ⌝ }
     ensures tables { λ r. ⌜ now (t .exit) ≡ tablesLeft g (now (t .entry)) c ⌝ }
     ensures log { λ r. ⌜ now (log .exit) ≡ logLeft g (now (t .entry)) (now (log .entry)) c ⌝ }
     ensures out { λ r. ⌜ now (out .exit) ≡ outLeft g (now (t .entry)) (now (out .entry)) c ⌝ }
 {
     match c {
-        Call::Begin => begin(g, t, out),
-        Call::Write(n, page, kind) => write(g, t, log, out, n, page, kind),
-        Call::Erase(n, page) => erase(g, t, log, out, n, page),
-        Call::Seal(n) => seal(g, t, out, n),
-        Call::Fork(n) => fork(g, t, out, n),
-        Call::Delete(n) => delete(g, t, log, out, n),
-        Call::Read(n, page) => read(g, t, out, n, page),
+        Call::Begin => begin(g, t, out, hints),
+        Call::Write(n, page, kind) => write(g, t, log, out, n, link, page, kind),
+        Call::Erase(n, page) => erase(g, t, log, out, n, link, page),
+        Call::Seal(n) => seal(g, t, out, hints, n, link),
+        Call::Fork(n) => fork(g, t, out, hints, n, link),
+        Call::Delete(n) => delete(g, t, log, out, n, link),
+        Call::Read(n, page) => read(g, t, out, n, link, page),
         Call::Barrier => barrier(g, t, log),
         Call::Compress => compress_log(g, t, log, out),
         Call::FreeList => free_list(g, t, out),
-        Call::Estimate(n) => estimate(g, t, out, n),
+        Call::Estimate(n) => estimate(g, t, out, n, link),
     }
 }

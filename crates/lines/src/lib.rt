@@ -1,11 +1,11 @@
-// The calls that open a record: B, S, F.
+// The calls that open a record: B, S, F. Each leaves a hint where the new record stands; S and F get the link of theirs.
 pub mod grow;
 pub mod verdict;
 
 ghost use mathlib.Core.Path.{_≡_};
 ghost use Rattle.answer.specs.Reply.{replyOf};
 ghost use Rattle.model.specs.declared.Call.the-variants.{Begin, Seal, Fork};
-ghost use Rattle.tables.specs.Ready.{Ready, OutLong};
+ghost use Rattle.tables.specs.Ready.{Ready, OutLong, LinkOf};
 ghost use Rattle.tables.specs.Outcome.{replied, tablesLeft, outLeft};
 use crate::grow::begin_at;
 use crate::grow::fork_at;
@@ -16,9 +16,10 @@ use crate::verdict::room;
 use crate::verdict::sealing;
 use answer::Answer;
 use geometry::Geometry;
+use tables::find::hint_slot;
 
 // B: an empty open record in a new line.
-pub fn begin(g: Geometry, t: &mut [u32], out: &mut [u32]) -> Answer
+pub fn begin(g: Geometry, t: &mut [u32], out: &mut [u32], hints: &mut [u8; 1024]) -> Answer
     requires { ⌜ Ready g (now t) × OutLong g (now out) ⌝ }
     ensures reply { λ r. ⌜ replyOf r (now (out .exit)) ≡ replied g (now (t .entry)) Begin ⌝ }
     ensures tables { λ r. ⌜ now (t .exit) ≡ tablesLeft g (now (t .entry)) Begin ⌝ }
@@ -28,41 +29,61 @@ pub fn begin(g: Geometry, t: &mut [u32], out: &mut [u32]) -> Answer
     match verdict {
         Verdict::Refused(k) => Answer::Refused(k),
         Verdict::Accept(_, f) => {
-            out[0] = begin_at(t, g, f);
+            let number = begin_at(t, g, f);
+            hint_slot(hints, number, f);
+            out[0] = number;
             Answer::Done(1)
         }
     }
 }
 
 // S: the record is sealed, and an open one with its pages follows it.
-pub fn seal(g: Geometry, t: &mut [u32], out: &mut [u32], n: u32) -> Answer
-    requires { ⌜ Ready g (now t) × OutLong g (now out) ⌝ }
+pub fn seal(
+    g: Geometry,
+    t: &mut [u32],
+    out: &mut [u32],
+    hints: &mut [u8; 1024],
+    n: u32,
+    link: usize,
+) -> Answer
+    requires { ⌜ Ready g (now t) × OutLong g (now out) × LinkOf g (now t) n link ⌝ }
     ensures reply { λ r. ⌜ replyOf r (now (out .exit)) ≡ replied g (now (t .entry)) (Seal n) ⌝ }
     ensures tables { λ r. ⌜ now (t .exit) ≡ tablesLeft g (now (t .entry)) (Seal n) ⌝ }
     ensures out { λ r. ⌜ now (out .exit) ≡ outLeft g (now (t .entry)) (now (out .entry)) (Seal n) ⌝ }
 {
-    let verdict = sealing(t, g, n);
+    let verdict = sealing(t, g, n, link);
     match verdict {
         Verdict::Refused(k) => Answer::Refused(k),
         Verdict::Accept(s, f) => {
-            out[0] = seal_at(t, g, f, s);
+            let number = seal_at(t, g, f, s);
+            hint_slot(hints, number, f);
+            out[0] = number;
             Answer::Done(1)
         }
     }
 }
 
 // F: a new line with an open record that has the pages of a sealed one.
-pub fn fork(g: Geometry, t: &mut [u32], out: &mut [u32], n: u32) -> Answer
-    requires { ⌜ Ready g (now t) × OutLong g (now out) ⌝ }
+pub fn fork(
+    g: Geometry,
+    t: &mut [u32],
+    out: &mut [u32],
+    hints: &mut [u8; 1024],
+    n: u32,
+    link: usize,
+) -> Answer
+    requires { ⌜ Ready g (now t) × OutLong g (now out) × LinkOf g (now t) n link ⌝ }
     ensures reply { λ r. ⌜ replyOf r (now (out .exit)) ≡ replied g (now (t .entry)) (Fork n) ⌝ }
     ensures tables { λ r. ⌜ now (t .exit) ≡ tablesLeft g (now (t .entry)) (Fork n) ⌝ }
     ensures out { λ r. ⌜ now (out .exit) ≡ outLeft g (now (t .entry)) (now (out .entry)) (Fork n) ⌝ }
 {
-    let verdict = forking(t, g, n);
+    let verdict = forking(t, g, n, link);
     match verdict {
         Verdict::Refused(k) => Answer::Refused(k),
         Verdict::Accept(s, f) => {
-            out[0] = fork_at(t, g, f, s);
+            let number = fork_at(t, g, f, s);
+            hint_slot(hints, number, f);
+            out[0] = number;
             Answer::Done(1)
         }
     }

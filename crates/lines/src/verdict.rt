@@ -3,12 +3,11 @@ ghost use mathlib.Core.Path.{_≡_};
 ghost use Rattle.model.specs.declared.Call.the-variants.{Begin, Seal, Fork};
 ghost use Rattle.model.specs.Layout.{stateOf};
 ghost use Rattle.model.specs.Calls.{slot};
-ghost use Rattle.tables.specs.Ready.{Roomy, Ready};
+ghost use Rattle.tables.specs.Ready.{Roomy, Ready, LinkOf};
 ghost use Rattle.lines.specs.Verdicts.{verdict};
 use geometry::Geometry;
 use tables::cells::LAST;
 use tables::cells::OPEN;
-use tables::find::slot_of;
 use tables::find::vacant_slot;
 
 // What such a call meets: a refusal, or the slot of its record and the empty slot.
@@ -32,12 +31,11 @@ pub fn room(t: &[u32], g: Geometry, s: usize) -> Verdict
     Verdict::Accept(s, empty - 1)
 }
 
-// The verdict on S of the record of number n: 9 if it is sealed.
-pub fn sealing(t: &[u32], g: Geometry, n: u32) -> Verdict
-    requires { ⌜ Ready g (now t) ⌝ }
+// The verdict on S of the record of number n, with its link: 9 if it is sealed.
+pub fn sealing(t: &[u32], g: Geometry, n: u32, link: usize) -> Verdict
+    requires { ⌜ Ready g (now t) × LinkOf g (now t) n link ⌝ }
     ensures { λ r. ⌜ r ≡ verdict g (now (t .entry)) (Seal n) (slot (stateOf g (now (t .entry))) n) ⌝ }
 {
-    let link = slot_of(t, g, n);
     if link == 0 {
         return Verdict::Refused(8);
     }
@@ -48,11 +46,10 @@ pub fn sealing(t: &[u32], g: Geometry, n: u32) -> Verdict
 }
 
 // The verdict on F: 9 if the record is open.
-pub fn forking(t: &[u32], g: Geometry, n: u32) -> Verdict
-    requires { ⌜ Ready g (now t) ⌝ }
+pub fn forking(t: &[u32], g: Geometry, n: u32, link: usize) -> Verdict
+    requires { ⌜ Ready g (now t) × LinkOf g (now t) n link ⌝ }
     ensures { λ r. ⌜ r ≡ verdict g (now (t .entry)) (Fork n) (slot (stateOf g (now (t .entry))) n) ⌝ }
 {
-    let link = slot_of(t, g, n);
     if link == 0 {
         return Verdict::Refused(8);
     }

@@ -11,7 +11,7 @@ ghost use Rattle.model.specs.Actions.{doE};
 ghost use Rattle.model.specs.Calls.{acted};
 ghost use Rattle.model.specs.Layout.{viewOf, stateOf, stored};
 ghost use Rattle.model.specs.Results.{paired};
-ghost use Rattle.tables.specs.Ready.{Ready, OutLong, LogLong};
+ghost use Rattle.tables.specs.Ready.{Ready, OutLong, LogLong, LinkOf};
 ghost use Rattle.tables.specs.Outcome.{replied, tablesLeft, logLeft, outLeft};
 ghost use Rattle.paging.specs.Target.{Target, freesOf};
 ghost use Rattle.paging.specs.EraseVerdict.{Judged};
@@ -22,7 +22,6 @@ use answer::Answer;
 use geometry::Geometry;
 use tables::cells::OPEN;
 use tables::cells::USED;
-use tables::find::slot_of;
 use tables::find::wide;
 use tables::links::frees_on;
 
@@ -32,14 +31,13 @@ pub enum Verdict {
     Accept(usize),
 }
 
-fn erase_verdict(t: &[u32], g: Geometry, n: u32, page: u32) -> Verdict
-    requires { ⌜ Ready g (now t) ⌝ }
+fn erase_verdict(t: &[u32], g: Geometry, n: u32, link: usize, page: u32) -> Verdict
+    requires { ⌜ Ready g (now t) × LinkOf g (now t) n link ⌝ }
     ensures { λ r. ⌜ Judged g (now (t .entry)) n page r ⌝ }
 {
     if g.pages <= wide(page) {
         return Verdict::Refused(5);
     }
-    let link = slot_of(t, g, n);
     if link == 0 {
         return Verdict::Refused(8);
     }
@@ -82,21 +80,23 @@ fn erase_page(
     2
 }
 
+// E on the record of number n, with its link.
 pub fn erase(
     g: Geometry,
     t: &mut [u32],
     log: &mut [u8],
     out: &mut [u32],
     n: u32,
+    link: usize,
     page: u32,
 ) -> Answer
-    requires { ⌜ Ready g (now t) × LogLong g (now log) × OutLong g (now out) ⌝ }
+    requires { ⌜ Ready g (now t) × LogLong g (now log) × OutLong g (now out) × LinkOf g (now t) n link ⌝ }
     ensures reply { λ r. ⌜ replyOf r (now (out .exit)) ≡ replied g (now (t .entry)) (Erase n page) ⌝ }
     ensures tables { λ r. ⌜ now (t .exit) ≡ tablesLeft g (now (t .entry)) (Erase n page) ⌝ }
     ensures log { λ r. ⌜ now (log .exit) ≡ logLeft g (now (t .entry)) (now (log .entry)) (Erase n page) ⌝ }
     ensures out { λ r. ⌜ now (out .exit) ≡ outLeft g (now (t .entry)) (now (out .entry)) (Erase n page) ⌝ }
 {
-    let verdict = erase_verdict(t, g, n, page);
+    let verdict = erase_verdict(t, g, n, link, page);
     match verdict {
         Verdict::Refused(k) => Answer::Refused(k),
         Verdict::Accept(s) => Answer::Done(erase_page(g, t, log, out, s, wide(page))),

@@ -12,7 +12,7 @@ ghost use Rattle.model.specs.Actions.{doW};
 ghost use Rattle.model.specs.Calls.{acted, given};
 ghost use Rattle.model.specs.Layout.{viewOf, stateOf, stored};
 ghost use Rattle.model.specs.Results.{paired};
-ghost use Rattle.tables.specs.Ready.{Ready, OutLong, LogLong};
+ghost use Rattle.tables.specs.Ready.{Ready, OutLong, LogLong, LinkOf};
 ghost use Rattle.tables.specs.Outcome.{replied, tablesLeft, logLeft, outLeft};
 ghost use Rattle.paging.specs.Target.{Target, freesOf};
 ghost use Rattle.paging.specs.Place.{FreeAt};
@@ -27,7 +27,6 @@ use answer::Answer;
 use geometry::Geometry;
 use tables::cells::OPEN;
 use tables::cells::USED;
-use tables::find::slot_of;
 use tables::find::wide;
 use tables::links::frees_on;
 
@@ -37,8 +36,8 @@ pub enum Verdict {
     Accept(usize, usize, usize, u32),
 }
 
-fn write_verdict(t: &[u32], g: Geometry, n: u32, page: u32, kind: u32) -> Verdict
-    requires { ⌜ Ready g (now t) ⌝ }
+fn write_verdict(t: &[u32], g: Geometry, n: u32, link: usize, page: u32, kind: u32) -> Verdict
+    requires { ⌜ Ready g (now t) × LinkOf g (now t) n link ⌝ }
     ensures { λ r. ⌜ Judged g (now (t .entry)) n page kind r ⌝ }
 {
     if g.pages <= wide(page) {
@@ -47,7 +46,6 @@ fn write_verdict(t: &[u32], g: Geometry, n: u32, page: u32, kind: u32) -> Verdic
     if 2 < kind {
         return Verdict::Refused(6);
     }
-    let link = slot_of(t, g, n);
     if link == 0 {
         return Verdict::Refused(8);
     }
@@ -102,22 +100,24 @@ fn write_page(
     4
 }
 
+// W on the record of number n, with its link.
 pub fn write(
     g: Geometry,
     t: &mut [u32],
     log: &mut [u8],
     out: &mut [u32],
     n: u32,
+    link: usize,
     page: u32,
     kind: u32,
 ) -> Answer
-    requires { ⌜ Ready g (now t) × LogLong g (now log) × OutLong g (now out) ⌝ }
+    requires { ⌜ Ready g (now t) × LogLong g (now log) × OutLong g (now out) × LinkOf g (now t) n link ⌝ }
     ensures reply { λ r. ⌜ replyOf r (now (out .exit)) ≡ replied g (now (t .entry)) (Write n page kind) ⌝ }
     ensures tables { λ r. ⌜ now (t .exit) ≡ tablesLeft g (now (t .entry)) (Write n page kind) ⌝ }
     ensures log { λ r. ⌜ now (log .exit) ≡ logLeft g (now (t .entry)) (now (log .entry)) (Write n page kind) ⌝ }
     ensures out { λ r. ⌜ now (out .exit) ≡ outLeft g (now (t .entry)) (now (out .entry)) (Write n page kind) ⌝ }
 {
-    let verdict = write_verdict(t, g, n, page, kind);
+    let verdict = write_verdict(t, g, n, link, page, kind);
     match verdict {
         Verdict::Refused(k) => Answer::Refused(k),
         Verdict::Accept(s, a, o, birth) => {

@@ -45,6 +45,7 @@ pub fn serve_part(
         };
     }
     let most = replies.len() - LONGEST;
+    let mut hints = [0u8; 1024];
     while i < text.len() {
         if most < used {
             return Served {
@@ -56,7 +57,7 @@ pub fn serve_part(
         let said = said_at(text, i);
         let says = said.says;
         let end = said.end;
-        let stepped = step(s, says, t, log, out);
+        let stepped = step(s, says, t, log, out, &mut hints);
         s = stepped.session;
         let answer = stepped.answer;
         let spelling = spelling_of(says);

@@ -7,11 +7,13 @@ ghost use Rattle.script.specs.declared.parse.Parsed.the-variants.{Store, Asks};
 ghost use Rattle.session.specs.Step.{stepReply, stepMemory, stepSession, Kept, Few, Stepping};
 use answer::Answer;
 use engine::perform;
+use engine::record_of;
 use geometry::Geometry;
 use model::Call;
 use script::parse::Parsed;
 use script::parse::Six;
 use store::make::make;
+use tables::find::slot_by;
 use tables::find::wide;
 
 // Whether a store was made, 1 or 0, and its geometry. A number and no bool: a bool would leave a gap, and a copy of the struct would read more bytes
@@ -87,7 +89,14 @@ fn store_line(s: Session, x: Six, t: &mut [u32], log: &[u8], out: &[u32]) -> Ste
 }
 
 // A call: 4 before a store exists, else the engine acts at once.
-fn call_line(s: Session, c: Call, t: &mut [u32], log: &mut [u8], out: &mut [u32]) -> Stepped
+fn call_line(
+    s: Session,
+    c: Call,
+    t: &mut [u32],
+    log: &mut [u8],
+    out: &mut [u32],
+    hints: &mut [u8; 1024],
+) -> Stepped
     requires { ⌜ Kept s (now t) (now log) (now out) ⌝ }
     ensures { λ r. ⌜ Stepping s (lent (now (t .entry)) (now (log .entry)) (now (out .entry))) (Asks c) r (lent (now (t .exit)) (now (log .exit)) (now (out .exit))) ⌝ }
 {
@@ -95,12 +104,20 @@ fn call_line(s: Session, c: Call, t: &mut [u32], log: &mut [u8], out: &mut [u32]
         return refuse(s, 4);
     }
     let g = s.g;
-    let answer = perform(g, t, log, out, c);
+    let link = slot_by(t, g, hints, record_of(c));
+    let answer = perform(g, t, log, out, hints, c, link);
     Stepped { session: s, answer }
 }
 
-// One line, by what it says.
-pub fn step(s: Session, said: Parsed, t: &mut [u32], log: &mut [u8], out: &mut [u32]) -> Stepped
+// One line, by what it says. Of the hints, where records may stand, nothing is asked or promised.
+pub fn step(
+    s: Session,
+    said: Parsed,
+    t: &mut [u32],
+    log: &mut [u8],
+    out: &mut [u32],
+    hints: &mut [u8; 1024],
+) -> Stepped
     requires { ⌜ Kept s (now t) (now log) (now out) ⌝ }
     ensures reply { λ r. ⌜ replyOf (r .answer) (now (out .exit)) ≡ stepReply s (lent (now (t .entry)) (now (log .entry)) (now (out .entry))) said ⌝ }
     ensures session { λ r. ⌜ r .session ≡ stepSession s (lent (now (t .entry)) (now (log .entry)) (now (out .entry))) said ⌝ }
@@ -116,5 +133,5 @@ pub fn step(s: Session, said: Parsed, t: &mut [u32], log: &mut [u8], out: &mut [
     let Parsed::Asks(c) = said else {
         return refuse(s, 1);
     };
-    call_line(s, c, t, log, out)
+    call_line(s, c, t, log, out, hints)
 }

@@ -4,11 +4,13 @@ ghost use Rattle.model.specs.Memory.{lent};
 ghost use Rattle.store.specs.Called.{Called};
 use answer::Answer;
 use engine::perform;
+use engine::record_of;
 use geometry::Geometry;
 use geometry::Making;
 use model::Call;
 use soundness::is_sound;
 use soundness::lengths::is_short;
+use tables::find::slot_of;
 
 pub fn call(
     arenas: usize,
@@ -36,5 +38,7 @@ pub fn call(
     if !is_sound(g, tables, log) {
         return Answer::Refused(4);
     }
-    perform(g, tables, log, out, c)
+    let link = slot_of(tables, g, record_of(c));
+    let mut hints = [0u8; 1024];
+    perform(g, tables, log, out, &mut hints, c, link)
 }

@@ -1,6 +1,6 @@
 -- `perform`: each arm is one call; what it is not lent stays.
 use mathlib.Core.Path.{refl}
-use Rattle.engine.proofs.Untouched.{log-stays, out-stays, tables-stay, of-call}
+use Rattle.engine.proofs.Untouched.{log-stays, out-stays, tables-stay, its-link, of-call}
 use native.Mathlib.Omega.{arith}
 use borrow.Author.Needs.{needs}
 use Rattle.engine.proofs.perform.Statement.{statement}
@@ -10,43 +10,55 @@ enum-told : tie.Need-enum-told
 enum-told c = search needs
 
 begin-requires : tie.Need-begin-requires
-begin-requires c κs = let p = c .before .before .before .before .before .before .before .pre in (p .0, p .2)
+begin-requires c κs = let p = c .before .before .before .before .before .before .before .before .pre in (p .0, p .2)
 
 enum-known-c : tie.Need-enum-known-c
 enum-known-c c = search needs
 
 write-requires : tie.Need-write-requires
-write-requires c κs = let p = c .before .before .before .before .before .before .before .before .before .pre in p
+write-requires c κs =
+    let s = c .before .before .before .before .before .before .before .before .before in
+    (s .pre .0, s .pre .1, s .pre .2, its-link (s .args .g) (s .args .t .now) (c .before .before .before .before .c .given .1) (s .args .link) (s .pre .3))
 
 enum-known-c-2 : tie.Need-enum-known-c-2
 enum-known-c-2 c = search needs
 
 erase-requires : tie.Need-erase-requires
-erase-requires c κs = let p = c .before .before .before .before .before .before .before .before .before .pre in p
+erase-requires c κs =
+    let s = c .before .before .before .before .before .before .before .before .before in
+    (s .pre .0, s .pre .1, s .pre .2, its-link (s .args .g) (s .args .t .now) (c .before .before .before .before .c2 .given .1) (s .args .link) (s .pre .3))
 
 enum-known-c-3 : tie.Need-enum-known-c-3
 enum-known-c-3 c = search needs
 
 seal-requires : tie.Need-seal-requires
-seal-requires c κs = let p = c .before .before .before .before .before .before .before .before .pre in (p .0, p .2)
+seal-requires c κs =
+    let s = c .before .before .before .before .before .before .before .before .before in
+    (s .pre .0, s .pre .2, its-link (s .args .g) (s .args .t .now) (c .before .before .before .before .c3 .given .1) (s .args .link) (s .pre .3))
 
 enum-known-c-4 : tie.Need-enum-known-c-4
 enum-known-c-4 c = search needs
 
 fork-requires : tie.Need-fork-requires
-fork-requires c κs = let p = c .before .before .before .before .before .before .before .before .pre in (p .0, p .2)
+fork-requires c κs =
+    let s = c .before .before .before .before .before .before .before .before .before in
+    (s .pre .0, s .pre .2, its-link (s .args .g) (s .args .t .now) (c .before .before .before .before .c4 .given .1) (s .args .link) (s .pre .3))
 
 enum-known-c-5 : tie.Need-enum-known-c-5
 enum-known-c-5 c = search needs
 
 delete-requires : tie.Need-delete-requires
-delete-requires c κs = let p = c .before .before .before .before .before .before .before .before .before .pre in p
+delete-requires c κs =
+    let s = c .before .before .before .before .before .before .before .before .before in
+    (s .pre .0, s .pre .1, s .pre .2, its-link (s .args .g) (s .args .t .now) (c .before .before .before .before .c5 .given .1) (s .args .link) (s .pre .3))
 
 enum-known-c-6 : tie.Need-enum-known-c-6
 enum-known-c-6 c = search needs
 
 read-requires : tie.Need-read-requires
-read-requires c κs = let p = c .before .before .before .before .before .before .before .before .pre in (p .0, p .2)
+read-requires c κs =
+    let s = c .before .before .before .before .before .before .before .before in
+    (s .pre .0, s .pre .2, its-link (s .args .g) (s .args .t .now) (c .before .before .before .c6 .given .1) (s .args .link) (s .pre .3))
 
 enum-told-2 : tie.Need-enum-told-2
 enum-told-2 c = search needs
@@ -58,7 +70,7 @@ enum-told-3 : tie.Need-enum-told-3
 enum-told-3 c = search needs
 
 compress-log-requires : tie.Need-compress-log-requires
-compress-log-requires c κs = let p = c .before .before .before .before .before .before .before .before .pre in p
+compress-log-requires c κs = let p = c .before .before .before .before .before .before .before .before .pre in (p .0, p .1, p .2)
 
 enum-told-4 : tie.Need-enum-told-4
 enum-told-4 c = search needs
@@ -70,7 +82,9 @@ enum-known-c-7 : tie.Need-enum-known-c-7
 enum-known-c-7 c = search needs
 
 estimate-requires : tie.Need-estimate-requires
-estimate-requires c κs = let p = c .before .before .before .before .before .before .before .before .pre in (p .0, p .2)
+estimate-requires c κs =
+    let s = c .before .before .before .before .before .before .before .before in
+    (s .pre .0, s .pre .2, its-link (s .args .g) (s .args .t .now) (c .before .before .before .c7 .given .1) (s .args .link) (s .pre .3))
 
 same-length : tie.Need-same-length
 same-length c = search needs
@@ -80,10 +94,10 @@ same-length-2 c = search needs
 
 returns : tie.Need-returns
 returns c =
-    let s = c .before .before .before .before .before .before .before .before .before .before .before .before in
+    let s = c .before .before .before .before .before .before .before .before .before .before .before .before .before in
     let a = s .args in
     let e = c .before .before .before .before .begin .ensures in
-    of-call (a .g) (a .t .now) (a .log .now) (a .out .now) (c .before .before .before .before .before .before .before .enum-told .given .1) _ _ _ _
+    of-call (a .g) (a .t .now) (a .log .now) (a .out .now) (c .before .before .before .before .before .before .before .before .enum-told .given .1) _ _ _ _
     (e .0, (e .1 .0, (log-stays (a .g) (a .t .now) _ (a .log .now) refl, e .1 .1)))
 
 same-length-3 : tie.Need-same-length-3
@@ -128,10 +142,10 @@ same-length-10 c = search needs
 
 returns-4 : tie.Need-returns-4
 returns-4 c =
-    let s = c .before .before .before .before .before .before .before .before .before .before .before .before .before in
+    let s = c .before .before .before .before .before .before .before .before .before .before .before .before .before .before in
     let a = s .args in
     let e = c .before .before .before .before .seal .ensures in
-    of-call (a .g) (a .t .now) (a .log .now) (a .out .now) (c .before .before .before .before .before .before .before .before .c3 .given .1) _ _ _ _
+    of-call (a .g) (a .t .now) (a .log .now) (a .out .now) (c .before .before .before .before .before .before .before .before .before .c3 .given .1) _ _ _ _
     (e .0, (e .1 .0, (log-stays (a .g) (a .t .now) _ (a .log .now) refl, e .1 .1)))
 
 same-length-11 : tie.Need-same-length-11
@@ -142,10 +156,10 @@ same-length-12 c = search needs
 
 returns-5 : tie.Need-returns-5
 returns-5 c =
-    let s = c .before .before .before .before .before .before .before .before .before .before .before .before .before in
+    let s = c .before .before .before .before .before .before .before .before .before .before .before .before .before .before in
     let a = s .args in
     let e = c .before .before .before .before .fork .ensures in
-    of-call (a .g) (a .t .now) (a .log .now) (a .out .now) (c .before .before .before .before .before .before .before .before .c4 .given .1) _ _ _ _
+    of-call (a .g) (a .t .now) (a .log .now) (a .out .now) (c .before .before .before .before .before .before .before .before .before .c4 .given .1) _ _ _ _
     (e .0, (e .1 .0, (log-stays (a .g) (a .t .now) _ (a .log .now) refl, e .1 .1)))
 
 same-length-13 : tie.Need-same-length-13

@@ -19,6 +19,9 @@ begin-at-requires c κs =
     let n = Answers.begin-needs (s .pre .0) _ _ _ (c .before .before .before .before .room .ensures) (c .before .before .verdict2 .given .1) in
     (s .pre .0, n .0, n .1)
 
+hint-slot-requires : tie.Need-hint-slot-requires
+hint-slot-requires c κs = search needs
+
 slice-write-out : tie.Need-slice-write-out
 slice-write-out c = search needs
 
@@ -36,9 +39,9 @@ same-length-3 c = search needs
 
 returns-2 : tie.Need-returns-2
 returns-2 c =
-    let s = c .before .before .before .before .before .before .before .before .before .before .before in
-    let o = c .before .before .begin-at .ensures in
-    Answers.begin-left (s .pre .0) _ _ _ (o .1) (s .pre .1) _ _ _ (c .before .before .before .before .before .before .before .room .ensures) (c .before .before .before .before .before .verdict2 .given .1) (o .0)
+    let s = c .before .before .before .before .before .before .before .before .before .before .before .before .before in
+    let o = c .before .before .before .before .begin-at .ensures in
+    Answers.begin-left (s .pre .0) _ _ _ (o .1) (s .pre .1) _ _ _ (c .before .before .before .before .before .before .before .before .before .room .ensures) (c .before .before .before .before .before .before .before .verdict2 .given .1) (o .0)
 
 pub begin-spec : {M : Type 1} → statement M
 begin-spec =
@@ -48,6 +51,7 @@ begin-spec =
     enum-known-verdict
     enum-known-verdict-2
     begin-at-requires
+    hint-slot-requires
     slice-write-out
     same-length
     returns

@@ -19,6 +19,9 @@ seal-at-requires c κs =
     let n = Answers.seal-needs (s .pre .0) _ _ _ _ (c .before .before .before .before .sealing .ensures) (c .before .before .verdict2 .given .1) in
     (s .pre .0, n .0, n .1, n .2, n .3)
 
+hint-slot-requires : tie.Need-hint-slot-requires
+hint-slot-requires c κs = search needs
+
 slice-write-out : tie.Need-slice-write-out
 slice-write-out c = search needs
 
@@ -36,9 +39,9 @@ same-length-3 c = search needs
 
 returns-2 : tie.Need-returns-2
 returns-2 c =
-    let s = c .before .before .before .before .before .before .before .before .before .before .before in
-    let o = c .before .before .seal-at .ensures in
-    Answers.seal-left (s .pre .0) _ _ _ (o .1) (s .pre .1) _ _ _ _ (c .before .before .before .before .before .before .before .sealing .ensures) (c .before .before .before .before .before .verdict2 .given .1) (o .0)
+    let s = c .before .before .before .before .before .before .before .before .before .before .before .before .before in
+    let o = c .before .before .before .before .seal-at .ensures in
+    Answers.seal-left (s .pre .0) _ _ _ (o .1) (s .pre .1) _ _ _ _ (c .before .before .before .before .before .before .before .before .before .sealing .ensures) (c .before .before .before .before .before .before .before .verdict2 .given .1) (o .0)
 
 pub seal-spec : {M : Type 1} → statement M
 seal-spec =
@@ -48,6 +51,7 @@ seal-spec =
     enum-known-verdict
     enum-known-verdict-2
     seal-at-requires
+    hint-slot-requires
     slice-write-out
     same-length
     returns

@@ -10,10 +10,10 @@ use Rattle.serving.proofs.serve_part.Statement.{statement}
 use Rattle.serving.proofs.serve_part.Tie as tie
 
 abbrev Inv-loop : tie.InvT-loop
-Inv-loop text at t₀ log₀ out₀ replies₀ s₀ used₀ i₀ most t log out replies s used i = Running text (served text (length replies₀) (begun at s₀ (lent t₀ log₀ out₀))) t₀ log₀ out₀ replies₀ s t log out replies used i
+Inv-loop text at t₀ log₀ out₀ replies₀ s₀ used₀ i₀ most hints₀ t log out replies s used i hints = Running text (served text (length replies₀) (begun at s₀ (lent t₀ log₀ out₀))) t₀ log₀ out₀ replies₀ s t log out replies used i
 
 abbrev μ-loop : tie.MeasureT-loop
-μ-loop text at t₀ log₀ out₀ replies₀ s₀ used₀ i₀ most t log out replies s used i = length text - i
+μ-loop text at t₀ log₀ out₀ replies₀ s₀ used₀ i₀ most hints₀ t log out replies s used i hints = length text - i
 
 returns : tie.Need-returns Inv-loop μ-loop
 returns c =
@@ -52,7 +52,7 @@ said-at-requires : tie.Need-said-at-requires Inv-loop μ-loop
 said-at-requires c κs = c .before .loop-test .taken
 
 step-requires : tie.Need-step-requires Inv-loop μ-loop
-step-requires c κs = c .before .before .before .before .before .before .loop .inv .kept
+step-requires c κs = c .before .before .before .before .before .before .before .loop .inv .kept
 
 spelling-of-requires : tie.Need-spelling-of-requires Inv-loop μ-loop
 spelling-of-requires c κs = tt
@@ -60,19 +60,19 @@ spelling-of-requires c κs = tt
 put-reply-requires : tie.Need-put-reply-requires Inv-loop μ-loop
 put-reply-requires c κs =
     let at-step = c .before .before .before .before .before .before .before .before .before .before in
-    let at-if2 = at-step .before .before .before .before .before in
+    let at-if2 = at-step .before .before .before .before .before .before in
     let at-loop = at-if2 .before .before in
     let e = at-step .step .ensures .1 .1 .1 .1 .1 in
     room _ (e .1) _ _ _ (omega (arith, at-loop .loop .inv .same, at-if2 .if2 .left, at-loop .before .if1 .left)) (e .0 .out)
 
 add-i : tie.Need-add-i Inv-loop μ-loop
 add-i c =
-    let at-said-at = c .before .before .before .before .before .before .before .before .before .before .before .before .before .before .before .before .before in
+    let at-said-at = c .before .before .before .before .before .before .before .before .before .before .before .before .before .before .before .before .before .before in
     omega (arith, at-said-at .said-at .ensures .1, at-said-at .before .before .before .before .before .before .before .before .before .before .good)
 
 loop-less : tie.Need-loop-less Inv-loop μ-loop
 loop-less c =
-    let at-said-at = c .before .before .before .before .before .before .before .before .before .before .before .before .before .before .before .before .before in
+    let at-said-at = c .before .before .before .before .before .before .before .before .before .before .before .before .before .before .before .before .before .before in
     omega (arith, at-said-at .said-at .ensures .1, at-said-at .before .before .loop-test .taken)
 
 loop-again : tie.Need-loop-again Inv-loop μ-loop
@@ -80,7 +80,7 @@ loop-again c =
     let at-put-reply = c .before .before in
     let at-spelling-of = at-put-reply .before .before .before in
     let at-step = at-spelling-of .before .before .before .before .before .before .before .before in
-    let at-said-at = at-step .before .before .before .before in
+    let at-said-at = at-step .before .before .before .before .before in
     let at-if2 = at-said-at .before in
     let at-loop-test = at-if2 .before in
     let at-loop = at-loop-test .before in

@@ -8,7 +8,9 @@ use Rattle.deleting.proofs.delete.delete.Statement.{statement}
 use Rattle.deleting.proofs.delete.delete.Tie as tie
 
 delete-verdict-requires : tie.Need-delete-verdict-requires
-delete-verdict-requires c κs = c .before .before .before .before .pre .0
+delete-verdict-requires c κs =
+    let start = c .before .before .before .before in
+    (start .pre .0, start .pre .3)
 
 enum-known-verdict : tie.Need-enum-known-verdict
 enum-known-verdict c = search needs

@@ -13,11 +13,12 @@ wide-requires c κs = search needs
 returns : tie.Need-returns
 returns c = Erasing.erase-5 _ _ _ _ _ (c .before .before .wide .ensures) (c .if1 .taken)
 
-slot-of-requires : tie.Need-slot-of-requires
-slot-of-requires c κs = search needs
-
 returns-2 : tie.Need-returns-2
-returns-2 c = Erasing.erase-8 _ _ _ _ _ (c .before .before .before .before .wide .ensures) _ (c .before .before .if1 .left) (c .before .slot-of .ensures .0) (c .if2 .taken)
+returns-2 c =
+    let at-if1 = c .before in
+    let at-wide = at-if1 .before .before in
+    let start = at-wide .before .before in
+    Erasing.erase-8 _ _ _ _ _ (at-wide .wide .ensures) _ (at-if1 .if1 .left) (start .pre .1 .0) (c .if2 .taken)
 
 sub-s : tie.Need-sub-s
 sub-s c = search needs
@@ -32,7 +33,12 @@ shared-slice-read-if3 : tie.Need-shared-slice-read-if3
 shared-slice-read-if3 c = search needs
 
 returns-3 : tie.Need-returns-3
-returns-3 c = Erasing.erase-9 _ _ _ _ _ (c .before .before .before .before .before .before .wide .ensures) (c .before .before .before .before .before .before .before .before .pre) _ (c .before .before .before .before .if1 .left) (c .before .before .before .slot-of .ensures .0) (c .before .before .if2 .left) (c .if3 .taken)
+returns-3 c =
+    let at-if2 = c .before .before in
+    let at-if1 = at-if2 .before in
+    let at-wide = at-if1 .before .before in
+    let start = at-wide .before .before in
+    Erasing.erase-9 _ _ _ _ _ (at-wide .wide .ensures) (start .pre .0) _ (at-if1 .if1 .left) (start .pre .1 .0) (at-if2 .if2 .left) (c .if3 .taken)
 
 shared-slice-read-wide : tie.Need-shared-slice-read-wide
 shared-slice-read-wide c = search needs
@@ -45,11 +51,11 @@ returns-4 c =
     let at-wide2 = c .before .before in
     let at-if3 = at-wide2 .before .before in
     let at-if2 = at-if3 .before .before in
-    let at-slot-of = at-if2 .before in
-    let at-if1 = at-slot-of .before in
+    let at-if1 = at-if2 .before in
     let at-wide = at-if1 .before .before in
     let start = at-wide .before .before in
-    Erasing.erase-accepts _ _ _ _ _ (at-wide .wide .ensures) (start .pre) _ (at-if1 .if1 .left) (at-slot-of .slot-of .ensures .0) (at-if2 .if2 .left) (at-if3 .if3 .left) _ _ _ (at-wide2 .wide2 .ensures) refl refl (Erasing.one-enough _ _ _ _ _ (c .if4 .taken))
+    Erasing.erase-accepts _ _ _ _ _ (at-wide .wide .ensures) (start .pre .0) _ (at-if1 .if1 .left) (start .pre .1 .0) (at-if2 .if2 .left) (at-if3 .if3 .left)
+    _ _ _ (at-wide2 .wide2 .ensures) refl refl (Erasing.one-enough _ _ _ _ _ (c .if4 .taken))
 
 wide-requires-3 : tie.Need-wide-requires-3
 wide-requires-3 c κs = search needs
@@ -57,9 +63,8 @@ wide-requires-3 c κs = search needs
 frees-on-requires : tie.Need-frees-on-requires
 frees-on-requires c κs =
     let at-if2 = c .before .before .before .before .before .before .before in
-    let at-slot-of = at-if2 .before in
-    let start = at-slot-of .before .before .before .before .before in
-    (start .pre, omega (arith, at-slot-of .slot-of .ensures .1), Looking.named-live (start .pre) _ _ (at-slot-of .slot-of .ensures .0) (at-if2 .if2 .left), omega arith)
+    let start = at-if2 .before .before .before .before .before in
+    (start .pre .0, omega (arith, start .pre .1 .1), Looking.named-live (start .pre .0) _ _ (start .pre .1 .0) (at-if2 .if2 .left), omega arith)
 
 returns-5 : tie.Need-returns-5
 returns-5 c =
@@ -68,11 +73,11 @@ returns-5 c =
     let at-wide2 = at-if4 .before .before in
     let at-if3 = at-wide2 .before .before in
     let at-if2 = at-if3 .before .before in
-    let at-slot-of = at-if2 .before in
-    let at-if1 = at-slot-of .before in
+    let at-if1 = at-if2 .before in
     let at-wide = at-if1 .before .before in
     let start = at-wide .before .before in
-    Erasing.erase-14 _ _ _ _ _ (at-wide .wide .ensures) (start .pre) _ (at-if1 .if1 .left) (at-slot-of .slot-of .ensures .0) (at-if2 .if2 .left) (at-if3 .if3 .left) _ _ _ (at-wide2 .wide2 .ensures) (at-wide3 .wide3 .ensures) (c .before .frees-on .ensures) (at-if4 .if4 .left) (c .if5 .taken)
+    Erasing.erase-14 _ _ _ _ _ (at-wide .wide .ensures) (start .pre .0) _ (at-if1 .if1 .left) (start .pre .1 .0) (at-if2 .if2 .left) (at-if3 .if3 .left)
+    _ _ _ (at-wide2 .wide2 .ensures) (at-wide3 .wide3 .ensures) (c .before .frees-on .ensures) (at-if4 .if4 .left) (c .if5 .taken)
 
 returns-6 : tie.Need-returns-6
 returns-6 c =
@@ -80,11 +85,11 @@ returns-6 c =
     let at-wide2 = at-wide3 .before .before .before in
     let at-if3 = at-wide2 .before .before in
     let at-if2 = at-if3 .before .before in
-    let at-slot-of = at-if2 .before in
-    let at-if1 = at-slot-of .before in
+    let at-if1 = at-if2 .before in
     let at-wide = at-if1 .before .before in
     let start = at-wide .before .before in
-    Erasing.erase-accepts _ _ _ _ _ (at-wide .wide .ensures) (start .pre) _ (at-if1 .if1 .left) (at-slot-of .slot-of .ensures .0) (at-if2 .if2 .left) (at-if3 .if3 .left) _ _ _ (at-wide2 .wide2 .ensures) (at-wide3 .wide3 .ensures) (c .before .frees-on .ensures) (omega (arith, c .if5 .left))
+    Erasing.erase-accepts _ _ _ _ _ (at-wide .wide .ensures) (start .pre .0) _ (at-if1 .if1 .left) (start .pre .1 .0) (at-if2 .if2 .left) (at-if3 .if3 .left)
+    _ _ _ (at-wide2 .wide2 .ensures) (at-wide3 .wide3 .ensures) (c .before .frees-on .ensures) (omega (arith, c .if5 .left))
 
 pub erase-verdict-spec : {M : Type 1} → statement M
 erase-verdict-spec =
@@ -92,7 +97,6 @@ erase-verdict-spec =
     (tie.spec
     wide-requires
     returns
-    slot-of-requires
     returns-2
     sub-s
     add-if3

@@ -16,11 +16,12 @@ wide-requires c κs = search needs
 returns : tie.Need-returns
 returns c = Answers.refused-out _ _ _ _ (Looking.read-5 _ _ _ _ _ (c .before .before .wide .ensures) (c .if1 .taken)) _
 
-slot-of-requires : tie.Need-slot-of-requires
-slot-of-requires c κs = search needs
-
 returns-2 : tie.Need-returns-2
-returns-2 c = Answers.refused-out _ _ _ _ (Looking.read-8 _ _ _ _ _ (c .before .before .before .before .wide .ensures) _ (c .before .before .if1 .left) (c .before .slot-of .ensures .0) (c .if2 .taken)) _
+returns-2 c =
+    let at-if1 = c .before in
+    let at-wide = at-if1 .before .before in
+    let start = at-wide .before .before .before in
+    Answers.refused-out _ _ _ _ (Looking.read-8 _ _ _ _ _ (at-wide .wide .ensures) _ (at-if1 .if1 .left) (start .pre .2 .0) (c .if2 .taken)) _
 
 sub-wide : tie.Need-sub-wide
 sub-wide c = search needs
@@ -50,25 +51,24 @@ returns-3 : tie.Need-returns-3
 returns-3 c =
     let at-wide2 = c .before .before .before in
     let at-if2 = at-wide2 .before in
-    let at-slot-of = at-if2 .before in
-    let at-if1 = at-slot-of .before in
+    let at-if1 = at-if2 .before in
     let at-wide = at-if1 .before .before in
     let start = at-wide .before .before .before in
-    Looking.read-empty _ _ _ _ _ (at-wide .wide .ensures) (start .pre .0) _ (at-if1 .if1 .left) (at-slot-of .slot-of .ensures .0) (at-if2 .if2 .left) _ _ (at-wide2 .wide2 .ensures) (c .before .wide3 .ensures) _ (c .if3 .taken)
+    Looking.read-empty _ _ _ _ _ (at-wide .wide .ensures) (start .pre .0) _ (at-if1 .if1 .left) (start .pre .2 .0) (at-if2 .if2 .left) _ _
+    (at-wide2 .wide2 .ensures) (c .before .wide3 .ensures) _ (c .if3 .taken)
 
 sub-b : tie.Need-sub-b
 sub-b c = search needs
 
 -- what was read is a block, one more
-link-le : (c : tie.Else3) → c .before .wide3 .result ≤ blocks (c .before .before .before .before .before .before .before .before .before .before .before .args .g)
+link-le : (c : tie.Else3) → c .before .wide3 .result ≤ blocks (c .before .before .before .before .before .before .before .before .before .before .args .g)
 link-le c =
     let at-wide2 = c .before .before .before in
     let at-if2 = at-wide2 .before in
-    let at-slot-of = at-if2 .before in
-    let at-if1 = at-slot-of .before in
+    let at-if1 = at-if2 .before in
     let at-wide = at-if1 .before .before in
     let start = at-wide .before .before .before in
-    Looking.read-le _ _ _ _ _ (at-wide .wide .ensures) (start .pre .0) _ (at-if1 .if1 .left) (at-slot-of .slot-of .ensures .0)
+    Looking.read-le _ _ _ _ _ (at-wide .wide .ensures) (start .pre .0) _ (at-if1 .if1 .left) (start .pre .2 .0)
     (at-if2 .if2 .left) _ _ (at-wide2 .wide2 .ensures) (c .before .wide3 .ensures)
 
 cast-out : tie.Need-cast-out
@@ -94,7 +94,7 @@ shared-slice-read-out c = omega (arith, link-le (c .before .before))
 
 slice-write-out-2 : tie.Need-slice-write-out-2
 slice-write-out-2 c =
-    let at-wide = c .before .before .before .before .before .before .before .before .before .before in
+    let at-wide = c .before .before .before .before .before .before .before .before .before in
     let start = at-wide .before .before .before in
     simp length-set (omega (arith, start .pre .1))
 
@@ -105,11 +105,10 @@ returns-4 : tie.Need-returns-4
 returns-4 c =
     let at-wide2 = c .before .before .before .before .before in
     let at-if2 = at-wide2 .before in
-    let at-slot-of = at-if2 .before in
-    let at-if1 = at-slot-of .before in
+    let at-if1 = at-if2 .before in
     let at-wide = at-if1 .before .before in
     let start = at-wide .before .before .before in
-    Looking.read-one _ _ _ _ _ (at-wide .wide .ensures) (start .pre .0) _ (at-if1 .if1 .left) (at-slot-of .slot-of .ensures .0) (at-if2 .if2 .left) _ _
+    Looking.read-one _ _ _ _ _ (at-wide .wide .ensures) (start .pre .0) _ (at-if1 .if1 .left) (start .pre .2 .0) (at-if2 .if2 .left) _ _
     (at-wide2 .wide2 .ensures) (c .before .before .before .wide3 .ensures) _ _ refl (start .pre .1) (c .before .before .if3 .left)
 
 pub read-spec : {M : Type 1} → statement M
@@ -118,7 +117,6 @@ read-spec =
     (tie.spec
     wide-requires
     returns
-    slot-of-requires
     returns-2
     sub-wide
     mul-wide

@@ -17,11 +17,13 @@ returns c = Giving.write-5 _ _ _ _ _ _ (c .before .before .wide .ensures) (c .if
 returns-2 : tie.Need-returns-2
 returns-2 c = Giving.write-6 _ _ _ _ _ _ (c .before .before .before .wide .ensures) (c .before .if1 .left) (c .if2 .taken)
 
-slot-of-requires : tie.Need-slot-of-requires
-slot-of-requires c κs = search needs
-
 returns-3 : tie.Need-returns-3
-returns-3 c = Giving.write-8 _ _ _ _ _ _ (c .before .before .before .before .before .wide .ensures) (c .before .before .before .if1 .left) (c .before .before .if2 .left) _ (c .before .slot-of .ensures .0) (c .if3 .taken)
+returns-3 c =
+    let at-if2 = c .before in
+    let at-if1 = at-if2 .before in
+    let at-wide = at-if1 .before .before in
+    let start = at-wide .before .before in
+    Giving.write-8 _ _ _ _ _ _ (at-wide .wide .ensures) (at-if1 .if1 .left) (at-if2 .if2 .left) _ (start .pre .1 .0) (c .if3 .taken)
 
 sub-s : tie.Need-sub-s
 sub-s c = search needs
@@ -36,7 +38,14 @@ shared-slice-read-if4 : tie.Need-shared-slice-read-if4
 shared-slice-read-if4 c = search needs
 
 returns-4 : tie.Need-returns-4
-returns-4 c = Giving.write-9 _ _ _ _ _ _ (c .before .before .before .before .before .before .before .wide .ensures) (c .before .before .before .before .before .if1 .left) (c .before .before .before .before .if2 .left) _ (c .before .before .before .slot-of .ensures .0) (c .before .before .before .before .before .before .before .before .before .pre) (c .before .before .if3 .left) (c .if4 .taken)
+returns-4 c =
+    let at-if3 = c .before .before in
+    let at-if2 = at-if3 .before in
+    let at-if1 = at-if2 .before in
+    let at-wide = at-if1 .before .before in
+    let start = at-wide .before .before in
+    Giving.write-9 _ _ _ _ _ _ (at-wide .wide .ensures) (at-if1 .if1 .left) (at-if2 .if2 .left) _ (start .pre .1 .0) (start .pre .0)
+    (at-if3 .if3 .left) (c .if4 .taken)
 
 search-requires : tie.Need-search-requires
 search-requires c κs = search needs
@@ -52,12 +61,11 @@ returns-5 c =
     let at-search = c .before .before in
     let at-if4 = at-search .before in
     let at-if3 = at-if4 .before .before in
-    let at-slot-of = at-if3 .before in
-    let at-if2 = at-slot-of .before in
+    let at-if2 = at-if3 .before in
     let at-if1 = at-if2 .before in
     let at-wide = at-if1 .before .before in
     let start = at-wide .before .before in
-    Giving.write-13 _ _ _ _ _ _ (at-wide .wide .ensures) (at-if1 .if1 .left) (at-if2 .if2 .left) _ (at-slot-of .slot-of .ensures .0) (start .pre)
+    Giving.write-13 _ _ _ _ _ _ (at-wide .wide .ensures) (at-if1 .if1 .left) (at-if2 .if2 .left) _ (start .pre .1 .0) (start .pre .0)
     (at-if3 .if3 .left) (at-if4 .if4 .left) _
     (at-search .search .ensures) (c .enum-told .given .1)
 
@@ -68,7 +76,10 @@ wide-requires-2 : tie.Need-wide-requires-2
 wide-requires-2 c κs = search needs
 
 sub-unused : tie.Need-sub-unused
-sub-unused c = omega (arith, Looking.used-le (c .before .before .before .before .before .before .before .before .before .before .before .before .before .before .before .before .pre))
+sub-unused c =
+    let at-if3 = c .before .before .before .before .before .before .before .before .before in
+    let start = at-if3 .before .before .before .before .before .before in
+    omega (arith, Looking.used-le (start .pre .0))
 
 returns-6 : tie.Need-returns-6
 returns-6 c =
@@ -77,12 +88,11 @@ returns-6 c =
     let at-search = at-spot .before .before in
     let at-if4 = at-search .before in
     let at-if3 = at-if4 .before .before in
-    let at-slot-of = at-if3 .before in
-    let at-if2 = at-slot-of .before in
+    let at-if2 = at-if3 .before in
     let at-if1 = at-if2 .before in
     let at-wide = at-if1 .before .before in
     let start = at-wide .before .before in
-    Giving.write-accepts _ _ _ _ _ _ (at-wide .wide .ensures) (at-if1 .if1 .left) (at-if2 .if2 .left) _ (at-slot-of .slot-of .ensures .0) (start .pre)
+    Giving.write-accepts _ _ _ _ _ _ (at-wide .wide .ensures) (at-if1 .if1 .left) (at-if2 .if2 .left) _ (start .pre .1 .0) (start .pre .0)
     (at-if3 .if3 .left) (at-if4 .if4 .left) _ (at-search .search .ensures) _ _ _ (at-spot .spot .given .1) _ _ _
     (at-wide2 .wide2 .ensures) refl refl (Erasing.two-enough _ _ _ _ (c .if5 .taken))
 
@@ -92,11 +102,13 @@ wide-requires-3 c κs = search needs
 frees-on-requires : tie.Need-frees-on-requires
 frees-on-requires c κs =
     let at-if3 = c .before .before .before .before .before .before .before .before .before .before .before in
-    let at-slot-of = at-if3 .before in
-    let at-if1 = at-slot-of .before .before in
+    let at-if1 = at-if3 .before .before in
     let at-wide = at-if1 .before .before in
     let start = at-wide .before .before in
-    (start .pre, omega (arith, at-slot-of .slot-of .ensures .1, at-if3 .if3 .left), Looking.named-live (start .pre) _ _ (at-slot-of .slot-of .ensures .0) (at-if3 .if3 .left), omega (arith, c .wide3 .ensures, at-wide .wide .ensures, at-if1 .if1 .left))
+    let R = start .pre .0 in
+    let k = start .pre .1 in
+    let i = at-if3 .if3 .left in
+    (R, omega (arith, k .1, i), Looking.named-live R _ _ (k .0) i, omega (arith, c .wide3 .ensures, at-wide .wide .ensures, at-if1 .if1 .left))
 
 add-if6 : tie.Need-add-if6
 add-if6 c = omega (arith, Erasing.few-freed _ _ _ _ (c .frees-on .ensures))
@@ -109,12 +121,11 @@ returns-7 c =
     let at-search = at-spot .before .before in
     let at-if4 = at-search .before in
     let at-if3 = at-if4 .before .before in
-    let at-slot-of = at-if3 .before in
-    let at-if2 = at-slot-of .before in
+    let at-if2 = at-if3 .before in
     let at-if1 = at-if2 .before in
     let at-wide = at-if1 .before .before in
     let start = at-wide .before .before in
-    Giving.write-14 _ _ _ _ _ _ (at-wide .wide .ensures) (at-if1 .if1 .left) (at-if2 .if2 .left) _ (at-slot-of .slot-of .ensures .0) (start .pre)
+    Giving.write-14 _ _ _ _ _ _ (at-wide .wide .ensures) (at-if1 .if1 .left) (at-if2 .if2 .left) _ (start .pre .1 .0) (start .pre .0)
     (at-if3 .if3 .left) (at-if4 .if4 .left) _ (at-search .search .ensures) _ _ _ (at-spot .spot .given .1) _ _ _
     (at-wide2 .wide2 .ensures) (at-wide3 .wide3 .ensures) (c .before .frees-on .ensures) (c .if6 .taken)
 
@@ -126,12 +137,11 @@ returns-8 c =
     let at-search = at-spot .before .before in
     let at-if4 = at-search .before in
     let at-if3 = at-if4 .before .before in
-    let at-slot-of = at-if3 .before in
-    let at-if2 = at-slot-of .before in
+    let at-if2 = at-if3 .before in
     let at-if1 = at-if2 .before in
     let at-wide = at-if1 .before .before in
     let start = at-wide .before .before in
-    Giving.write-accepts _ _ _ _ _ _ (at-wide .wide .ensures) (at-if1 .if1 .left) (at-if2 .if2 .left) _ (at-slot-of .slot-of .ensures .0) (start .pre)
+    Giving.write-accepts _ _ _ _ _ _ (at-wide .wide .ensures) (at-if1 .if1 .left) (at-if2 .if2 .left) _ (start .pre .1 .0) (start .pre .0)
     (at-if3 .if3 .left) (at-if4 .if4 .left) _ (at-search .search .ensures) _ _ _ (at-spot .spot .given .1) _ _ _
     (at-wide2 .wide2 .ensures) (at-wide3 .wide3 .ensures) (c .before .frees-on .ensures) (c .if6 .left)
 
@@ -142,7 +152,6 @@ write-verdict-spec =
     wide-requires
     returns
     returns-2
-    slot-of-requires
     returns-3
     sub-s
     add-if4

@@ -3,6 +3,7 @@ use Rattle.geometry.specs.declared.Geometry.{Geometry}
 use Rattle.geometry.specs.Limits.{geometryOf}
 use Rattle.log.proofs.Tools.{MadeOf, made-of, outside}
 use Rattle.model.specs.Memory.{lent}
+use Rattle.engine.proofs.Untouched.{found-link}
 use Rattle.store.proofs.Admitted.{call-2, call-3, call-4, call-done, sound-requires, perform-requires-of}
 use borrow.Author.Needs.{needs}
 use native.Mathlib.Omega.{arith}
@@ -73,12 +74,37 @@ returns-3 c =
     let M = lent (a .tables .now) (a .log .now) (a .out .now) in
     call-4 M (a .c) (is-made m) (c .before .before .before .before .before .is-short .ensures) (c .before .before .before .before .if1 .left) (c .before .is-sound .ensures) (c .if2 .taken)
 
-perform-requires : tie.Need-perform-requires
-perform-requires c κs =
-    let m = c .before .before .before .before .before .before .before .before .before .before .before .before .before in
+record-of-requires : tie.Need-record-of-requires
+record-of-requires c κs = search needs
+
+slot-of-requires : tie.Need-slot-of-requires
+slot-of-requires c κs =
+    let at-if2 = c .before .before in
+    let at-is-sound = at-if2 .before in
+    let at-if1 = at-is-sound .before .before .before in
+    let at-is-short = at-if1 .before in
+    let m = at-is-short .before .before .before .before .before in
     let a = m .before .before .before .before .before .before .args in
     let M = lent (a .tables .now) (a .log .now) (a .out .now) in
-    perform-requires-of M (a .c) (is-made m) (c .before .before .before .before .before .before .before .before .is-short .ensures) (c .before .before .before .before .before .before .before .if1 .left) (c .before .before .before .before .is-sound .ensures) (c .before .before .before .if2 .left)
+    perform-requires-of M (a .c) (is-made m) (at-is-short .is-short .ensures) (at-if1 .if1 .left) (at-is-sound .is-sound .ensures) (at-if2 .if2 .left) .0
+
+perform-requires : tie.Need-perform-requires
+perform-requires c κs =
+    let at-slot-of = c .before .before .before .before in
+    let at-record-of = at-slot-of .before in
+    let at-if2 = at-record-of .before .before in
+    let at-is-sound = at-if2 .before in
+    let at-if1 = at-is-sound .before .before .before in
+    let at-is-short = at-if1 .before in
+    let m = at-is-short .before .before .before .before .before in
+    let a = m .before .before .before .before .before .before .args in
+    let M = lent (a .tables .now) (a .log .now) (a .out .now) in
+    let p = perform-requires-of M (a .c) (is-made m) (at-is-short .is-short .ensures) (at-if1 .if1 .left) (at-is-sound .is-sound .ensures) (at-if2 .if2 .left) in (
+      p .0,
+      p .1,
+      p .2,
+      found-link (m .made .given .0 .0) (a .tables .now) (a .c) (at-slot-of .slot-of .result) (at-record-of .record-of .ensures) (at-slot-of .slot-of .ensures),
+    )
 
 same-length-7 : tie.Need-same-length-7
 same-length-7 c = search needs
@@ -92,7 +118,7 @@ same-length-9 c = search needs
 returns-4 : tie.Need-returns-4
 returns-4 c =
     let at-perform = c .before .before .before .before .before .before in
-    let at-if2 = at-perform .before .before .before .before in
+    let at-if2 = at-perform .before .before .before .before .before .before .before .before in
     let at-is-sound = at-if2 .before in
     let at-if1 = at-is-sound .before .before .before in
     let at-is-short = at-if1 .before in
@@ -119,6 +145,8 @@ call-spec =
     same-length-5
     same-length-6
     returns-3
+    record-of-requires
+    slot-of-requires
     perform-requires
     same-length-7
     same-length-8
