@@ -1,25 +1,19 @@
 -- Laws of reading numbers: what the digits at a position are read as, and how large a number they make.
 use Prim.Native.Nat.{ℕ, zero, suc, _+_, _-_, _*_, _^_, _<_, _≤_}
 use mathlib.Core.Path.{_≡_, refl, sym, ap, _∙_}
-use mathlib.Core.Bool.{true, false, _&&_}
+use mathlib.Core.Bool.{true, false}
 use mathlib.Core.List.{List, [], _∷_, _++_}
 use mathlib.Core.Option.{none}
 use native.Mathlib.Numerals.{add-one}
 use native.Mathlib.Nat.{pow-le-pow-right, pow-succ'}
 use native.Mathlib.Omega.{arith}
 use borrow.Author.Tests.{le-leb, lt-leb, eq-eqb, ne-eqb}
-use lib.Dec.{eqb, leb}
-use Rattle.answer.proofs.Cases.{cases, same?, lt?}
+use Rattle.answer.proofs.Cases.{cases, same?}
 use lib.ListN.{length, getD, take, drop, set, drop-of-length-le}
 use lib.Seq.{drop-cons, take-suc-set}
 use Rattle.script.specs.declared.number.Number.{Number}
 use Rattle.script.specs.Parse.{isDigit, digitsFrom, firstDigit, numberFrom, numbersFrom}
-
-same-leb : (a b c d : ℕ) → (a ≤ b → c ≤ d) → (c ≤ d → a ≤ b) → leb a b ≡ leb c d
-same-leb a b c d f g =
-    cases (lt? b a)
-    (λ h. lt-leb a b h ∙ sym (cases (lt? d c) (λ k. lt-leb c d k) (λ k. absurd (let z = g k in omega arith))))
-    (λ h. le-leb a b h ∙ sym (le-leb c d (f h)))
+use Rattle.script.specs.Said.{behindFirst}
 
 pub digit-low : (b : ℕ) → b < 48 → isDigit b ≡ false
 digit-low b h = rw (lt-leb 48 b h)
@@ -96,30 +90,21 @@ module _ (l : List ℕ) (i : ℕ) where
   unfolding firstDigit
   first-more at h k d = rw (add-one i, drop-cons l i 0 h, ne-eqb (getD l i 0) 48 k, d)
 
-  -- a 0 with no digit behind it is a number of one digit like any other
-  pub first-few : (at : ℕ) → i + 1 < length l → isDigit (getD l i 0) ≡ true → (getD l i 0 ≡ 48 → isDigit (getD l (i + 1) 0) ≡ false)
-      → firstDigit (drop i l) at ≡ digitsFrom (drop (i + 1) l) (getD l i 0 - 48) 6 (at + 1)
-  first-few at h d z =
+  -- behind a first digit
+  pub first-behind : (at : ℕ) → i + 1 < length l → 48 ≤ getD l i 0 → getD l i 0 ≤ 57 →
+      firstDigit (drop i l) at ≡ behindFirst (drop (i + 1) l) (getD l i 0 - 48) (at + 1)
+  first-behind at h lo hi =
       cases (same? (getD l i 0) 48)
-      (λ e. first-zero at (omega arith) e ∙ sym (digits-other l (i + 1) 0 6 (at + 1) h (z e)) ∙ sym (ap (λ (b : ℕ). digitsFrom (drop (i + 1) l) (b - 48) 6 (at + 1)) e))
-      (λ n. first-more at (omega arith) n d)
+      (λ e. first-zero at (omega arith) e ∙ sym (rw (eq-eqb (getD l i 0 - 48) 0 (omega arith))))
+      (λ n. first-more at (omega arith) n (digit-yes (getD l i 0) lo hi) ∙ sym (rw (ne-eqb (getD l i 0 - 48) 0 (λ z. n (omega arith)))))
 
--- two bytes as one number: from `00` to `09`
-pub zero-led : (b c : ℕ) → c < 256 → (leb 12336 (b * 256 + c) && leb (b * 256 + c) 12345) ≡ (eqb b 48 && isDigit c)
-zero-led b c h =
-    cases (same? b 48)
-    (λ e.
-    let u : leb 12336 (b * 256 + c) ≡ leb 48 c = same-leb 12336 (b * 256 + c) 48 c (λ k. omega arith) (λ k. omega arith) in
-    let v : leb (b * 256 + c) 12345 ≡ leb c 57 = same-leb (b * 256 + c) 12345 c 57 (λ k. omega arith) (λ k. omega arith) in
-    rw (u, v, eq-eqb b 48 e))
-    (λ n.
-    cases (lt? b 48)
-    (λ l. rw (lt-leb 12336 (b * 256 + c) (omega arith), ne-eqb b 48 n))
-    (λ k. rw (le-leb 12336 (b * 256 + c) (omega arith), lt-leb (b * 256 + c) 12345 (omega arith), ne-eqb b 48 n)))
-
--- no digit is behind a 0 that leads none
-pub no-digit : (b c : ℕ) → (eqb b 48 && isDigit c) ≡ false → b ≡ 48 → isDigit c ≡ false
-no-digit b c k e = rw (eq-eqb b 48 e) at k
+-- what is read up to i, where a 0 leads nothing
+pub read-behind : (l : List ℕ) (first from v i : ℕ) → (first ≡ 0 → (i ≡ from) × (v ≡ 0)) → Number.Read v i ≡ digitsFrom l first 6 from →
+    Number.Read v i ≡ behindFirst l first from
+read-behind l first from v i h e =
+    cases (same? first 0)
+    (λ z. let w = h z in rw (eq-eqb first 0 z, w .0, w .1))
+    (λ n. rw (ne-eqb first 0 n) e)
 
 -- one number more, or none
 module _ (l : List ℕ) (at r n : ℕ) (bs : List ℕ) (e : r ≡ suc n) where

@@ -2,6 +2,8 @@
 use Prim.Native.Nat.{ℕ, _+_, _≤_}
 use mathlib.Core.List.{List}
 use mathlib.Core.Path.{_≡_}
+use mathlib.Core.Bool.{cond}
+use lib.Dec.{eqb}
 use lib.ListN.{drop}
 use lib.Seq.{slice}
 use Rattle.script.specs.declared.number.Number.{Number}
@@ -9,11 +11,15 @@ use Rattle.script.specs.declared.parse.Parsed.the-variants.{Asks}
 use Rattle.script.specs.declared.said.Said.{Said}
 use Rattle.script.specs.declared.said.Near.{Near}
 use Rattle.script.specs.Lines.{run}
-use Rattle.script.specs.Parse.{parsed}
+use Rattle.script.specs.Parse.{digitsFrom, parsed}
 
 -- the line from a position to the first line feed, or the end: what it says, and the position behind it
 unfoldable pub saidAt : List ℕ → ℕ → Said
 saidAt text at = record { says = parsed (slice at (at + run (drop at text)) text); end = at + run (drop at text) }
+
+-- what is read behind a first digit: behind a 0 nothing more
+abbrev pub behindFirst : List ℕ → ℕ → ℕ → Number
+behindFirst l first at = cond (eqb first 0) (Number.Read 0 at) (digitsFrom l first 6 at)
 
 -- what was read in a short way is what is to be read, and ends by a position. That nothing was read so says nothing
 abbrev pub Agrees : Number → Number → ℕ → Type 0

@@ -1,11 +1,9 @@
 // What the line at a position says and where it ends, found together.
 ghost use mathlib.Core.Path.{_≡_};
 ghost use Prim.Native.Nat.{_+_, _≤_, _<_};
-ghost use mathlib.Core.Bool.{_&&_};
-ghost use lib.Dec.{eqb};
 ghost use lib.ListN.{length, getD, drop};
-ghost use Rattle.script.specs.Parse.{isDigit, countOf, digitsFrom, numberFrom};
-ghost use Rattle.script.specs.Said.{saidAt, Agrees, Tells};
+ghost use Rattle.script.specs.Parse.{countOf, numberFrom};
+ghost use Rattle.script.specs.Said.{saidAt, behindFirst, Agrees, Tells};
 use crate::number::Number;
 use crate::parse::Parsed;
 use crate::parse::call_of;
@@ -41,10 +39,11 @@ fn by_line(text: &[u8], at: usize) -> Said
     Said { says, end }
 }
 
-// A first digit's value and up to three digits more, where four bytes are left; none if all four are digits.
+// A first digit's value and up to three digits more, where four bytes are left; none if all four are digits, or if a 0 leads them. The value so far is
+// tested for 0, behind a digit, and not the first digit by itself: a branch on that goes the way of the numbers that a script has.
 fn few_digits(text: &[u8], from: usize, first: u32) -> Number
     requires { ⌜ (from + 4 ≤ length (now text)) × (first ≤ 9) ⌝ }
-    ensures { λ r. ⌜ Agrees r (digitsFrom (drop from (now (text .entry))) first 6 from) (from + 3) ⌝ }
+    ensures { λ r. ⌜ Agrees r (behindFirst (drop from (now (text .entry))) first from) (from + 3) ⌝ }
 {
     let mut value = first;
     let mut i = from;
@@ -55,19 +54,13 @@ fn few_digits(text: &[u8], from: usize, first: u32) -> Number
         if 57 < text[i] {
             return Number::Read(value, i);
         }
+        if value == 0 {
+            return Number::No;
+        }
         value = value * 10 + (text[i] as u32 - 48);
         i += 1;
     }
     Number::No
-}
-
-// A 0 with a digit behind it: from `00` to `09`. Both bytes are tested as one number, since a branch on the first alone
-// goes the way of the numbers that a script has.
-fn leads_zero(first: u8, next: u8) -> bool
-    ensures { λ r. ⌜ r ≡ (eqb first 48 && isDigit next) ⌝ }
-{
-    let two = first as u32 * 256 + next as u32;
-    (12336 <= two) & (two <= 12345)
 }
 
 // The number of at most four digits behind a space at a position, where six bytes are left; none for any other.
@@ -83,9 +76,6 @@ fn short_at(text: &[u8], at: usize) -> Number
         return Number::No;
     }
     if 57 < text[start] {
-        return Number::No;
-    }
-    if leads_zero(text[start], text[start + 1]) {
         return Number::No;
     }
     few_digits(text, start + 1, text[start] as u32 - 48)

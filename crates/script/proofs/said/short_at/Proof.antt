@@ -4,8 +4,9 @@ use borrow.Author.Needs.{needs}
 use mathlib.Core.Path.{sym, _∙_}
 use Prim.Native.Nat.{_+_, _-_}
 use lib.ListN.{getD, drop}
-use Rattle.script.specs.Parse.{digitsFrom, numberFrom}
-use Rattle.script.proofs.Reading.{digit-yes, number-first, first-few, no-digit}
+use Rattle.script.specs.Parse.{numberFrom}
+use Rattle.script.specs.Said.{behindFirst}
+use Rattle.script.proofs.Reading.{number-first, first-behind}
 use Rattle.script.proofs.OnePass.{agrees-move}
 use Rattle.script.proofs.said.short_at.Statement.{statement}
 use Rattle.script.proofs.said.short_at.Tie as tie
@@ -31,21 +32,6 @@ shared-slice-read-if3 c = search needs
 returns-3 : tie.Need-returns-3
 returns-3 c = tt
 
-shared-slice-read-leads-zero : tie.Need-shared-slice-read-leads-zero
-shared-slice-read-leads-zero c = search needs
-
-add-leads-zero : tie.Need-add-leads-zero
-add-leads-zero c = search needs
-
-shared-slice-read-leads-zero-2 : tie.Need-shared-slice-read-leads-zero-2
-shared-slice-read-leads-zero-2 c = search needs
-
-leads-zero-requires : tie.Need-leads-zero-requires
-leads-zero-requires c κs = search needs
-
-returns-4 : tie.Need-returns-4
-returns-4 c = tt
-
 add-few-digits : tie.Need-add-few-digits
 add-few-digits c = search needs
 
@@ -61,15 +47,14 @@ sub-few-digits c = search needs
 few-digits-requires : tie.Need-few-digits-requires
 few-digits-requires c κs = search needs
 
-returns-5 : tie.Need-returns-5
-returns-5 c = let a = c .before .before .before .before .before .before .before .before .before .before .before .before .before .args in
+returns-4 : tie.Need-returns-4
+returns-4 c = let a = c .before .before .before .before .before .before .before .before .before .args in
     let xs = a .text .now in
     let i = a .at + 1 in
-    let digit = digit-yes (getD xs i 0) (c .before .before .before .before .before .before .before .before .if2 .left) (c .before .before .before .before .before .before .if3 .left) in
-    let zero = sym (c .before .before .before .leads-zero .ensures) ∙ c .before .before .if4 .left in
-    let few = first-few xs i i (omega arith) digit (no-digit (getD xs i 0) (getD xs (i + 1) 0) zero) in
-    agrees-move (c .few-digits .result) (digitsFrom (drop (i + 1) xs) (getD xs i 0 - 48) 6 (i + 1)) (numberFrom (drop (a .at) xs) (a .at)) (i + 1 + 3) (a .at + 5)
-    (sym (number-first xs (a .at) (a .at) (omega arith) (c .before .before .before .before .before .before .before .before .before .before .if1 .left) ∙ few))
+    let lo = c .before .before .before .before .if2 .left in
+    let hi = c .before .before .if3 .left in
+    agrees-move (c .few-digits .result) (behindFirst (drop (i + 1) xs) (getD xs i 0 - 48) (i + 1)) (numberFrom (drop (a .at) xs) (a .at)) (i + 1 + 3) (a .at + 5)
+    (sym (number-first xs (a .at) (a .at) (omega arith) (c .before .before .before .before .before .before .if1 .left) ∙ first-behind xs i i (omega arith) lo hi))
     (omega arith)
     (c .few-digits .ensures)
 
@@ -84,14 +69,9 @@ short-at-spec =
     returns-2
     shared-slice-read-if3
     returns-3
-    shared-slice-read-leads-zero
-    add-leads-zero
-    shared-slice-read-leads-zero-2
-    leads-zero-requires
-    returns-4
     add-few-digits
     shared-slice-read-few-digits
     cast-few-digits
     sub-few-digits
     few-digits-requires
-    returns-5)
+    returns-4)
