@@ -1,5 +1,6 @@
 // What the benchmarks call: a script served into a lent buffer by the function that the runner runs. Nothing is promised here beyond safety: the
-// promises are those of `serving`. No other call stands beside it: a second caller of the engine would change what the compiler does inline.
+// promises are those of `serving`. No other call stands beside it: a second caller of the engine would change what the compiler does inline. As in the
+// runner, all memory of the store is local, and nobody reads the log: the compiler leaves out the writing of its bytes.
 use serving::serve_part;
 use session::start;
 

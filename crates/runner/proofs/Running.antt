@@ -1,8 +1,10 @@
 -- What the loop over reads keeps: the lengths of the runner's arrays, how much was read, and what a session keeps.
-use mathlib.Core.Path.{_≡_}
+use mathlib.Core.Path.{_≡_, refl, sym}
+use mathlib.Core.Bool.{Bool, true, false, not, cond, _||_, true≢false}
 use mathlib.Core.List.{List}
-use Prim.Native.Nat.{ℕ, _≤_}
+use Prim.Native.Nat.{ℕ, zero, suc, _+_, _-_, _≤_, _<_}
 use native.Mathlib.Omega.{arith}
+use lib.Dec.{eqb}
 use lib.ListN.{length, take, replicate, length-replicate}
 use lib.Seq.{length-take-le}
 use Rattle.session.specs.declared.Session.{Session}
@@ -43,3 +45,15 @@ running s e =
         sound = λ m. absurd (let z : ⊥ = omega arith in z);
       };
     }
+
+-- a script that is not whole got at least a byte
+pub some-more : (more : ℕ) (b : Bool) → (eqb more 0 || b) ≡ false → 0 < more
+some-more zero b e = absurd (true≢false e)
+some-more (suc k) b e = omega arith
+
+-- so each read that finds the script not whole brings its end nearer
+pub turn-less : (whole old : Bool) (n more : ℕ) → not old ≡ true → (whole ≡ false → 0 < more) → n + more ≤ 65536 →
+    cond whole 0 1 + (65536 - (n + more)) < cond old 0 1 + (65536 - n)
+turn-less true false n more e h l = omega arith
+turn-less false false n more e h l = omega (arith, h refl)
+turn-less w true n more e h l = absurd (true≢false (sym e))

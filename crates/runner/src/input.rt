@@ -1,6 +1,7 @@
 // Reading the script as it comes.
 ghost use mathlib.Core.Path.{_≡_};
-ghost use Prim.Native.Nat.{_+_, _≤_};
+ghost use mathlib.Core.Bool.{false};
+ghost use Prim.Native.Nat.{_+_, _≤_, _<_};
 ghost use lib.ListN.{length};
 use crate::sentence::say;
 use libc::EAGAIN;
@@ -74,8 +75,15 @@ pub fn read_more(fd: i32, text: &mut [u8], from: usize) -> Input
     given_up()
 }
 
+// Whether a script is whole, with all its bytes and so many more at last: at its end, or once it has as many bytes as are read.
+pub fn is_whole(more: usize, all: usize) -> bool
+    ensures { λ r. ⌜ (r ≡ false → 0 < more) ⌝ }
+{
+    (more == 0) | (all == 65536)
+}
+
 // Where the last whole line of `text` ends, of which the bytes from `from` on are new; 0 where no line ends among these.
-pub fn lines_end(text: &[u8], from: usize) -> usize
+fn lines_end(text: &[u8], from: usize) -> usize
     ensures { λ r. ⌜ r ≤ length (now (text .entry)) ⌝ }
 {
     let mut end = text.len();
@@ -86,4 +94,14 @@ pub fn lines_end(text: &[u8], from: usize) -> usize
         end -= 1;
     }
     0
+}
+
+// How far a text can be answered, of which the bytes from `from` on are new: to the end of its last whole line, or, once the script is whole, to its end.
+pub fn part_end(text: &[u8], from: usize, whole: bool) -> usize
+    ensures { λ r. ⌜ r ≤ length (now (text .entry)) ⌝ }
+{
+    if whole {
+        return text.len();
+    }
+    lines_end(text, from)
 }

@@ -6,7 +6,8 @@ mod sentence;
 ghost use Prim.Native.Nat.{_+_, _≤_};
 ghost use lib.ListN.{length};
 ghost use Rattle.session.specs.Step.{Kept};
-use input::lines_end;
+use input::is_whole;
+use input::part_end;
 use input::read_more;
 use libc::STDIN_FILENO;
 use libc::STDOUT_FILENO;
@@ -57,6 +58,8 @@ fn answer(
     }
 }
 
+// Lines are answered as they come; what is left without a line feed once the script is whole: at its end, or at 65,536 bytes. `answer` is called in one
+// place alone, so that it is compiled into `main`, where it is known that the five arrays are apart.
 fn main() {
     let mut t = [0u32; 43008];
     let mut log = [0u8; 65536];
@@ -68,18 +71,17 @@ fn main() {
     let mut to = STDOUT_FILENO;
     let mut n: usize = 0;
     let mut at: usize = 0;
-    while n < 65536 {
+    let mut whole = false;
+    while !whole {
         let input = read_more(from, &mut text, n);
         from = input.fd;
         if from < 0 {
             return;
         }
         let more = input.more;
-        if more == 0 {
-            break;
-        }
         let all = n + more;
-        let end = lines_end(&text[..all], n);
+        whole = is_whole(more, all);
+        let end = part_end(&text[..all], n, whole);
         n = all;
         let answered = answer(
             to,
@@ -98,14 +100,4 @@ fn main() {
             return;
         }
     }
-    answer(
-        to,
-        &text[..n],
-        at,
-        session,
-        &mut t,
-        &mut log,
-        &mut out,
-        &mut replies,
-    );
 }

@@ -1,20 +1,19 @@
--- `main`: the session is kept from read to read, and each turn reads at least a byte.
-use mathlib.Core.Path.{sym, _∙_, ap}
-use Prim.Native.Nat.{_-_, _≤_}
-use lib.ListN.{length}
+-- `main`: the session is kept from read to read, and each turn reads at least a byte or is the last.
+use mathlib.Core.Path.{sym, _∙_}
+use mathlib.Core.Bool.{cond}
+use Prim.Native.Nat.{_+_, _-_}
 use lib.Seq.{length-take-le}
-use Rattle.runner.proofs.Running.{Running, running, within}
-use Rattle.answer.proofs.Cases.{cases}
+use Rattle.runner.proofs.Running.{Running, running, within, turn-less}
 use borrow.Author.Needs.{needs}
 use native.Mathlib.Omega.{arith}
 use Rattle.runner.proofs.main.Statement.{statement}
 use Rattle.runner.proofs.main.Tie as tie
 
 abbrev Inv-loop : tie.InvT-loop
-Inv-loop t₀ log₀ out₀ replies₀ text₀ session₀ from₀ to₀ n₀ at₀ t log out replies text session from to n at = Running session t log out replies text n
+Inv-loop t₀ log₀ out₀ replies₀ text₀ session₀ from₀ to₀ n₀ at₀ whole₀ t log out replies text session from to n at whole = Running session t log out replies text n
 
 abbrev μ-loop : tie.MeasureT-loop
-μ-loop t₀ log₀ out₀ replies₀ text₀ session₀ from₀ to₀ n₀ at₀ t log out replies text session from to n at = 65536 - n
+μ-loop t₀ log₀ out₀ replies₀ text₀ session₀ from₀ to₀ n₀ at₀ whole₀ t log out replies text session from to n at whole = cond whole 0 1 + (65536 - n)
 
 start-requires : tie.Need-start-requires Inv-loop μ-loop
 start-requires c κs = search needs
@@ -34,17 +33,20 @@ returns c = search needs
 add-all : tie.Need-add-all Inv-loop μ-loop
 add-all c = search needs
 
+is-whole-requires : tie.Need-is-whole-requires Inv-loop μ-loop
+is-whole-requires c κs = search needs
+
 array-share-prefix-text : tie.Need-array-share-prefix-text Inv-loop μ-loop
 array-share-prefix-text c = search needs
 
-slice-aggregate-lines-end : tie.Need-slice-aggregate-lines-end Inv-loop μ-loop
-slice-aggregate-lines-end c = sym (length-take-le _ _ (array-share-prefix-text (c .before)))
+slice-aggregate-part-end : tie.Need-slice-aggregate-part-end Inv-loop μ-loop
+slice-aggregate-part-end c = sym (length-take-le _ _ (array-share-prefix-text (c .before)))
 
-lines-end-requires : tie.Need-lines-end-requires Inv-loop μ-loop
-lines-end-requires c κs = search needs
+part-end-requires : tie.Need-part-end-requires Inv-loop μ-loop
+part-end-requires c κs = search needs
 
 array-share-prefix-text-2 : tie.Need-array-share-prefix-text-2 Inv-loop μ-loop
-array-share-prefix-text-2 c = within _ _ _ (c .lines-end .ensures) (array-share-prefix-text (c .before .before))
+array-share-prefix-text-2 c = within _ _ _ (c .part-end .ensures) (array-share-prefix-text (c .before .before))
 
 slice-aggregate-answer : tie.Need-slice-aggregate-answer Inv-loop μ-loop
 slice-aggregate-answer c = sym (length-take-le _ _ (array-share-prefix-text-2 (c .before)))
@@ -68,7 +70,11 @@ returns-2 : tie.Need-returns-2 Inv-loop μ-loop
 returns-2 c = search needs
 
 loop-less : tie.Need-loop-less Inv-loop μ-loop
-loop-less c = omega (arith, c .before .before .before .before .before .before .before .before .before .before .before .before .before .before .before .before .before .before .before .before .before .loop-test .taken, c .before .before .before .before .before .before .before .before .before .before .before .before .before .before .before .if2 .left)
+loop-less c =
+    let at-whole = c .before .before .before .before .before .before .before .before .before .before .before .before .before .before .before in
+    let at-read = at-whole .before .before .before .before in
+    let at-loop = at-read .before .before .before in
+    turn-less _ (at-loop .loop .whole) (at-loop .loop .n) _ (at-read .before .before .loop-test .taken) (at-whole .is-whole .ensures) (omega (arith, at-read .read-more .ensures, at-loop .loop .inv .script))
 
 loop-again : tie.Need-loop-again Inv-loop μ-loop
 loop-again c =
@@ -85,31 +91,6 @@ loop-again c =
       kept = a .ensures;
     }
 
-array-share-prefix-text-3 : tie.Need-array-share-prefix-text-3 Inv-loop μ-loop
-array-share-prefix-text-3 c =
-    let r = c .before .loop .inv in
-    cases {C = c .before .loop .n ≤ length (c .loop-test .text)} (c .loop-test .came)
-    (λ w. omega (arith, r .read, r .script, ap length (w .1)))
-    (λ w. omega (arith, r .read, r .script, ap length (w .7), w .2 .kept .1 .0))
-
-slice-aggregate-answer-6 : tie.Need-slice-aggregate-answer-6 Inv-loop μ-loop
-slice-aggregate-answer-6 c = sym (length-take-le _ _ (array-share-prefix-text-3 (c .before)))
-
-slice-aggregate-answer-7 : tie.Need-slice-aggregate-answer-7 Inv-loop μ-loop
-slice-aggregate-answer-7 c = search needs
-
-slice-aggregate-answer-8 : tie.Need-slice-aggregate-answer-8 Inv-loop μ-loop
-slice-aggregate-answer-8 c = search needs
-
-slice-aggregate-answer-9 : tie.Need-slice-aggregate-answer-9 Inv-loop μ-loop
-slice-aggregate-answer-9 c = search needs
-
-slice-aggregate-answer-10 : tie.Need-slice-aggregate-answer-10 Inv-loop μ-loop
-slice-aggregate-answer-10 c = search needs
-
-answer-requires-2 : tie.Need-answer-requires-2 Inv-loop μ-loop
-answer-requires-2 c κs = search needs
-
 returns-3 : tie.Need-returns-3 Inv-loop μ-loop
 returns-3 c = search needs
 
@@ -125,9 +106,10 @@ main-spec =
     read-more-requires
     returns
     add-all
+    is-whole-requires
     array-share-prefix-text
-    slice-aggregate-lines-end
-    lines-end-requires
+    slice-aggregate-part-end
+    part-end-requires
     array-share-prefix-text-2
     slice-aggregate-answer
     slice-aggregate-answer-2
@@ -138,11 +120,4 @@ main-spec =
     returns-2
     loop-less
     loop-again
-    array-share-prefix-text-3
-    slice-aggregate-answer-6
-    slice-aggregate-answer-7
-    slice-aggregate-answer-8
-    slice-aggregate-answer-9
-    slice-aggregate-answer-10
-    answer-requires-2
     returns-3)
