@@ -1,5 +1,5 @@
 //! How calls grow, on the runner's path: what a script costs more with the calls than without them.
-use crate::both::{Both, Times};
+use crate::both::{Both, Times, Way};
 use crate::plot;
 use std::fmt::Write;
 use std::process::exit;
@@ -96,7 +96,7 @@ fn points<const N: usize>(both: &mut Both, scripts: [Scripts; N]) -> Vec<Point> 
             exit(1);
         }
     }
-    let times = both.time(&texts, ROUNDS);
+    let times = both.time(&texts, [Way::Proved, Way::Unproved], ROUNDS);
     let of_each = times.chunks(texts.len() / N);
     scripts.iter().zip(of_each).map(|(s, t)| s.point(t)).collect()
 }

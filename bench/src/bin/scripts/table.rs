@@ -1,31 +1,26 @@
-//! Scripts of every kind: the replies are compared, then both are timed.
-use crate::both::{Both, Times};
-use crate::kinds::{kinds, Kind};
-use std::process::exit;
+//! The table of the scripts of every kind.
+use crate::both::Times;
+use crate::kinds::kinds;
+use crate::processes::{least, Timed};
 
-const ROUNDS: usize = 100;
 const MOST: f64 = 1.3;
 const USUAL: f64 = 1.1;
+const HEAD: &str = "| scripts | how many | lines | proved / unproved | lent / unproved | proved, ns a line | lent, ns a line | unproved, ns a line |
+|---|---|---|---|---|---|---|---|";
 
-fn lines(both: &mut Both, kind: &Kind) -> usize {
-    let mut count = 0;
-    for (i, text) in kind.scripts.iter().enumerate() {
-        let Some(replies) = both.replies(text) else {
-            eprintln!("{}, script {}: the replies differ", kind.name, i + 1);
-            exit(1);
-        };
-        count += replies.iter().filter(|&&b| b == b'\n').count();
-    }
-    count
+fn sum(scripts: &[Timed]) -> Timed {
+    let times = scripts.iter().fold(Times::default(), |sum, s| sum.plus(s.times));
+    Timed { lines: scripts.iter().map(|s| s.lines).sum(), times }
 }
 
-fn sum(times: &[Times]) -> Times {
-    times.iter().fold(Times::default(), |sum, &t| sum.plus(t))
-}
-
-fn row(name: &str, count: usize, lines: usize, total: Times) {
+/// Prints the row of some scripts; their ratio as it is printed, in hundredths.
+fn row(name: &str, scripts: &[Timed]) -> f64 {
+    let Timed { lines, times: total } = sum(scripts);
     let each = total.each(lines);
-    println!("| {name} | {count} | {lines} | {:.2} | {:.1} | {:.1} |", total.ratio(), each.proved, each.unproved);
+    let ratios = [total.ratio(), total.lent_ratio()].map(|r| format!("{r:.2}")).join(" | ");
+    let times = [each.proved, each.lent, each.unproved].map(|t| format!("{t:.1}")).join(" | ");
+    println!("| {name} | {} | {lines} | {ratios} | {times} |", scripts.len());
+    (100.0 * total.ratio()).round() / 100.0
 }
 
 /// How many ratios are within the two targets, and those beyond the first.
@@ -36,20 +31,17 @@ fn verdict(ratios: &[(&str, f64)]) -> String {
     format!("In this run {} of {} kinds are at most {MOST:.1}, {} at most {USUAL:.1}.{above}", within(MOST), ratios.len(), within(USUAL))
 }
 
-pub fn report(both: &mut Both) {
+pub fn report() {
     let kinds = kinds();
-    let counts: Vec<usize> = kinds.iter().map(|k| lines(both, k)).collect();
-    let texts: Vec<&[u8]> = kinds.iter().flat_map(|k| k.scripts.iter().map(|t| t.as_slice())).collect();
-    let times = both.time(&texts, ROUNDS);
-    println!("| scripts | how many | lines | proved / unproved | proved, ns a line | unproved, ns a line |\n|---|---|---|---|---|---|");
+    let scripts = least(kinds.iter().map(|k| k.scripts.len()).sum());
+    println!("{HEAD}");
     let mut ratios = Vec::new();
-    let mut at = 0;
-    for (kind, &n) in kinds.iter().zip(&counts) {
-        let total = sum(&times[at..at + kind.scripts.len()]);
-        at += kind.scripts.len();
-        row(kind.name, kind.scripts.len(), n, total);
-        ratios.push((kind.name, total.ratio()));
+    let mut rest = &scripts[..];
+    for kind in &kinds {
+        let (first, behind) = rest.split_at(kind.scripts.len());
+        ratios.push((kind.name, row(kind.name, first)));
+        rest = behind;
     }
-    row("all", texts.len(), counts.iter().sum(), sum(&times));
+    row("all", &scripts);
     println!("\n{}", verdict(&ratios));
 }
