@@ -75,7 +75,7 @@ pub fn read_more(fd: i32, text: &mut [u8], from: usize) -> Input
     given_up()
 }
 
-// Whether a script is whole, with all its bytes and so many more at last: at its end, or once it has as many bytes as are read.
+// Whether a script of `all` bytes so far, `more` of them from the last read, is whole: at the end of the input, or at 65,536 bytes.
 pub fn is_whole(more: usize, all: usize) -> bool
     ensures { λ r. ⌜ (r ≡ false → 0 < more) ⌝ }
 {
