@@ -39,9 +39,12 @@ same-length-3 c = search needs
 
 returns-2 : tie.Need-returns-2
 returns-2 c =
-    let s = c .before .before .before .before .before .before .before .before .before .before .before .before .before in
-    let o = c .before .before .before .before .begin-at .ensures in
-    Answers.begin-left (s .pre .0) _ _ _ (o .1) (s .pre .1) _ _ _ (c .before .before .before .before .before .before .before .before .before .room .ensures) (c .before .before .before .before .before .before .before .verdict2 .given .1) (o .0)
+    let at-begin = c .before .before .before .before in
+    let at-verdict = at-begin .before .before .before in
+    let at-room = at-verdict .before .before in
+    let s = at-room .before .before .before .before in
+    let o = at-begin .begin-at .ensures in
+    Answers.begin-left (s .pre .0) _ _ _ (o .1) (s .pre .1) _ _ _ (at-room .room .ensures) (at-verdict .verdict2 .given .1) (o .0)
 
 pub begin-spec : {M : Type 1} → statement M
 begin-spec =

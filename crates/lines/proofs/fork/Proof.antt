@@ -39,9 +39,12 @@ same-length-3 c = search needs
 
 returns-2 : tie.Need-returns-2
 returns-2 c =
-    let s = c .before .before .before .before .before .before .before .before .before .before .before .before .before in
-    let o = c .before .before .before .before .fork-at .ensures in
-    Answers.fork-left (s .pre .0) _ _ _ (o .1) (s .pre .1) _ _ _ _ (c .before .before .before .before .before .before .before .before .before .forking .ensures) (c .before .before .before .before .before .before .before .verdict2 .given .1) (o .0)
+    let at-fork = c .before .before .before .before in
+    let at-verdict = at-fork .before .before .before in
+    let at-forking = at-verdict .before .before in
+    let s = at-forking .before .before .before .before in
+    let o = at-fork .fork-at .ensures in
+    Answers.fork-left (s .pre .0) _ _ _ (o .1) (s .pre .1) _ _ _ _ (at-forking .forking .ensures) (at-verdict .verdict2 .given .1) (o .0)
 
 pub fork-spec : {M : Type 1} → statement M
 fork-spec =

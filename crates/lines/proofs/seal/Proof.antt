@@ -39,9 +39,12 @@ same-length-3 c = search needs
 
 returns-2 : tie.Need-returns-2
 returns-2 c =
-    let s = c .before .before .before .before .before .before .before .before .before .before .before .before .before in
-    let o = c .before .before .before .before .seal-at .ensures in
-    Answers.seal-left (s .pre .0) _ _ _ (o .1) (s .pre .1) _ _ _ _ (c .before .before .before .before .before .before .before .before .before .sealing .ensures) (c .before .before .before .before .before .before .before .verdict2 .given .1) (o .0)
+    let at-seal = c .before .before .before .before in
+    let at-verdict = at-seal .before .before .before in
+    let at-sealing = at-verdict .before .before in
+    let s = at-sealing .before .before .before .before in
+    let o = at-seal .seal-at .ensures in
+    Answers.seal-left (s .pre .0) _ _ _ (o .1) (s .pre .1) _ _ _ _ (at-sealing .sealing .ensures) (at-verdict .verdict2 .given .1) (o .0)
 
 pub seal-spec : {M : Type 1} → statement M
 seal-spec =

@@ -74,7 +74,8 @@ loop-less c =
     let at-whole = c .before .before .before .before .before .before .before .before .before .before .before .before .before .before .before in
     let at-read = at-whole .before .before .before .before in
     let at-loop = at-read .before .before .before in
-    turn-less _ (at-loop .loop .whole) (at-loop .loop .n) _ (at-read .before .before .loop-test .taken) (at-whole .is-whole .ensures) (omega (arith, at-read .read-more .ensures, at-loop .loop .inv .script))
+    turn-less _ (at-loop .loop .whole) (at-loop .loop .n) _ (at-read .before .before .loop-test .taken) (at-whole .is-whole .ensures)
+    (omega (arith, at-read .read-more .ensures, at-loop .loop .inv .script))
 
 loop-again : tie.Need-loop-again Inv-loop μ-loop
 loop-again c =

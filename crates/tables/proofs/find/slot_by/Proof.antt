@@ -30,7 +30,10 @@ add-result : tie.Need-add-result
 add-result c = search needs
 
 returns-2 : tie.Need-returns-2
-returns-2 c = Seeks.own-found _ _ (c .before .before .before .before .before .before .before .before .before .pre) _ _ (c .before .before .before .before .before .before .before .if1 .left) (c .before .before .if2 .taken) (c .if3 .taken)
+returns-2 c =
+    let at-if2 = c .before .before in
+    let at-if1 = at-if2 .before .before .before .before .before in
+    Seeks.own-found _ _ (at-if1 .before .before .pre) _ _ (at-if1 .if1 .left) (at-if2 .if2 .taken) (c .if3 .taken)
 
 slot-among-requires : tie.Need-slot-among-requires
 slot-among-requires c κs = search needs
