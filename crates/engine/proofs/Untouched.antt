@@ -46,13 +46,13 @@ abbrev pub Performed : Answer → List ℕ → List ℕ → List ℕ → Geometr
 Performed r t′ log′ out′ g t log out c =
     (replyOf r out′ ≡ replied g t c) × ((t′ ≡ tablesLeft g t c) × ((log′ ≡ logLeft g t log c) × (out′ ≡ outLeft g t out c)))
 
--- the record of the call that the code has taken apart
-pub its-link : (g : Geometry) (t : List ℕ) {c d : Call} → c ≡ d → (link : ℕ) → LinkOf g t (recordOf c) link → LinkOf g t (recordOf d) link
-its-link g t e link = subst (λ d. LinkOf g t (recordOf d) link) e
-
--- and as it was found, by the number that `record_of` gave
+-- the link of a call's record, found by the number that `record_of` gave
 pub found-link : (g : Geometry) (t : List ℕ) (c : Call) (link : ℕ) {n : ℕ} → n ≡ recordOf c → LinkOf g t n link → LinkOf g t (recordOf c) link
 found-link g t c link e = subst (λ n. LinkOf g t n link) e
+
+-- and of the call that the code has taken apart
+pub its-link : (g : Geometry) (t : List ℕ) {c d : Call} → c ≡ d → (link : ℕ) → LinkOf g t (recordOf c) link → LinkOf g t (recordOf d) link
+its-link g t {d = d} e link = found-link g t d link (ap recordOf e)
 
 -- of the call that the code has taken apart
 pub of-call : (g : Geometry) (t log out : List ℕ) {c d : Call} → c ≡ d → (r : Answer) (t′ log′ out′ : List ℕ) →

@@ -1,22 +1,9 @@
 //! The proved library as a host has it serve a script (include/sogvect.h): all memory is lent, and each part checks what it is lent.
-extern "C" {
-    fn sogvect_script(
-        text: *const u8,
-        text_len: usize,
-        at: *mut usize,
-        run: *mut u32,
-        run_len: usize,
-        tables: *mut u32,
-        tables_len: usize,
-        log: *mut u8,
-        log_len: usize,
-        out: *mut u32,
-        out_len: usize,
-        replies: *mut u8,
-        replies_len: usize,
-        count: *mut usize,
-    ) -> u32;
-}
+#[allow(dead_code)]
+#[path = "../../../../bindings/rust/src/raw.rs"]
+mod raw;
+
+use raw::sogvect_script;
 
 /// The bytes lent for the replies of a part, as in the header's example.
 const PART: usize = 65_536;

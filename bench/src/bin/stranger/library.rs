@@ -1,39 +1,10 @@
 //! The proved library as a stranger calls it (include/sogvect.h): every call checks all that is lent.
+#[allow(dead_code)]
+#[path = "../../../../bindings/rust/src/raw.rs"]
+mod raw;
+
 use bench::store::Call;
-
-/// The numbers, the tables, the log, the result buffer, then the call's own.
-macro_rules! calls {
-    ($($name:ident($($n:ident),*);)*) => {
-        extern "C" {
-            $(fn $name(
-                arenas: usize, per: usize, pages: usize, records: usize, turn: usize, words: usize,
-                tables: *mut u32, tables_len: usize, log: *mut u8, log_len: usize, out: *mut u32, out_len: usize,
-                $($n: u32,)* count: *mut usize,
-            ) -> u32;)*
-        }
-    };
-}
-
-calls! {
-    sogvect_begin();
-    sogvect_write(n, page, kind);
-    sogvect_erase(n, page);
-    sogvect_seal(n);
-    sogvect_fork(n);
-    sogvect_delete(n);
-    sogvect_read(n, page);
-    sogvect_barrier();
-    sogvect_compress();
-    sogvect_free_list();
-    sogvect_estimate(n);
-}
-
-extern "C" {
-    fn sogvect_make(
-        arenas: usize, per: usize, pages: usize, records: usize, turn: usize, words: usize,
-        tables: *mut u32, tables_len: usize, log: *const u8, log_len: usize, out: *const u32, out_len: usize,
-    ) -> u32;
-}
+use raw::*;
 
 /// A store in memory of its own, of just the lengths that its numbers need.
 pub struct Lent {
