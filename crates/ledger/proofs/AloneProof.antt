@@ -20,7 +20,7 @@ use Rattle.model.specs.History.{Entry, eventsOf, events, firstGiven, entryOf, t
 use Rattle.model.specs.HistoryFacts.{HistoryFacts, givenIn, freedIn, different, Sealed, Names, LastGave}
 use Rattle.model.specs.Model.{Screened, screenedConditions, answer, modelAfter, model}
 use Rattle.model.specs.declared.Call.{Call}
-use Rattle.model.specs.declared.Call.the-variants.{Begin, Write, Erase, Seal, Fork, Delete, Read, Barrier, Compress, FreeList, Estimate}
+use Rattle.model.specs.declared.Call.the-variants.{Write}
 use Rattle.model.proofs.Fine.{Fine}
 use Rattle.model.proofs.StepFacts.{fresh-fine}
 use Rattle.model.proofs.WholeList.{WholeList, each-list}
@@ -36,22 +36,6 @@ use Rattle.ledger.proofs.ToldProof.{plain, plain-told, noted-step, afte
 
 -- ── the book inside the ledger is the book ──
 
--- the book is told the block that a W gave, and reads it for no other call
-told-block : (g : Geometry) (L : Ledger) (B : Book) (c : Call) →
-    accept (g .pages) B c (blockGiven (account g L c .result)) ≡ accept (g .pages) B c (firstGiven (eventsOf c (accepted (numbersOf (account g L c .result)))))
-unfolding account blockGiven numbersOf blocksIn
-told-block g L B Begin = refl
-told-block g L B (Write r x k) = refl
-told-block g L B (Erase r x) = refl
-told-block g L B (Seal r) = refl
-told-block g L B (Fork r) = refl
-told-block g L B (Delete r) = refl
-told-block g L B (Read r x) = refl
-told-block g L B Barrier = refl
-told-block g L B Compress = refl
-told-block g L B FreeList = refl
-told-block g L B (Estimate r) = refl
-
 book-step : (g : Geometry) (L : Ledger) (c : Call) → step g L c .book ≡ enter (g .pages) (L .book) (told (entryOf (clerk g) L c))
 unfolding step enter keeps says
 book-step g L c = go (says g L c) refl
@@ -59,7 +43,7 @@ book-step g L c = go (says g L c) refl
     go : (r : Reply) → says g L c ≡ r → leaves r L (keeps g L c) .book ≡ enter (g .pages) (L .book) (told (record { call = c; answer = r }))
     go (refused n) e = refl
     go (accepted l) e =
-        told-block g L (L .book) c ∙
+        Rattle.ledger.proofs.EachTold.told c .block g L (L .book) ∙
         ap (λ (m : List ℕ). accept (g .pages) (L .book) c (firstGiven (eventsOf c (accepted m)))) (decide-accepted (refusalsOf g L c) (numbersOf (account g L c .result)) l e .1)
 
 book-from : (g : Geometry) (l : List Call) (L : Ledger) → stateFrom (clerk g) L l .book ≡ bookFrom (g .pages) (L .book) (historyFrom (clerk g) L l)

@@ -1,6 +1,7 @@
 -- What a call leaves of the log and of the result buffer, told by the ledger.
 use mathlib.Core.Path.{_≡_, refl, sym, ap, ap₂, _∙_}
-use mathlib.Core.List.{List, _++_}
+use mathlib.Core.Bool.{cond}
+use mathlib.Core.List.{List, [], _++_}
 use Prim.Native.Nat.{ℕ, _*_, _≤_}
 use native.Mathlib.Nat.{zero-add}
 use native.Mathlib.Omega.{arith}
@@ -8,21 +9,23 @@ use lib.ListN.{length, drop}
 use lib.Seq.{sets, sets-eq}
 use Rattle.answer.specs.Reply.{Reply, accepted, refused}
 use Rattle.answer.specs.Refusal.{leaves}
+use Rattle.answer.proofs.Cases.{cases, either}
 use Rattle.geometry.specs.declared.Geometry.{Geometry}
 use Rattle.geometry.specs.Limits.{Inside}
 use Rattle.log.specs.Word.{bytesOf, writeAt}
 use Rattle.model.specs.State.{State}
 use Rattle.model.specs.Calls.{result, written}
+use Rattle.model.specs.Crash.{isC}
 use Rattle.model.specs.Layout.{stateOf}
 use Rattle.model.specs.Memory.{Memory, writtenAt, reply, after}
 use Rattle.model.specs.declared.Call.{Call}
-use Rattle.model.specs.declared.Call.the-variants.{Begin, Write, Erase, Seal, Fork, Delete, Read, Barrier, Compress, FreeList, Estimate}
 use Rattle.model.proofs.Fine.{Fine}
 use Rattle.model.proofs.Keeps.{accepted-is}
 use Rattle.model.proofs.ResultSize.{accepted-short}
-use Rattle.ledger.specs.Ledger.{Ledger, afterKill, afterGiving, afterDelete, afterClearing, account}
+use Rattle.ledger.specs.Ledger.{Ledger, account}
 use Rattle.ledger.specs.Told.{outAfter}
 use Rattle.ledger.proofs.Tells.{Tells}
+use Rattle.ledger.proofs.EachTold.{told}
 use Rattle.ledger.proofs.LogTold.{words-told}
 
 -- numbers at the start of a buffer that has room for them
@@ -41,18 +44,11 @@ out-left g N c = go (reply g N c) refl
 
 -- the words of a call go behind those that are there, those of C to the start
 written-at : (g : Geometry) (L : Ledger) (T : State) → Tells g L T → (c : Call) → writtenAt T c ≡ 8 * length (account g L c .leaving .log)
-unfolding account afterKill afterGiving afterDelete afterClearing
-written-at g L T t Begin = ap (λ (n : ℕ). 8 * n) (t .used)
-written-at g L T t (Write r x k) = ap (λ (n : ℕ). 8 * n) (t .used)
-written-at g L T t (Erase r x) = ap (λ (n : ℕ). 8 * n) (t .used)
-written-at g L T t (Seal r) = ap (λ (n : ℕ). 8 * n) (t .used)
-written-at g L T t (Fork r) = ap (λ (n : ℕ). 8 * n) (t .used)
-written-at g L T t (Delete r) = ap (λ (n : ℕ). 8 * n) (t .used)
-written-at g L T t (Read r x) = ap (λ (n : ℕ). 8 * n) (t .used)
-written-at g L T t Barrier = ap (λ (n : ℕ). 8 * n) (t .used)
-written-at g L T t Compress = refl
-written-at g L T t FreeList = ap (λ (n : ℕ). 8 * n) (t .used)
-written-at g L T t (Estimate r) = ap (λ (n : ℕ). 8 * n) (t .used)
+written-at g L T t c =
+    cases (either (isC c))
+    (λ y. ap (λ b. cond b 0 (8 * T .used)) y ∙ sym (ap (λ (m : List ℕ). 8 * length m) (told c .log g L ∙ ap (λ b. cond b [] (L .log)) y)))
+    (λ y. ap (λ b. cond b 0 (8 * T .used)) y ∙ ap (λ (n : ℕ). 8 * n) (t .used) ∙
+    sym (ap (λ (m : List ℕ). 8 * length m) (told c .log g L ∙ ap (λ b. cond b [] (L .log)) y)))
 
 -- THE LOG: the ledger's words, and every other byte as it was
 pub log-left : (g : Geometry) (L : Ledger) → Inside g → (N : Memory) → Fine g (stateOf g (N .tables)) → Tells g L (stateOf g (N .tables)) → (c : Call) →

@@ -78,7 +78,3 @@ estimate-answered r g L T inside fine t =
     (cases (either (eqb (slotOf (T .view) r) 0))
     (λ y. rw y)
     (λ n. rw (n, fork-told g L T inside fine t r n, freed-told g L T inside fine t r n, shards-told g L T inside fine t r n)))
-
-pub estimate-kept : (r : ℕ) → Keeping (Estimate r)
-unfolding keeps account
-estimate-kept r g L T inside fine t n = still-told g L T t

@@ -15,9 +15,9 @@ use Rattle.geometry.specs.Limits.{blocks}
 use Rattle.model.specs.Memory.{Memory, reply, makeReply, makeAfter}
 use Rattle.model.specs.Demand.{Own, withOut, run}
 use Rattle.model.specs.declared.Call.{Call}
-use Rattle.model.specs.declared.Call.the-variants.{Begin, Write, Erase, Seal, Fork, Delete, Read, Barrier, Compress, FreeList, Estimate}
 use Rattle.ledger.specs.Ledger.{Ledger, account, refusalsOf, says}
 use Rattle.ledger.specs.Told.{tooShort, saysTo, stepsTo, LedgerSays}
+use Rattle.ledger.proofs.EachTold.{told}
 use Rattle.ledger.proofs.StoreToldProof.{store-told, store-left}
 use Rattle.ledger.proofs.OwnToldProof.{own-store-told}
 
@@ -27,18 +27,7 @@ ledger-says = (store-told, store-left, own-store-told)
 
 -- all that the ledger refuses for comes behind 4 in the order of the refusals
 pub refusals-ordered : (g : Geometry) (L : Ledger) (c : Call) → Ordered 4 (refusalsOf g L c)
-unfolding account
-refusals-ordered g L Begin = (omega arith, (omega arith, (omega arith, tt)))
-refusals-ordered g L (Write r x k) = (omega arith, (omega arith, (omega arith, (omega arith, (omega arith, (omega arith, tt))))))
-refusals-ordered g L (Erase r x) = (omega arith, (omega arith, (omega arith, (omega arith, tt))))
-refusals-ordered g L (Seal r) = (omega arith, (omega arith, (omega arith, (omega arith, (omega arith, tt)))))
-refusals-ordered g L (Fork r) = (omega arith, (omega arith, (omega arith, (omega arith, (omega arith, tt)))))
-refusals-ordered g L (Delete r) = (omega arith, (omega arith, (omega arith, tt)))
-refusals-ordered g L (Read r x) = (omega arith, (omega arith, (omega arith, tt)))
-refusals-ordered g L Barrier = (omega arith, tt)
-refusals-ordered g L Compress = (omega arith, tt)
-refusals-ordered g L FreeList = (omega arith, tt)
-refusals-ordered g L (Estimate r) = (omega arith, (omega arith, (omega arith, tt)))
+refusals-ordered g L c = told c .ordered g L
 
 -- THE LEDGER NEVER SAYS 3 OR 4
 pub never-3-4 : (g : Geometry) (L : Ledger) (c : Call) → (says g L c ≡ refused 3 → ⊥) × (says g L c ≡ refused 4 → ⊥)

@@ -1,51 +1,24 @@
 -- What a line prints is its reply, its numbers spelled as those of its call.
 use mathlib.Core.Path.{_≡_, refl, sym, ap, _∙_}
 use mathlib.Core.Bool.{Bool, true, false, cond}
-use mathlib.Core.List.{List, [], _∷_, _++_, map, flatMap}
+use mathlib.Core.List.{List, [], _∷_, _++_, map}
 use mathlib.Core.Option.{some}
 use Prim.Native.Nat.{ℕ}
 use Rattle.answer.specs.Reply.{Reply, accepted, refused}
 use Rattle.answer.proofs.Decided.{decide-accepted}
 use Rattle.geometry.specs.declared.Geometry.{Geometry}
 use Rattle.geometry.specs.Limits.{fits}
-use Rattle.model.specs.Lists.{keepIf}
-use Rattle.model.specs.Results.{Item, plain, born, bornIn, itemsOf, numbersOf, spelling}
+use Rattle.model.specs.Results.{Item, plain, itemsOf, numbersOf}
+use Rattle.model.specs.Calls.{spelling}
 use Rattle.model.specs.declared.Call.{Call}
-use Rattle.model.specs.declared.Call.the-variants.{Begin, Write, Erase, Seal, Fork, Delete, Read, Barrier, Compress, FreeList, Estimate}
 use Rattle.script.specs.declared.parse.Six.{Six}
 use Rattle.script.specs.declared.parse.Parsed.{Parsed}
 use Rattle.script.specs.declared.parse.Parsed.the-variants.{Store, Asks, No}
 use Rattle.script.specs.ReplyText.{itemsText, spellingOf, replyText, plus, replyRead}
 use Rattle.script.proofs.Replies.{printed-read}
-use Rattle.ledger.specs.BookReading.{blockOn}
-use Rattle.ledger.specs.Ledger.{Ledger, withBirths, isFree, young, freedBy, picked, runsIn, account, refusalsOf, says}
+use Rattle.ledger.specs.Ledger.{Ledger, account, refusalsOf, says}
 use Rattle.ledger.specs.Transcript.{Runner, without-store, with-store, asked, lineSays, lineGives, textOf, lineText}
-
--- ── the items of an account, by the spelling of its call ──
-
-items-born : (L : Ledger) (bs : List ℕ) → bornIn (numbersOf (withBirths L bs)) ≡ withBirths L bs
-unfolding withBirths numbersOf bornIn
-items-born L [] = refl
-items-born L (b ∷ bs) = ap {B = List Item} (λ l. born b (L .birth b) ∷ l) (items-born L bs)
-
-items-runs : (l : List (ℕ × ℕ)) → map plain (numbersOf (flatMap (λ s. plain (s .0) ∷ plain (s .1) ∷ []) l)) ≡ flatMap (λ s. plain (s .0) ∷ plain (s .1) ∷ []) l
-unfolding flatMap numbersOf
-items-runs [] = refl
-items-runs (s ∷ l) = ap {B = List Item} (λ m. plain (s .0) ∷ plain (s .1) ∷ m) (items-runs l)
-
-items-told : (g : Geometry) (L : Ledger) (c : Call) → itemsOf (spelling c) (numbersOf (account g L c .result)) ≡ account g L c .result
-unfolding account itemsOf numbersOf bornIn
-items-told g L Begin = refl
-items-told g L (Write r x k) = ap {B = List Item} (λ l. born (picked g L k) r ∷ l) (items-born L (keepIf (young L r) (blockOn (L .book) r x)))
-items-told g L (Erase r x) = items-born L (keepIf (young L r) (blockOn (L .book) r x))
-items-told g L (Seal r) = refl
-items-told g L (Fork r) = refl
-items-told g L (Delete r) = items-born L (freedBy g L r)
-items-told g L (Read r x) = items-born L (blockOn (L .book) r x)
-items-told g L Barrier = refl
-items-told g L Compress = refl
-items-told g L FreeList = items-runs (runsIn g (isFree L))
-items-told g L (Estimate r) = refl
+use Rattle.ledger.proofs.EachTold.{told}
 
 -- ── a line ──
 
@@ -61,7 +34,7 @@ call-spelled g L c = go (says g L c) refl
     go (refused k) e = refl
     go (accepted ns) e =
         ap (λ (l : List Item). 43 ∷ (itemsText l ++ (10 ∷ [])))
-        (sym (items-told g L c) ∙ ap (itemsOf (spelling c)) (call-gives g L c ns e))
+        (sym (told c .items g L) ∙ ap (itemsOf (spelling c)) (call-gives g L c ns e))
 
 store-spelled : (x : Six) (t : Bool) → textOf (cond t (accepted []) (refused 2)) [] ≡ replyText (spellingOf (Store x)) (cond t (accepted []) (refused 2))
 unfolding textOf replyText spellingOf itemsOf
@@ -94,7 +67,7 @@ unfolding lineSays lineGives spellingOf itemsOf
 line-items R No ns e = cc
 line-items R (Store x) ns e = ap {B = List Item} (map plain) (sym (store-gives (fits (asked x)) ns e))
 line-items without-store (Asks c) ns e = cc
-line-items (with-store g L) (Asks c) ns e = ap (itemsOf (spelling c)) (sym (call-gives g L c ns e)) ∙ items-told g L c
+line-items (with-store g L) (Asks c) ns e = ap (itemsOf (spelling c)) (sym (call-gives g L c ns e)) ∙ told c .items g L
 
 pub line-reads : (R : Runner) (p : Parsed) (ns : List ℕ) → lineSays R p ≡ accepted ns → replyRead (lineText R p) ≡ some (plus (lineGives R p))
 line-reads R p ns e =

@@ -3,28 +3,28 @@ use mathlib.Core.Path.{_≡_, refl, sym, ap, subst, _∙_}
 use mathlib.Core.Bool.{Bool, false, true≢false, cond}
 use mathlib.Core.Logic.{_⊎_}
 use mathlib.Core.List.{List, [], _∷_, _++_}
-use Prim.Native.Nat.{ℕ, _-_, _≤_, _<_}
+use Prim.Native.Nat.{ℕ, zero, suc, _-_, _≤_, _<_}
 use native.Mathlib.Omega.{arith}
 use borrow.Author.Tests.{lt-ltb}
 use lib.Dec.{ltb}
 use lib.ListN.{length}
 use Rattle.answer.specs.Reply.{accepted, refused}
-use Rattle.answer.specs.Refusal.{Condition, decide}
+use Rattle.answer.specs.Refusal.{Condition, place, Ordered, decide}
 use Rattle.answer.proofs.Cases.{cases, either}
 use Rattle.answer.proofs.Decided.{accepted-not, refused-same}
 use Rattle.geometry.specs.declared.Geometry.{Geometry}
 use Rattle.geometry.specs.Limits.{Inside, fits}
 use Rattle.geometry.proofs.Made.{fits-inside, inside-fits}
 use Rattle.model.specs.declared.Call.{Call}
-use Rattle.model.specs.declared.Call.the-variants.{Begin, Write, Erase, Seal, Fork, Delete, Read, Barrier, Compress, FreeList, Estimate}
 use Rattle.script.specs.declared.parse.Six.{Six}
 use Rattle.script.specs.declared.parse.Parsed.{Parsed}
 use Rattle.script.specs.declared.parse.Parsed.the-variants.{Store, Asks, No}
 use Rattle.script.specs.Parse.{opens, callLine, parsed}
 use Rattle.model.specs.Results.{numbersOf}
-use Rattle.ledger.specs.Ledger.{Ledger, account, says}
+use Rattle.ledger.specs.Ledger.{Ledger, account, refusalsOf, says}
 use Rattle.ledger.specs.Transcript.{Runner, without-store, with-store, asked, lineSays, lineGives, lineText, lineLeaves, printed, left}
 use Rattle.ledger.specs.TranscriptMeans.{LineRefused, TranscriptMeans}
+use Rattle.ledger.proofs.EachTold.{told}
 use Rattle.ledger.proofs.Parts.{parts, parts-left}
 use Rattle.ledger.proofs.LineSpelled.{line-gives, line-spelled, line-reads}
 
@@ -41,19 +41,17 @@ decide-from m (c ∷ cs) l n f e =
     (λ y. let d : c .0 ≡ n = refused-same (rw y at e) in omega (arith, f .0))
     (λ k. decide-from m cs l n (f .1) (rw k at e))
 
-from-five : (g : Geometry) (L : Ledger) (c : Call) (t : Bool) → From 5 (account g L c .refusals ++ ((14, t) ∷ []))
-unfolding account
-from-five g L Begin t = omega arith
-from-five g L (Write r x k) t = omega arith
-from-five g L (Erase r x) t = omega arith
-from-five g L (Seal r) t = omega arith
-from-five g L (Fork r) t = omega arith
-from-five g L (Delete r) t = omega arith
-from-five g L (Read r x) t = omega arith
-from-five g L Barrier t = omega arith
-from-five g L Compress t = omega arith
-from-five g L FreeList t = omega arith
-from-five g L (Estimate r) t = omega arith
+place-from : (n : ℕ) → 4 < place n → 5 ≤ n
+place-from zero h = omega arith
+place-from (suc zero) h = omega arith
+place-from (suc (suc zero)) h = omega arith
+place-from (suc (suc (suc zero))) h = omega arith
+place-from (suc (suc (suc (suc zero)))) h = omega arith
+place-from (suc (suc (suc (suc (suc n))))) h = omega arith
+
+ordered-from : (m : ℕ) (cs : List Condition) → 4 ≤ m → Ordered m cs → From 5 cs
+ordered-from m [] h o = tt
+ordered-from m (c ∷ cs) h o = (place-from (c .0) (omega (arith, o .0)), ordered-from (place (c .0)) cs (omega (arith, o .0)) (o .1))
 
 -- NO CALL IS REFUSED BELOW 5 by the ledger
 pub says-from : (g : Geometry) (L : Ledger) (c : Call) (n : ℕ) → says g L c ≡ refused n → 5 ≤ n
@@ -61,7 +59,7 @@ unfolding says
 says-from g L c n e =
     let a = account g L c in
     let t : Bool = ltb (g .words - length (a .leaving .log)) (length (a .words)) in
-    decide-from 5 (a .refusals ++ ((14, t) ∷ [])) (numbersOf (a .result)) n (from-five g L c t) e
+    decide-from 5 (a .refusals ++ ((14, t) ∷ [])) (numbersOf (a .result)) n (ordered-from 4 (refusalsOf g L c) (omega arith) (told c .ordered g L)) e
 
 -- ── how a line may be refused ──
 

@@ -9,11 +9,11 @@ use Rattle.geometry.specs.declared.Geometry.{Geometry}
 use Rattle.geometry.specs.Limits.{blocks}
 use Rattle.ledger.specs.LogMeans.{Given, Within}
 use Rattle.model.specs.Lists.{In}
+use Rattle.model.specs.Calls.{Account, looking, opening, freeing, placing, marking, renewing, account}
 use Rattle.model.specs.Layout.{stateOf}
 use Rattle.model.specs.Memory.{Memory, wordsUsed, reply, after}
 use Rattle.ledger.specs.MemoryMeans.{tableSize}
 use Rattle.model.specs.declared.Call.{Call}
-use Rattle.model.specs.declared.Call.the-variants.{Begin, Write, Erase, Seal, Fork, Delete, Read, Barrier, Compress, FreeList, Estimate}
 
 -- the log: nothing but the words behind those that were used, up to those that are used now
 abbrev pub Appended : Memory → Memory → Type 0
@@ -33,22 +33,20 @@ pub record Released (g : Geometry) (M left : Memory) : Type 0 where
   pub rest : (i : ℕ) → (i ≡ 9 → ⊥) → (i ≡ 11 → ⊥) → (i < 64) ⊎ (128 ≤ i) → getD (left .tables) i 0 ≡ getD (M .tables) i 0
 
 -- what each call may touch beyond that
-abbrev pub TouchedBy : Geometry → Call → Memory → Memory → Type 0
--- these write no log word
-TouchedBy g Begin M left = left .log ≡ M .log
-TouchedBy g (Seal r) M left = left .log ≡ M .log
-TouchedBy g (Fork r) M left = left .log ≡ M .log
-TouchedBy g (Write r x k) M left = Appended M left
-TouchedBy g (Erase r x) M left = Appended M left
-TouchedBy g (Delete r) M left = Appended M left
+abbrev pub TouchedAs : Geometry → Account → Memory → Memory → Type 0
 -- these look only
-TouchedBy g (Read r x) M left = (left .log ≡ M .log) × (left .tables ≡ M .tables)
-TouchedBy g FreeList M left = (left .log ≡ M .log) × (left .tables ≡ M .tables)
-TouchedBy g (Estimate r) M left = (left .log ≡ M .log) × (left .tables ≡ M .tables)
+TouchedAs g (looking s cs res) M left = (left .log ≡ M .log) × (left .tables ≡ M .tables)
+-- these write no log word
+TouchedAs g (opening cs a) M left = left .log ≡ M .log
+TouchedAs g (freeing cs a) M left = Appended M left
+TouchedAs g (placing r x k) M left = Appended M left
 -- of the tables, the count of the log words, and what waited is released
-TouchedBy g Barrier M left = Appended M left × ((wordsUsed left ≡ suc (wordsUsed M)) × Released g M left)
+TouchedAs g marking M left = Appended M left × ((wordsUsed left ≡ suc (wordsUsed M)) × Released g M left)
 -- the log anew from its start: the bytes beyond its words stay
-TouchedBy g Compress M left = Within 0 (8 * wordsUsed left) (M .log) (left .log) × Released g M left
+TouchedAs g renewing M left = Within 0 (8 * wordsUsed left) (M .log) (left .log) × Released g M left
+
+abbrev pub TouchedBy : Geometry → Call → Memory → Memory → Type 0
+TouchedBy g c M left = TouchedAs g (account c) M left
 
 pub record Accepted (g : Geometry) (M : Memory) (c : Call) (l : List ℕ) (left : Memory) : Type 0 where
   -- of the result buffer only the numbers given

@@ -16,13 +16,14 @@ use Rattle.model.specs.Book.{Some}
 use Rattle.model.specs.Lists.{In}
 use Rattle.model.specs.Results.{blocksIn}
 use Rattle.model.specs.State.{State, fresh}
-use Rattle.model.specs.Calls.{pairs, freeList, result}
+use Rattle.model.specs.Calls.{Account, looking, opening, freeing, placing, marking, renewing, account, pairs, freeList, result}
 use Rattle.model.specs.FreeList.{freeRuns}
-use Rattle.model.specs.History.{Machine, Event, give, free, Entry, entryOf, eventsOf, writeEvents, stateFrom, historyFrom, wasAccepted, freedAmong, syncs, synced?, unsyncedAfter, unsyncedFrom, unsynced}
+use Rattle.model.specs.History.{Machine, Event, give, free, Entry, entryOf, eventsBy, eventsOf, writeEvents, stateFrom, historyFrom, wasAccepted, freedAmong, syncsBy, syncs, synced?, unsyncedAfter, unsyncedFrom, unsynced}
 use Rattle.model.specs.HistoryFacts.{Synced, Frees, Gives, runsOfPairs, Lists}
 use Rattle.model.specs.Model.{Screened, answer, model, stateAfter, history}
 use Rattle.model.specs.declared.Call.{Call}
-use Rattle.model.specs.declared.Call.the-variants.{Begin, Write, Erase, Seal, Fork, Delete, Read, Barrier, Compress, FreeList, Estimate}
+use Rattle.model.specs.declared.Call.the-variants.{Write}
+use Rattle.model.proofs.EachCall.{Is, is}
 use Rattle.model.proofs.ModelFacts.{accepted-is}
 use Rattle.model.proofs.Waiting.{waits-in}
 use Rattle.model.proofs.Reckoning.{waits-reckoned}
@@ -114,19 +115,17 @@ among b (free c ∷ l) i =
     (λ j. or-right (eqb b c) (freedAmong b l) (among b l j))
 
 -- a call that frees a block is no Y and no C
+frees-by : (A : Account) (l : List ℕ) (b : ℕ) → Some (λ v. v ≡ free b) (eventsBy A l) → syncsBy A ≡ false
+frees-by (looking s cs res) l b i = refl
+frees-by (opening cs a) l b i = refl
+frees-by (freeing cs a) l b i = refl
+frees-by (placing r x k) l b i = refl
+frees-by marking l b i = absurd i
+frees-by renewing l b i = absurd i
+
 frees-not-syncs : (c : Call) (A : Reply) (b : ℕ) → Some (λ v. v ≡ free b) (eventsOf c A) → (wasAccepted A && syncs c) ≡ false
 frees-not-syncs c (refused n) b i = refl
-frees-not-syncs Begin (accepted l) b i = refl
-frees-not-syncs (Write r x k) (accepted l) b i = refl
-frees-not-syncs (Erase r x) (accepted l) b i = refl
-frees-not-syncs (Seal r) (accepted l) b i = refl
-frees-not-syncs (Fork r) (accepted l) b i = refl
-frees-not-syncs (Delete r) (accepted l) b i = refl
-frees-not-syncs (Read r x) (accepted l) b i = refl
-frees-not-syncs Barrier (accepted l) b i = absurd i
-frees-not-syncs Compress (accepted l) b i = absurd i
-frees-not-syncs FreeList (accepted l) b i = refl
-frees-not-syncs (Estimate r) (accepted l) b i = refl
+frees-not-syncs c (accepted l) b i = frees-by (account c) l b i
 
 waits-on : (u : ℕ → Bool) (b : ℕ) (l : List Entry) → u b ≡ true → Some Synced l ⊎ (unsyncedFrom u l b ≡ true)
 waits-on u b [] h = inr h
@@ -171,19 +170,17 @@ gives-first b r x k (c ∷ v ∷ l) i =
     (λ e. record { r = r; x = x; k = k; rest = v ∷ l; call = refl; answer = ap (λ d. accepted (d ∷ v ∷ l)) (same-give b c e) })
     (λ j. absurd (no-give b (blocksIn l) j))
 
+gave-as : (b : ℕ) (c : Call) (A : Account) (l : List ℕ) → Is c A → Some (λ v. v ≡ give b) (eventsBy A l) → GaveBy b c (accepted l)
+gave-as b c (looking s cs res) l e i = absurd i
+gave-as b c (opening cs a) l e i = absurd i
+gave-as b c (freeing cs a) l e i = absurd (no-give b (blocksIn l) i)
+gave-as b c (placing r x k) l e i = subst (λ d. GaveBy b d (accepted l)) (sym e) (gives-first b r x k l i)
+gave-as b c marking l e i = absurd i
+gave-as b c renewing l e i = absurd i
+
 pub gave-by : (b : ℕ) (c : Call) (A : Reply) → Some (λ v. v ≡ give b) (eventsOf c A) → GaveBy b c A
 gave-by b c (refused n) i = absurd i
-gave-by b Begin (accepted l) i = absurd i
-gave-by b (Write r x k) (accepted l) i = gives-first b r x k l i
-gave-by b (Erase r x) (accepted l) i = absurd (no-give b (blocksIn l) i)
-gave-by b (Seal r) (accepted l) i = absurd i
-gave-by b (Fork r) (accepted l) i = absurd i
-gave-by b (Delete r) (accepted l) i = absurd (no-give b (blocksIn l) i)
-gave-by b (Read r x) (accepted l) i = absurd i
-gave-by b Barrier (accepted l) i = absurd i
-gave-by b Compress (accepted l) i = absurd i
-gave-by b FreeList (accepted l) i = absurd i
-gave-by b (Estimate r) (accepted l) i = absurd i
+gave-by b c (accepted l) i = gave-as b c (account c) l (is c) i
 
 firstOf : List ℕ → ℕ
 firstOf [] = 0

@@ -23,15 +23,16 @@ use Rattle.model.specs.Book.{Some}
 use Rattle.model.specs.Held.{held, frees}
 use Rattle.model.specs.State.{State}
 use Rattle.model.specs.Layout.{stateOf, stored}
-use Rattle.model.specs.Calls.{writing, erasing, deleting, compressed, written, conditions, acted, given, logged, effect}
+use Rattle.model.specs.Calls.{Account, looking, opening, freeing, placing, marking, renewing, account, renews, wordsBy, leftBy, writing, compressed, written, acted, given, logged, effect}
 use Rattle.model.specs.Memory.{Memory, usedLog, wordsUsed, writtenAt, reply, after}
 use Rattle.model.specs.SoundStore.{SoundStore}
-use Rattle.model.specs.History.{Machine, Entry, entryOf, stateFrom, historyFrom, wasAccepted, syncs, synced?}
+use Rattle.model.specs.History.{Machine, Entry, entryOf, stateFrom, historyFrom, wasAccepted, syncsBy, syncs, synced?}
 use Rattle.model.specs.HistoryFacts.{Synced}
 use Rattle.model.specs.Demand.{Own, withOut, ownStore, run}
 use Rattle.model.specs.Crash.{isC, compacts?, Compacts}
 use Rattle.model.specs.declared.Call.{Call}
-use Rattle.model.specs.declared.Call.the-variants.{Begin, Write, Erase, Seal, Fork, Delete, Read, Barrier, Compress, FreeList, Estimate}
+use Rattle.model.specs.declared.Call.the-variants.{Barrier, Compress}
+use Rattle.model.proofs.EachCall.{Is, is}
 use Rattle.model.proofs.LogKeeps.{logAfter}
 use Rattle.model.proofs.Keeps.{Accepted, accepted-is, sound-fine, log-after, accepted-state, accepted-log, calls-keep-sound}
 
@@ -53,19 +54,17 @@ some-append P [] m i = inr i
 some-append P (e ∷ l) m i = cases i (λ p. inl (inl p)) (λ j. cases (some-append P l m j) (λ k. inl (inr k)) (λ k. inr k))
 
 -- a C is a Y or C
+renews-syncs : (A : Account) (t : Bool) → (t && renews A) ≡ true → (t && syncsBy A) ≡ true
+renews-syncs (looking s cs res) true e = e
+renews-syncs (opening cs a) true e = e
+renews-syncs (freeing cs a) true e = e
+renews-syncs (placing r x k) true e = e
+renews-syncs marking true e = absurd (false≢true e)
+renews-syncs renewing true e = e
+renews-syncs A false e = absurd (false≢true e)
+
 pub compacts-syncs : (c : Call) (t : Bool) → (t && isC c) ≡ true → (t && syncs c) ≡ true
-compacts-syncs Begin true e = e
-compacts-syncs (Write r x k) true e = e
-compacts-syncs (Erase r x) true e = e
-compacts-syncs (Seal r) true e = e
-compacts-syncs (Fork r) true e = e
-compacts-syncs (Delete r) true e = e
-compacts-syncs (Read r x) true e = e
-compacts-syncs Barrier true e = absurd (false≢true e)
-compacts-syncs Compress true e = e
-compacts-syncs FreeList true e = e
-compacts-syncs (Estimate r) true e = e
-compacts-syncs c false e = absurd (false≢true e)
+compacts-syncs c t e = renews-syncs (account c) t e
 
 pub quiet-keeps : (l : List Entry) → (Some Synced l → ⊥) → Some Compacts l → ⊥
 quiet-keeps [] n i = i
@@ -94,46 +93,32 @@ wroteAll g M (a ∷ l) = wrote g M a ++ wroteAll g (ownStore g .after M a) l
 
 -- ── one call ──
 
-effect-used : (g : Geometry) (T : State) (c : Call) → isC c ≡ false → effect g T c .used ≡ T .used + length (written g T c)
+used-by : (g : Geometry) (T : State) (A : Account) → renews A ≡ false → leftBy g T A .used ≡ T .used + length (wordsBy g T A)
 unfolding acted given logged
-effect-used g T Begin e = refl
-effect-used g T (Write r x k) e = refl
-effect-used g T (Erase r x) e = refl
-effect-used g T (Seal r) e = refl
-effect-used g T (Fork r) e = refl
-effect-used g T (Delete r) e = refl
-effect-used g T (Read r x) e = omega arith
-effect-used g T Barrier e = refl
-effect-used g T Compress e = absurd (false≢true (sym e))
-effect-used g T FreeList e = omega arith
-effect-used g T (Estimate r) e = omega arith
+used-by g T (looking s cs res) e = omega arith
+used-by g T (opening cs a) e = refl
+used-by g T (freeing cs a) e = refl
+used-by g T (placing r x k) e = refl
+used-by g T marking e = refl
+used-by g T renewing e = absurd (false≢true (sym e))
+
+effect-used : (g : Geometry) (T : State) (c : Call) → isC c ≡ false → effect g T c .used ≡ T .used + length (written g T c)
+effect-used g T c e = used-by g T (account c) e
 
 log-joined : (g : Geometry) (i : Inside g) (T : State) (R : Rattle.model.proofs.Fine.Fine g T) (l : List ℕ) (r : Reads (g .arenas) (g .per) l (held (T .view))) (c : Call) →
     isC c ≡ false → logAfter g i T R l r c ≡ l ++ bytesOf (written g T c)
-log-joined g i T R l r Begin e = refl
-log-joined g i T R l r (Write p x k) e = refl
-log-joined g i T R l r (Erase p x) e = refl
-log-joined g i T R l r (Seal p) e = refl
-log-joined g i T R l r (Fork p) e = refl
-log-joined g i T R l r (Delete p) e = refl
-log-joined g i T R l r (Read p x) e = refl
-log-joined g i T R l r Barrier e = refl
-log-joined g i T R l r Compress e = absurd (false≢true (sym e))
-log-joined g i T R l r FreeList e = refl
-log-joined g i T R l r (Estimate p) e = refl
+log-joined g i T R l r c e = ap (λ t. cond t (bytesOf (written g T c)) (l ++ bytesOf (written g T c))) e
 
-is-C : (c : Call) → isC c ≡ true → c ≡ Compress
-is-C Begin e = absurd (false≢true e)
-is-C (Write r x k) e = absurd (false≢true e)
-is-C (Erase r x) e = absurd (false≢true e)
-is-C (Seal r) e = absurd (false≢true e)
-is-C (Fork r) e = absurd (false≢true e)
-is-C (Delete r) e = absurd (false≢true e)
-is-C (Read r x) e = absurd (false≢true e)
-is-C Barrier e = absurd (false≢true e)
-is-C Compress e = refl
-is-C FreeList e = absurd (false≢true e)
-is-C (Estimate r) e = absurd (false≢true e)
+renews-C : (c : Call) (A : Account) → Is c A → renews A ≡ true → c ≡ Compress
+renews-C c (looking s cs res) i e = absurd (false≢true e)
+renews-C c (opening cs a) i e = absurd (false≢true e)
+renews-C c (freeing cs a) i e = absurd (false≢true e)
+renews-C c (placing r x k) i e = absurd (false≢true e)
+renews-C c marking i e = absurd (false≢true e)
+renews-C c renewing i e = i .0
+
+pub is-C : (c : Call) → isC c ≡ true → c ≡ Compress
+is-C c e = renews-C c (account c) (is c) e
 
 module _ (g : Geometry) where
   cleared : (T : State) → effect g T Compress .used ≡ length (compressed g T)
@@ -274,18 +259,16 @@ plain-released : (l : List ℕ) → Plain (map released l)
 plain-released [] = tt
 plain-released (b ∷ l) = (λ e. omega arith, plain-released l)
 
+plain-by : (g : Geometry) (T : State) (A : Account) → syncsBy A ≡ false → Plain (wordsBy g T A)
+plain-by g T (looking s cs res) e = tt
+plain-by g T (opening cs a) e = tt
+plain-by g T (freeing cs a) e = plain-released (frees (T .view) (a T))
+plain-by g T (placing r x k) e = (λ z. omega arith, plain-released (frees (T .view) (writing g T r x k)))
+plain-by g T marking e = absurd (false≢true (sym e))
+plain-by g T renewing e = absurd (false≢true (sym e))
+
 plain-written : (g : Geometry) (T : State) (c : Call) → syncs c ≡ false → Plain (written g T c)
-plain-written g T Begin e = tt
-plain-written g T (Write r x k) e = (λ z. omega arith, plain-released (frees (T .view) (writing g T r x k)))
-plain-written g T (Erase r x) e = plain-released (frees (T .view) (erasing T r x))
-plain-written g T (Seal r) e = tt
-plain-written g T (Fork r) e = tt
-plain-written g T (Delete r) e = plain-released (frees (T .view) (deleting T r))
-plain-written g T (Read r x) e = tt
-plain-written g T Barrier e = absurd (false≢true (sym e))
-plain-written g T Compress e = absurd (false≢true (sym e))
-plain-written g T FreeList e = tt
-plain-written g T (Estimate r) e = tt
+plain-written g T c e = plain-by g T (account c) e
 
 pub plain-wrote : (g : Geometry) (l : List Own) (M : Memory) → (Some Synced (historyFrom (ownStore g) M l) → ⊥) → Plain (wroteAll g M l)
 unfolding wroteAll wrote wroteBy
@@ -315,19 +298,17 @@ runs-end [] = ([], refl)
 runs-end (r ∷ l) = let w = runs-end l in (runWords (r .0) (r .1) ++ w .0, ap (λ k. runWords (r .0) (r .1) ++ k) (w .1) ∙ sym (append-assoc (runWords (r .0) (r .1)) (w .0) (barrier ∷ [])))
 
 -- an accepted Y or C is one of the two
+ended-by : (c : Call) (A : Account) → Is c A → (t : Bool) → (t && syncsBy A) ≡ true → ((t && renews A) ≡ true → ⊥) → (c ≡ Barrier) × (t ≡ true)
+ended-by c (looking s cs res) i true e n = absurd (false≢true e)
+ended-by c (opening cs a) i true e n = absurd (false≢true e)
+ended-by c (freeing cs a) i true e n = absurd (false≢true e)
+ended-by c (placing r x k) i true e n = absurd (false≢true e)
+ended-by c marking i true e n = (i .0, refl)
+ended-by c renewing i true e n = absurd (n refl)
+ended-by c A i false e n = absurd (false≢true e)
+
 pub ended : (c : Call) (t : Bool) → (t && syncs c) ≡ true → ((t && isC c) ≡ true → ⊥) → (c ≡ Barrier) × (t ≡ true)
-ended Begin true e n = absurd (false≢true e)
-ended (Write r x k) true e n = absurd (false≢true e)
-ended (Erase r x) true e n = absurd (false≢true e)
-ended (Seal r) true e n = absurd (false≢true e)
-ended (Fork r) true e n = absurd (false≢true e)
-ended (Delete r) true e n = absurd (false≢true e)
-ended (Read r x) true e n = absurd (false≢true e)
-ended Barrier true e n = (refl, refl)
-ended Compress true e n = absurd (n refl)
-ended FreeList true e n = absurd (false≢true e)
-ended (Estimate r) true e n = absurd (false≢true e)
-ended c false e n = absurd (false≢true e)
+ended c t e n = ended-by c (account c) (is c) t e n
 
 module _ (g : Geometry) where
   pub whole-step : (M : Memory) (a : Own) → Whole g M → Whole g (ownStore g .after M a)

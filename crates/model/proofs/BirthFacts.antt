@@ -11,22 +11,26 @@ use Rattle.answer.proofs.Cases.{cases, same?}
 use Rattle.geometry.specs.declared.Geometry.{Geometry}
 use Rattle.geometry.specs.Limits.{Inside}
 use Rattle.model.specs.View.{View}
-use Rattle.model.specs.Lists.{In, onPage}
-use Rattle.model.specs.Results.{paired, Item, plain, born, bornIn, itemsOf, spelling}
+use Rattle.model.specs.Lists.{In}
+use Rattle.model.specs.Results.{paired, Item, plain, born, bornIn, itemsOf}
 use Rattle.model.specs.Book.{Some}
-use Rattle.model.specs.Actions.{Action, doB, doS, doF, Asks, done}
+use Rattle.model.specs.Actions.{Action, Asks, done}
 use Rattle.model.specs.Held.{frees}
 use Rattle.model.specs.State.{State, fresh}
-use Rattle.model.specs.Calls.{slot, block, writing, erasing, deleting, conditions, result, acted, given, logged, effect}
+use Rattle.model.specs.Calls.{Account, looking, opening, freeing, placing, marking, renewing, account, refusalsBy, resultBy, spellingBy, leftBy, freedWith, spelling, slot, block, writing, conditions, result, acted, given, logged, effect}
 use Rattle.model.specs.History.{Entry, entryOf, stateFrom, historyFrom}
 use Rattle.model.specs.HistoryFacts.{Names, Gave, LastGave}
 use Rattle.model.specs.Model.{Screened, answer, keepOr, modelAfter, model, stateAfter, history}
 use Rattle.model.specs.declared.Call.{Call}
-use Rattle.model.specs.declared.Call.the-variants.{Begin, Write, Erase, Seal, Fork, Delete, Read, Barrier, Compress, FreeList, Estimate}
+use Rattle.model.specs.declared.Call.the-variants.{Write}
+use Rattle.model.specs.declared.Spelling.{Spelling}
+use Rattle.model.specs.declared.Spelling.the-variants.{Numbers, Blocks}
 use Rattle.model.proofs.BirthStays.{Gives, done-birth, write-birth}
 use Rattle.model.proofs.ResultFacts.{born-paired}
 use Rattle.model.proofs.HeldFacts.{frees-is}
-use Rattle.model.proofs.Fine.{Fine, named-slot, asks-W, asks-E, asks-D, effect-fine}
+use Rattle.model.proofs.CallKinds.{none-left, opens, frees-only}
+use Rattle.model.proofs.EachCall.{Is, is, HeldIf, Fits, fits}
+use Rattle.model.proofs.Fine.{Fine, named-slot, asks-W, effect-fine}
 use Rattle.model.proofs.ModelFacts.{accepted-is}
 use Rattle.model.proofs.StepFacts.{fresh-fine, reached}
 
@@ -78,29 +82,22 @@ some-born f (c ∷ l) b v i =
     (λ e. let w : b ≡ c = sym (ap blockOf e) in (inl w, ap f w ∙ ap birthOf e))
     (λ j. let w = some-born f l b v j in (inr (w .0), w .1))
 
-pub on-page : (p b : ℕ) → In b (onPage p) → p ≡ suc b
-unfolding onPage
-on-page zero b i = absurd i
-on-page (suc c) b i = cases i (λ e. ap suc (sym e)) (λ j. absurd j)
-
 -- ── the invariant: each birth in the store is that of the last write that gave its block ──
 
 abbrev pub Tracked : View → List Entry → Type 0
 Tracked K h = (b : ℕ) → 0 < K .birth b → LastGave b (K .birth b) h
 
 -- an entry that is no accepted W gave nothing
+abbrev writesBy : Account → ℕ
+writesBy (looking s cs res) = 0
+writesBy (opening cs a) = 0
+writesBy (freeing cs a) = 0
+writesBy (placing r x k) = 1
+writesBy marking = 0
+writesBy renewing = 0
+
 abbrev writes : Call → ℕ
-writes Begin = 0
-writes (Write r x k) = 1
-writes (Erase r x) = 0
-writes (Seal r) = 0
-writes (Fork r) = 0
-writes (Delete r) = 0
-writes (Read r x) = 0
-writes Barrier = 0
-writes Compress = 0
-writes FreeList = 0
-writes (Estimate r) = 0
+writes c = writesBy (account c)
 
 abbrev entry : Call → Reply → Entry
 entry c A = record { call = c; answer = A }
@@ -156,20 +153,20 @@ module _ (g : Geometry) (inside : Inside g) (T : State) (R : Fine g T) (h : List
       let s = kept-last b (K .birth b) h e (λ q. other-given (Write r x k) l b q (λ j. m (j ∙ f))) (t b (omega (arith, i))) in
       subst (λ u. LastGave b u (h ++ (e ∷ []))) (sym i) s))
 
-  effect-told : (c : Call) (l : List ℕ) → NoneHolds (conditions g T c) → result g T c ≡ l → Tracked (effect g T c .view) (h ++ (entry c (accepted l) ∷ []))
+  told-by : (c : Call) (A : Account) (l : List ℕ) → account c ≡ A → Is c A → NoneHolds (refusalsBy g T A) → resultBy g T A ≡ l →
+      Tracked (leftBy g T A .view) (h ++ (entry c (accepted l) ∷ []))
   unfolding logged given acted
-  effect-told Begin l n e = acts doB Begin l (λ b i. i) refl
-  effect-told (Write r x k) l n e =
-      write-told r x k l n (sym (ap (λ m. getD m 0 0) e)) (sym e ∙ ap (λ m. block g T k ∷ lib.ListN.drop 1 m) e)
-  effect-told (Erase r x) l n e = acts (erasing T r x) (Erase r x) l (λ b i. i) refl
-  effect-told (Seal r) l n e = acts (doS (slot T r)) (Seal r) l (λ b i. i) refl
-  effect-told (Fork r) l n e = acts (doF (slot T r)) (Fork r) l (λ b i. i) refl
-  effect-told (Delete r) l n e = acts (deleting T r) (Delete r) l (λ b i. i) refl
-  effect-told (Read r x) l n e = looks (Read r x) (accepted l) (no-write (Read r x) (accepted l) refl)
-  effect-told Barrier l n e = looks Barrier (accepted l) (no-write Barrier (accepted l) refl)
-  effect-told Compress l n e = looks Compress (accepted l) (no-write Compress (accepted l) refl)
-  effect-told FreeList l n e = looks FreeList (accepted l) (no-write FreeList (accepted l) refl)
-  effect-told (Estimate r) l n e = looks (Estimate r) (accepted l) (no-write (Estimate r) (accepted l) refl)
+  told-by c (looking s cs res) l d i n e = looks c (accepted l) (no-write c (accepted l) (ap writesBy d))
+  told-by c (opening cs a) l d i n e = acts (a T) c l (opens (T .view) (a T) (i T .0) .none) (ap writesBy d)
+  told-by c (freeing cs a) l d i n e = acts (a T) c l (frees-only (T .view) (a T) (R .sound) (i g T .0) .none) (ap writesBy d)
+  told-by c (placing r x k) l d i n e =
+      subst (λ z. Tracked (done (T .view) (writing g T r x k)) (h ++ (entry z (accepted l) ∷ []))) (sym i)
+      (write-told r x k l n (sym (ap (λ m. getD m 0 0) e)) (sym e ∙ ap (λ m. block g T k ∷ lib.ListN.drop 1 m) e))
+  told-by c marking l d i n e = looks c (accepted l) (no-write c (accepted l) (ap writesBy d))
+  told-by c renewing l d i n e = looks c (accepted l) (no-write c (accepted l) (ap writesBy d))
+
+  effect-told : (c : Call) (l : List ℕ) → NoneHolds (conditions g T c) → result g T c ≡ l → Tracked (effect g T c .view) (h ++ (entry c (accepted l) ∷ []))
+  effect-told c l n e = told-by c (account c) l refl (is c) n e
 
   pub told-step : (i : Screened) → Tracked (modelAfter g T i .view) (h ++ (entryOf (model g) T i ∷ []))
   unfolding modelAfter
@@ -188,18 +185,15 @@ module _ (g : Geometry) (inside : Inside g) (T : State) (R : Fine g T) (h : List
       let (j, e) = some-born (T .view .birth) bs b v (subst (Some (λ i. i ≡ born b v)) (born-paired (T .view .birth) bs) i) in
       subst (λ u. LastGave b u (h ++ (entry c A ∷ []))) e (kept-last b (T .view .birth b) h (entry c A) (λ q. n q j) (t b (p b j)))
 
-  -- of what is freed, and of what is read
+  -- of what is freed
   freed-held : (a : Action) → Asks (T .view) a → (d : ℕ) → In d (frees (T .view) a) → 0 < T .view .birth d
   freed-held a q d i = frees-is (T .view) a (R .sound) q d .0 i .0
 
-  read-held : (r x d : ℕ) → NoneHolds (conditions g T (Read r x)) → In d (onPage (T .view .page (slot T r) x)) → 0 < T .view .birth d
-  read-held r x d n i = R .sound .paged (slot T r) x d (named-slot g inside T R r (n .1 .0) .0) (on-page (T .view .page (slot T r) x) d i) .born
-
-  result-told : (c : Call) (l : List ℕ) (b v : ℕ) → NoneHolds (conditions g T c) → result g T c ≡ l →
-      Some (λ i. i ≡ born b v) (itemsOf (spelling c) (result g T c)) → LastGave b v (h ++ (entry c (accepted l) ∷ []))
+  -- a W's block, then what it freed
+  write-named : (r x k : ℕ) (l : List ℕ) (b v : ℕ) → NoneHolds (conditions g T (Write r x k)) → result g T (Write r x k) ≡ l →
+      Some (λ i. i ≡ born b v) (itemsOf Blocks (result g T (Write r x k))) → LastGave b v (h ++ (entry (Write r x k) (accepted l) ∷ []))
   unfolding itemsOf bornIn
-  result-told Begin l b v n e i = absurd (none-born (result g T Begin) b v i)
-  result-told (Write r x k) l b v n e i =
+  write-named r x k l b v n e i =
       let c = Write r x k in
       let q = asks-W g inside T R r x k n in
       let f : getD l 0 0 ≡ block g T k = sym (ap (λ m. getD m 0 0) e) in
@@ -212,21 +206,31 @@ module _ (g : Geometry) (inside : Inside g) (T : State) (R : Fine g T) (h : List
       named c (accepted l) (frees (T .view) (writing g T r x k)) b v
       (λ u m. other-given c l b u (λ o. let z : ⊥ = omega (arith, freed-held (writing g T r x k) q b m, ap (T .view .birth) (o ∙ f), q .4) in z))
       (freed-held (writing g T r x k) q) j)
-  result-told (Erase r x) l b v n e i =
-      named (Erase r x) (accepted l) (frees (T .view) (erasing T r x)) b v (λ u m. no-write (Erase r x) (accepted l) refl b u)
-      (freed-held (erasing T r x) (asks-E g inside T R r x n)) i
-  result-told (Seal r) l b v n e i = absurd (none-born (result g T (Seal r)) b v i)
-  result-told (Fork r) l b v n e i = absurd (none-born (result g T (Fork r)) b v i)
-  result-told (Delete r) l b v n e i =
-      named (Delete r) (accepted l) (frees (T .view) (deleting T r)) b v (λ u m. no-write (Delete r) (accepted l) refl b u)
-      (freed-held (deleting T r) (asks-D g inside T R r (n .0) (n .1 .0))) i
-  result-told (Read r x) l b v n e i =
-      named (Read r x) (accepted l) (onPage (T .view .page (slot T r) x)) b v (λ u m. no-write (Read r x) (accepted l) refl b u)
-      (λ d. read-held r x d n) i
-  result-told Barrier l b v n e i = absurd (none-born (result g T Barrier) b v i)
-  result-told Compress l b v n e i = absurd (none-born (result g T Compress) b v i)
-  result-told FreeList l b v n e i = absurd (none-born (result g T FreeList) b v i)
-  result-told (Estimate r) l b v n e i = absurd (none-born (result g T (Estimate r)) b v i)
+
+  -- a result of a call that gives no block, by its spelling
+  looked : (c : Call) (s : Spelling) (m l : List ℕ) (b v : ℕ) → writes c ≡ 0 → HeldIf T s m →
+      Some (λ i. i ≡ born b v) (itemsOf s m) → LastGave b v (h ++ (entry c (accepted l) ∷ []))
+  unfolding itemsOf
+  looked c Numbers m l b v z w i = absurd (none-born m b v i)
+  looked c Blocks m l b v z w i =
+      named c (accepted l) (w .these) b v (λ u j. no-write c (accepted l) z b u) (w .held) (subst (λ k. Some (λ i. i ≡ born b v) (bornIn k)) (sym (w .numbers)) i)
+
+  named-by : (c : Call) (A : Account) (l : List ℕ) (b v : ℕ) → account c ≡ A → Is c A → Fits g T c A → NoneHolds (refusalsBy g T A) → resultBy g T A ≡ l →
+      Some (λ i. i ≡ born b v) (itemsOf (spellingBy A) (resultBy g T A)) → LastGave b v (h ++ (entry c (accepted l) ∷ []))
+  unfolding itemsOf
+  named-by c (looking s cs res) l b v d i f n e o = looked c s (res g T) l b v (ap writesBy d) (f n .1) o
+  named-by c (opening cs a) l b v d i f n e o = absurd (none-born (resultBy g T (opening cs a)) b v o)
+  named-by c (freeing cs a) l b v d i f n e o =
+      looked c Blocks (freedWith T (a T)) l b v (ap writesBy d)
+      (record { these = frees (T .view) (a T); numbers = refl; held = freed-held (a T) (f (none-left (cs g T) _ n) .asks) }) o
+  named-by c (placing r x k) l b v d i f n e o =
+      subst (λ z. LastGave b v (h ++ (entry z (accepted l) ∷ []))) (sym i) (write-named r x k l b v n e o)
+  named-by c marking l b v d i f n e o = absurd o
+  named-by c renewing l b v d i f n e o = absurd (none-born (resultBy g T renewing) b v o)
+
+  result-told : (c : Call) (l : List ℕ) (b v : ℕ) → NoneHolds (conditions g T c) → result g T c ≡ l →
+      Some (λ i. i ≡ born b v) (itemsOf (spelling c) (result g T c)) → LastGave b v (h ++ (entry c (accepted l) ∷ []))
+  result-told c l b v n e i = named-by c (account c) l b v refl (is c) (fits g inside T R c) n e i
 
   next-told : (i : Screened) (b v : ℕ) → Names b v (entryOf (model g) T i) → LastGave b v (h ++ (entryOf (model g) T i ∷ []))
   next-told i b v (l, e, j) =

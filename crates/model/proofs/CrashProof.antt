@@ -25,23 +25,24 @@ use Rattle.model.specs.Book.{Some}
 use Rattle.model.specs.View.{View}
 use Rattle.model.specs.Lists.{In}
 use Rattle.model.specs.Sound.{Sound}
-use Rattle.model.specs.Actions.{Action, doB, doS, doF, Asks, done, vacant}
+use Rattle.model.specs.Actions.{Action, Asks, done}
 use Rattle.model.specs.Held.{held, frees}
 use Rattle.model.specs.State.{State}
-use Rattle.model.specs.Calls.{slot, block, writing, erasing, deleting, written, conditions, result, acted, given, effect}
+use Rattle.model.specs.Calls.{Account, looking, opening, freeing, placing, marking, renewing, account, refusalsBy, wordsBy, leftBy, freed, block, writing, conditions, result, acted, given, effect}
 use Rattle.model.specs.Layout.{stateOf}
 use Rattle.model.specs.Memory.{Memory, usedLog, wordsUsed, reply, makeReply, makeAfter}
 use Rattle.model.specs.SoundStore.{SoundStore}
-use Rattle.model.specs.History.{Event, give, Entry, entryOf, eventsOf, historyFrom, wasAccepted, syncs, synced?}
+use Rattle.model.specs.History.{Event, give, Entry, entryOf, eventsOf, historyFrom, wasAccepted, syncsBy, syncs, synced?}
 use Rattle.model.specs.HistoryFacts.{Synced, Gives}
 use Rattle.model.specs.Demand.{Own, withOut, ownStore, run}
 use Rattle.model.specs.Crash.{isC, compacts?, Compacts, Ended, entryAfter, usedAfter, heldAfter, startFrom, Cut, Crash}
 use Rattle.model.specs.declared.Call.{Call}
-use Rattle.model.specs.declared.Call.the-variants.{Begin, Write, Erase, Seal, Fork, Delete, Read, Barrier, Compress, FreeList, Estimate}
 use Rattle.model.proofs.ListFacts.{in-left, in-right}
 use Rattle.model.proofs.HeldFacts.{frees-is}
 use Rattle.model.proofs.ChoiceFacts.{given-block}
-use Rattle.model.proofs.Fine.{Fine, not-zero, asks-W, asks-E, asks-S, asks-F, asks-D}
+use Rattle.model.proofs.CallKinds.{none-left}
+use Rattle.model.proofs.EachCall.{Fits, fits}
+use Rattle.model.proofs.Fine.{Fine, asks-W}
 use Rattle.model.proofs.MadeFacts.{made-zero}
 use Rattle.model.proofs.AfterBarrier.{GaveBy, gave-by, same-first}
 use Rattle.model.proofs.Keeps.{sound-fine, accepted-state, calls-keep-sound, making-is, made-tables, fresh-is-sound}
@@ -337,19 +338,17 @@ module _ (g : Geometry) (inside : Inside g) where
     abbrev Kept : State → Type 0
     Kept U = (0 < U .view .birth b) ⊎ In b (U .waiting)
 
-    stays : (c : Call) → NoneHolds (conditions g T c) → syncs c ≡ false → Kept T → Kept (effect g T c)
+    stays-by : (c : Call) (A : Account) → Fits g T c A → NoneHolds (refusalsBy g T A) → syncsBy A ≡ false → Kept T → Kept (leftBy g T A)
     unfolding given
-    stays Begin n e o = acted-stays T doB 0 b (R .sound) (not-zero (vacant (T .view)) (n .0)) o
-    stays (Write r x k) n e o = acted-stays T (writing g T r x k) (length (written g T (Write r x k))) b (R .sound) (asks-W g inside T R r x k n) o
-    stays (Erase r x) n e o = acted-stays T (erasing T r x) (length (written g T (Erase r x))) b (R .sound) (asks-E g inside T R r x n) o
-    stays (Seal r) n e o = acted-stays T (doS (slot T r)) 0 b (R .sound) (asks-S g inside T R r n) o
-    stays (Fork r) n e o = acted-stays T (doF (slot T r)) 0 b (R .sound) (asks-F g inside T R r n) o
-    stays (Delete r) n e o = acted-stays T (deleting T r) (length (written g T (Delete r))) b (R .sound) (asks-D g inside T R r (n .0) (n .1 .0)) o
-    stays (Read r x) n e o = o
-    stays Barrier n e o = absurd (false≢true (sym e))
-    stays Compress n e o = absurd (false≢true (sym e))
-    stays FreeList n e o = o
-    stays (Estimate r) n e o = o
+    stays-by c (looking s cs res) f n e o = o
+    stays-by c (opening cs a) f n e o = acted-stays T (a T) 0 b (R .sound) (f n .asks) o
+    stays-by c (freeing cs a) f n e o = acted-stays T (a T) (length (freed T (a T))) b (R .sound) (f (none-left (cs g T) _ n) .asks) o
+    stays-by c (placing r x j) f n e o = acted-stays T (writing g T r x j) (length (wordsBy g T (placing r x j))) b (R .sound) (asks-W g inside T R r x j n) o
+    stays-by c marking f n e o = absurd (false≢true (sym e))
+    stays-by c renewing f n e o = absurd (false≢true (sym e))
+
+    stays : (c : Call) → NoneHolds (conditions g T c) → syncs c ≡ false → Kept T → Kept (effect g T c)
+    stays c n e o = stays-by c (account c) (fits g inside T R c) n e o
 
     -- and it is not given
     not-given : (c : Call) (l : List ℕ) → NoneHolds (conditions g T c) → result g T c ≡ l → Kept T → GaveBy b c (accepted l) → ⊥

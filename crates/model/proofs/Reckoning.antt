@@ -11,12 +11,13 @@ use Rattle.geometry.specs.declared.Geometry.{Geometry}
 use Rattle.model.specs.Lists.{elem}
 use Rattle.model.specs.Held.{waits, frees}
 use Rattle.model.specs.State.{State, fresh}
-use Rattle.model.specs.Calls.{writing, erasing, deleting, acted, given, logged, result, effect}
-use Rattle.model.specs.History.{Machine, Event, give, free, Entry, entryOf, eventsOf, stateFrom, historyFrom, wasAccepted, freedAmong, syncs, synced?, unsyncedAfter, unsyncedFrom, unsynced}
+use Rattle.model.specs.Calls.{Account, looking, opening, freeing, placing, marking, renewing, account, leftBy, writing, acted, given, logged, result, effect}
+use Rattle.model.specs.History.{Machine, Event, give, free, Entry, entryOf, eventsOf, stateFrom, historyFrom, wasAccepted, freedAmong, syncsBy, syncs, synced?, unsyncedAfter, unsyncedFrom, unsynced}
 use Rattle.model.specs.Model.{Screened, answer, keepOr, modelAfter, model, stateAfter, history}
-use Rattle.model.specs.Births.{moves}
+use Rattle.model.specs.Births.{movesBy, moves}
 use Rattle.model.specs.declared.Call.{Call}
-use Rattle.model.specs.declared.Call.the-variants.{Begin, Write, Erase, Seal, Fork, Delete, Read, Barrier, Compress, FreeList, Estimate}
+use Rattle.model.proofs.CallKinds.{opens}
+use Rattle.model.proofs.EachCall.{Is, is}
 use Rattle.model.proofs.StepFacts.{events-are}
 use Rattle.model.proofs.ModelFacts.{accepted-is}
 use Rattle.model.proofs.Waiting.{elem-append}
@@ -35,20 +36,19 @@ joins T b l = elem-append b (T .waiting) l ∙ ap (λ t. elem b (T .waiting) || 
 same-or : (T : State) (b : ℕ) → elem b (T .waiting) ≡ (elem b (T .waiting) || false)
 same-or T b = sym (or-false (elem b (T .waiting)))
 
+waits-by : (g : Geometry) (T : State) (c : Call) (A : Account) → Is c A → (b : ℕ) →
+    waits (leftBy g T A) b ≡ cond (syncsBy A) false (waits T b || freedAmong b (movesBy g T A))
+unfolding waits acted given logged elem
+waits-by g T c (looking s cs res) f b = same-or T b
+waits-by g T c (opening cs a) f b = ap (λ l. elem b (T .waiting ++ l)) (opens (T .view) (a T) (f T .0) .empty) ∙ joins T b []
+waits-by g T c (freeing cs a) f b = joins T b (frees (T .view) (a T))
+waits-by g T c (placing r x k) f b = joins T b (frees (T .view) (writing g T r x k))
+waits-by g T c marking f b = refl
+waits-by g T c renewing f b = refl
+
 effect-waits : (g : Geometry) (T : State) (c : Call) (b : ℕ) →
     waits (effect g T c) b ≡ cond (syncs c) false (waits T b || freedAmong b (moves g T c))
-unfolding waits acted given logged elem
-effect-waits g T Begin b = joins T b []
-effect-waits g T (Write r x k) b = joins T b (frees (T .view) (writing g T r x k))
-effect-waits g T (Erase r x) b = joins T b (frees (T .view) (erasing T r x))
-effect-waits g T (Seal r) b = joins T b []
-effect-waits g T (Fork r) b = joins T b []
-effect-waits g T (Delete r) b = joins T b (frees (T .view) (deleting T r))
-effect-waits g T (Read r x) b = same-or T b
-effect-waits g T Barrier b = refl
-effect-waits g T Compress b = refl
-effect-waits g T FreeList b = same-or T b
-effect-waits g T (Estimate r) b = same-or T b
+effect-waits g T c b = waits-by g T c (account c) (is c) b
 
 step-waits : (g : Geometry) (T : State) (i : Screened) (b : ℕ) → waits (modelAfter g T i) b ≡ unsyncedAfter (waits T) (entryOf (model g) T i) b
 unfolding modelAfter

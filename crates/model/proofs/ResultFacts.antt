@@ -1,9 +1,11 @@
 -- Blocks with their births, as numbers and as items.
-use mathlib.Core.Path.{_≡_, refl, ap, _∙_}
+use mathlib.Core.Path.{_≡_, refl, sym, ap, _∙_}
 use mathlib.Core.List.{List, [], _∷_, _++_, map}
-use Prim.Native.Nat.{ℕ, _*_}
+use Prim.Native.Nat.{ℕ, zero, suc, _*_}
 use native.Mathlib.Omega.{arith}
 use lib.ListN.{length}
+use Rattle.answer.proofs.Cases.{cases}
+use Rattle.model.specs.Lists.{In, onPage}
 use Rattle.model.specs.Results.{paired, blocksIn, born, bornIn, numbersOf}
 
 -- the blocks of blocks with their births
@@ -42,3 +44,9 @@ pub numbers-born : (f : ℕ → ℕ) (l : List ℕ) → numbersOf (map (λ b. bo
 unfolding numbersOf paired
 numbers-born f [] = refl
 numbers-born f (b ∷ l) = ap (λ m. b ∷ f b ∷ m) (numbers-born f l)
+
+-- the block of a page
+pub on-page : (p b : ℕ) → In b (onPage p) → p ≡ suc b
+unfolding onPage
+on-page zero b i = absurd i
+on-page (suc c) b i = cases i (λ e. ap suc (sym e)) (λ j. absurd j)

@@ -12,28 +12,28 @@ use Rattle.model.specs.Results.{paired, blocksIn}
 use Rattle.model.specs.SoundMeans.{On}
 use Rattle.model.specs.Held.{frees}
 use Rattle.model.specs.State.{State}
-use Rattle.model.specs.Calls.{block, writing, erasing, deleting, result}
+use Rattle.model.specs.Calls.{Account, looking, opening, freeing, placing, marking, renewing, account, block, writing, result}
 use Rattle.model.specs.Layout.{viewOf}
 use Rattle.model.specs.Memory.{Memory, wordsUsed, reply, after}
 use Rattle.model.specs.History.{Event, give, free, eventsOf}
 use Rattle.model.specs.declared.Call.{Call}
-use Rattle.model.specs.declared.Call.the-variants.{Begin, Write, Erase, Seal, Fork, Delete, Read, Barrier, Compress, FreeList, Estimate}
+use Rattle.model.specs.declared.Spelling.{Spelling}
+use Rattle.model.specs.declared.Spelling.the-variants.{Numbers, Blocks}
+use Rattle.model.specs.declared.Call.the-variants.{Compress}
 
 -- ── the events read off a result are the blocks, not their births ──
 
 -- the blocks that a call gives and frees
+abbrev pub movesBy : Geometry → State → Account → List Event
+movesBy g T (looking s cs res) = []
+movesBy g T (opening cs a) = []
+movesBy g T (freeing cs a) = map free (frees (T .view) (a T))
+movesBy g T (placing r x k) = give (block g T k) ∷ map free (frees (T .view) (writing g T r x k))
+movesBy g T marking = []
+movesBy g T renewing = []
+
 abbrev pub moves : Geometry → State → Call → List Event
-moves g T Begin = []
-moves g T (Write r x k) = give (block g T k) ∷ map free (frees (T .view) (writing g T r x k))
-moves g T (Erase r x) = map free (frees (T .view) (erasing T r x))
-moves g T (Seal r) = []
-moves g T (Fork r) = []
-moves g T (Delete r) = map free (frees (T .view) (deleting T r))
-moves g T (Read r x) = []
-moves g T Barrier = []
-moves g T Compress = []
-moves g T FreeList = []
-moves g T (Estimate r) = []
+moves g T c = movesBy g T (account c)
 
 abbrev pub EventsAre : Type 0
 EventsAre = (g : Geometry) (T : State) (c : Call) → eventsOf c (accepted (result g T c)) ≡ moves g T c
@@ -63,18 +63,20 @@ pub record GivesFirst (K L : View) (r : ℕ) (l : List ℕ) : Type 0 where
   pub birth : L .birth first ≡ r
   pub freed : WithBirths K rest
 
+abbrev pub Spelled : View → Spelling → List ℕ → Type 0
+Spelled K Numbers l = Unit {0}
+Spelled K Blocks l = WithBirths K l
+
+abbrev pub NamedAs : View → View → Account → List ℕ → Type 0
+NamedAs K L (looking s cs res) l = Spelled K s l
+NamedAs K L (opening cs a) l = Unit {0}
+NamedAs K L (freeing cs a) l = WithBirths K l
+NamedAs K L (placing r x k) l = GivesFirst K L r l
+NamedAs K L marking l = Unit {0}
+NamedAs K L renewing l = Unit {0}
+
 abbrev pub NamedBy : View → View → Call → List ℕ → Type 0
-NamedBy K L (Write r x k) l = GivesFirst K L r l
-NamedBy K L (Erase r x) l = WithBirths K l
-NamedBy K L (Delete r) l = WithBirths K l
-NamedBy K L (Read r x) l = WithBirths K l
-NamedBy K L Begin l = Unit {0}
-NamedBy K L (Seal r) l = Unit {0}
-NamedBy K L (Fork r) l = Unit {0}
-NamedBy K L Barrier l = Unit {0}
-NamedBy K L Compress l = Unit {0}
-NamedBy K L FreeList l = Unit {0}
-NamedBy K L (Estimate r) l = Unit {0}
+NamedBy K L c l = NamedAs K L (account c) l
 
 abbrev pub BirthsInResults : Type 0
 BirthsInResults = (g : Geometry) (M : Memory) (c : Call) (l : List ℕ) → reply g M c ≡ accepted l →
@@ -83,19 +85,20 @@ BirthsInResults = (g : Geometry) (M : Memory) (c : Call) (l : List ℕ) → repl
 -- ── "log bytes keep their old form" ──
 
 -- the words that a call writes, by the blocks of its result alone; C apart, which writes the log anew
+abbrev pub wordsOfW : List ℕ → List ℕ
+wordsOfW [] = []
+wordsOfW (b ∷ freed) = allocated b ∷ map released freed
+
+abbrev pub wordsAs : Account → List ℕ → List ℕ
+wordsAs (looking s cs res) l = []
+wordsAs (opening cs a) l = []
+wordsAs (freeing cs a) l = map released l
+wordsAs (placing r x k) l = wordsOfW l
+wordsAs marking l = barrier ∷ []
+wordsAs renewing l = []
+
 abbrev pub wordsFor : Call → List ℕ → List ℕ
-wordsFor (Write r x k) [] = []
-wordsFor (Write r x k) (b ∷ freed) = allocated b ∷ map released freed
-wordsFor (Erase r x) freed = map released freed
-wordsFor (Delete r) freed = map released freed
-wordsFor Barrier l = barrier ∷ []
-wordsFor Begin l = []
-wordsFor (Seal r) l = []
-wordsFor (Fork r) l = []
-wordsFor (Read r x) l = []
-wordsFor Compress l = []
-wordsFor FreeList l = []
-wordsFor (Estimate r) l = []
+wordsFor c l = wordsAs (account c) l
 
 abbrev pub LogAsBefore : Type 0
 LogAsBefore = (g : Geometry) (M : Memory) (c : Call) (l : List ℕ) → (c ≡ Compress → ⊥) → reply g M c ≡ accepted l →

@@ -13,6 +13,7 @@ use Rattle.geometry.specs.Limits.{blocks}
 use Rattle.log.specs.Marks.{passing}
 use Rattle.log.specs.Tool.{readReply}
 use Rattle.model.specs.Held.{held}
+use Rattle.model.specs.Calls.{account, renews}
 use Rattle.model.specs.Layout.{stateOf}
 use Rattle.model.specs.Memory.{Memory, wordsUsed, makeReply, makeAfter}
 use Rattle.model.specs.Book.{Some}
@@ -20,21 +21,11 @@ use Rattle.model.specs.History.{Entry, entryOf, historyFrom, wasAccepted
 use Rattle.model.specs.HistoryFacts.{Synced, Gives}
 use Rattle.model.specs.Demand.{Own, ownStore, run}
 use Rattle.model.specs.declared.Call.{Call}
-use Rattle.model.specs.declared.Call.the-variants.{Begin, Write, Erase, Seal, Fork, Delete, Read, Barrier, Compress, FreeList, Estimate}
+use Rattle.model.specs.declared.Call.the-variants.{Barrier}
 
 -- an accepted C, and an accepted Y
 abbrev pub isC : Call → Bool
-isC Begin = false
-isC (Write r x k) = false
-isC (Erase r x) = false
-isC (Seal r) = false
-isC (Fork r) = false
-isC (Delete r) = false
-isC (Read r x) = false
-isC Barrier = false
-isC Compress = true
-isC FreeList = false
-isC (Estimate r) = false
+isC c = renews (account c)
 
 abbrev pub compacts? : Entry → Bool
 compacts? e = wasAccepted (e .answer) && isC (e .call)

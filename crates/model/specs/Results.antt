@@ -2,8 +2,6 @@
 -- In the result buffer the numbers of a result stand one behind another; its spelling says which of them are blocks with their births.
 use mathlib.Core.List.{List, [], _∷_, map}
 use Prim.Native.Nat.{ℕ}
-use Rattle.model.specs.declared.Call.{Call}
-use Rattle.model.specs.declared.Call.the-variants.{Begin, Write, Erase, Seal, Fork, Delete, Read, Barrier, Compress, FreeList, Estimate}
 use Rattle.model.specs.declared.Spelling.{Spelling}
 use Rattle.model.specs.declared.Spelling.the-variants.{Numbers, Blocks}
 
@@ -42,19 +40,3 @@ unfoldable pub numbersOf : List Item → List ℕ
 numbersOf [] = []
 numbersOf (plain n ∷ l) = n ∷ numbersOf l
 numbersOf (born b v ∷ l) = b ∷ v ∷ numbersOf l
-
--- ── of each call ──
-
--- W, E, D and R name blocks, each with its birth; "L's runs … apart" (3.13), and the other results have none
-abbrev pub spelling : Call → Spelling
-spelling Begin = Numbers
-spelling (Write r x k) = Blocks
-spelling (Erase r x) = Blocks
-spelling (Seal r) = Numbers
-spelling (Fork r) = Numbers
-spelling (Delete r) = Blocks
-spelling (Read r x) = Blocks
-spelling Barrier = Numbers
-spelling Compress = Numbers
-spelling FreeList = Numbers
-spelling (Estimate r) = Numbers

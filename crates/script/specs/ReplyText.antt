@@ -11,7 +11,8 @@ use Rattle.answer.specs.declared.Answer.the-variants.{Done, Refused}
 use Rattle.answer.specs.Reply.{Reply, accepted, refused}
 use Rattle.model.specs.declared.Spelling.{Spelling}
 use Rattle.model.specs.declared.Spelling.the-variants.{Numbers, Blocks}
-use Rattle.model.specs.Results.{Item, plain, born, itemsOf, numbersOf, spelling}
+use Rattle.model.specs.Results.{Item, plain, born, itemsOf, numbersOf}
+use Rattle.model.specs.Calls.{spelling}
 use Rattle.script.specs.declared.parse.Parsed.{Parsed}
 use Rattle.script.specs.declared.parse.Parsed.the-variants.{Store, Asks, No}
 use Rattle.script.specs.Decimal.{led}

@@ -1,5 +1,6 @@
 -- What a call leaves is as long as what it was lent: the words it writes fit the log.
 use mathlib.Core.Path.{_≡_, refl, sym, ap, _∙_}
+use mathlib.Core.Bool.{cond}
 use mathlib.Core.List.{List, []}
 use Prim.Native.Nat.{ℕ, _+_, _*_, _-_, _≤_}
 use native.Mathlib.Omega.{arith}
@@ -12,11 +13,11 @@ use Rattle.geometry.specs.declared.Geometry.{Geometry}
 use Rattle.log.specs.Word.{writeAt, bytesOf}
 use Rattle.log.proofs.Writing.{length-write, length-bytes}
 use Rattle.model.specs.State.{State, InRange}
-use Rattle.model.specs.Calls.{compressed, conditions, result, written, effect}
+use Rattle.model.specs.Calls.{Account, looking, opening, freeing, placing, marking, renewing, account, refusalsBy, renews, wordsBy, freed, compressed, conditions, result, written, effect}
 use Rattle.model.specs.Layout.{stateOf, stored, made}
 use Rattle.model.specs.Memory.{Memory, writtenAt, reply, after, makeReply, makeAfter}
 use Rattle.model.specs.declared.Call.{Call}
-use Rattle.model.specs.declared.Call.the-variants.{Begin, Write, Erase, Seal, Fork, Delete, Read, Barrier, Compress, FreeList, Estimate}
+use Rattle.model.proofs.CallKinds.{none-right}
 use Rattle.model.proofs.LayoutFacts.{stored-length}
 use Rattle.model.proofs.MadeFacts.{made-length}
 use Rattle.model.proofs.Keeps.{accepted-is}
@@ -29,18 +30,17 @@ module _ (g : Geometry) (T : State) (R : InRange g T) where
   nothing : 8 * T .used + length (bytesOf []) ≤ 8 * g .words
   nothing = behind [] (omega arith)
 
+  fit-by : (A : Account) → NoneHolds (refusalsBy g T A) → cond (renews A) 0 (8 * T .used) + length (bytesOf (wordsBy g T A)) ≤ 8 * g .words
+  fit-by (looking s cs res) n = nothing
+  fit-by (opening cs a) n = nothing
+  fit-by (freeing cs a) n = behind (freed T (a T)) (ltb-false (g .words - T .used) (length (freed T (a T))) (none-right (cs g T) _ n .0))
+  fit-by (placing r x k) n =
+      behind (wordsBy g T (placing r x k)) (ltb-false (g .words - T .used) (length (wordsBy g T (placing r x k))) (n .1 .1 .1 .1 .1 .0))
+  fit-by marking n = behind (wordsBy g T marking) (ltb-false (g .words - T .used) 1 (n .0))
+  fit-by renewing n = omega (arith, length-bytes (compressed g T), ltb-false (g .words) (length (compressed g T)) (n .0))
+
   words-fit : (c : Call) → NoneHolds (conditions g T c) → writtenAt T c + length (bytesOf (written g T c)) ≤ 8 * g .words
-  words-fit Begin n = nothing
-  words-fit (Write r x k) n = behind (written g T (Write r x k)) (ltb-false (g .words - T .used) (length (written g T (Write r x k))) (n .1 .1 .1 .1 .1 .0))
-  words-fit (Erase r x) n = behind (written g T (Erase r x)) (ltb-false (g .words - T .used) (length (written g T (Erase r x))) (n .1 .1 .1 .0))
-  words-fit (Seal r) n = nothing
-  words-fit (Fork r) n = nothing
-  words-fit (Delete r) n = behind (written g T (Delete r)) (ltb-false (g .words - T .used) (length (written g T (Delete r))) (n .1 .1 .0))
-  words-fit (Read r x) n = nothing
-  words-fit Barrier n = behind (written g T Barrier) (ltb-false (g .words - T .used) 1 (n .0))
-  words-fit Compress n = omega (arith, length-bytes (compressed g T), ltb-false (g .words) (length (compressed g T)) (n .0))
-  words-fit FreeList n = nothing
-  words-fit (Estimate r) n = nothing
+  words-fit c n = fit-by (account c) n
 
 module _ (g : Geometry) (M : Memory) (c : Call) where
   abbrev T : State
