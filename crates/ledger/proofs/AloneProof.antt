@@ -1,37 +1,32 @@
 -- Demand 3 and the two facts, of the ledger alone: its answers and histories are those of the model, whose proofs they carry over.
 use mathlib.Core.Path.{_≡_, refl, sym, ap, ap₂, _∙_, subst}
 use mathlib.Core.Logic.{_⊎_, _↔_}
-use mathlib.Core.Bool.{true, false, not}
+use mathlib.Core.Bool.{true, false}
 use mathlib.Core.List.{List, [], _∷_, _++_, map}
 use Prim.Native.Nat.{ℕ, _+_}
-use native.Mathlib.Omega.{arith}
-use lib.Dec.{eqb}
 use Rattle.answer.specs.Reply.{Reply, accepted, refused}
 use Rattle.answer.specs.Refusal.{leaves, NoneBefore}
 use Rattle.answer.proofs.Decided.{decide-accepted}
 use Rattle.geometry.specs.declared.Geometry.{Geometry}
 use Rattle.geometry.specs.Limits.{Inside, blocks}
-use Rattle.model.specs.Actions.{slotOf}
-use Rattle.model.specs.Calls.{slot}
+use Rattle.model.specs.Calls.{result}
 use Rattle.model.specs.Book.{Book, OnPage, accept, enter}
-use Rattle.model.specs.Results.{blocksIn, numbersOf}
+use Rattle.model.specs.Results.{numbersOf}
 use Rattle.model.specs.State.{State, fresh}
 use Rattle.model.specs.History.{Entry, eventsOf, events, firstGiven, entryOf, told, bookFrom, book, stateFrom, historyFrom, unsynced}
 use Rattle.model.specs.HistoryFacts.{HistoryFacts, givenIn, freedIn, different, Sealed, Names, LastGave}
 use Rattle.model.specs.Model.{Screened, screenedConditions, answer, modelAfter, model}
 use Rattle.model.specs.declared.Call.{Call}
-use Rattle.model.specs.declared.Call.the-variants.{Write}
+use Rattle.model.proofs.ByNumber.{earlier-iff}
+use Rattle.model.proofs.ModelFacts.{all-ordered}
 use Rattle.model.proofs.Fine.{Fine}
 use Rattle.model.proofs.StepFacts.{fresh-fine}
 use Rattle.model.proofs.WholeList.{WholeList, each-list}
 use Rattle.model.proofs.WholeListProof.{whole-list}
 use Rattle.model.proofs.HistoryFactsProof.{history-facts}
-use Rattle.ledger.specs.BookReading.{isThere, mayBeWritten}
-use Rattle.ledger.specs.Ledger.{Ledger, account, refusalsOf, says, blockGiven, keeps, step}
+use Rattle.ledger.specs.Ledger.{Ledger, account, refusalsOf, says, keeps, step}
 use Rattle.ledger.specs.Alone.{clerk, LedgerDemand, LedgerBook}
 use Rattle.ledger.proofs.Tells.{Tells, fresh-tells}
-use Rattle.ledger.proofs.CallsTold.{there-told}
-use Rattle.ledger.proofs.KillTold.{sealed-told}
 use Rattle.ledger.proofs.ToldProof.{plain, plain-told, noted-step, after-told}
 
 -- ── the book inside the ledger is the book ──
@@ -58,7 +53,7 @@ ledger-book g l = book-from g l Rattle.ledger.specs.Ledger.fresh
 
 -- ── beside the model: the calls are those that meet none of 2, 3 and 4 ──
 
-abbrev plains : List Call → List Screened
+abbrev pub plains : List Call → List Screened
 plains l = map plain l
 
 plains-append : (l m : List Call) → plains (l ++ m) ≡ plains l ++ plains m
@@ -79,22 +74,15 @@ module _ (g : Geometry) (inside : Inside g) where
       let d : entryOf (model g) T (plain c) ≡ entryOf (clerk g) L c = λ i. record { call = c; answer = e i } in
       (r .0, r .1, ap₂ {C = List Entry} (λ x m. x ∷ m) d (r .2))
 
-  -- what W meets before 13, by the ledger and by the model
-  none-told : (L : Ledger) (T : State) → Fine g T → Tells g L T → (r x k : ℕ) →
-      NoneBefore 13 (screenedConditions g T (plain (Write r x k))) ↔ NoneBefore 13 (refusalsOf g L (Write r x k))
-  unfolding account
-  none-told L T fine t r x k =
-      let there : not (isThere (L .book) r) ≡ eqb (slotOf (T .view) r) 0 = there-told (T .view) (L .book) r (fine .sound) (t .book) in (
-        λ h.
-            let m = h .1 .1 .1 in
-            let n : eqb (slotOf (T .view) r) 0 ≡ false = m .1 .1 .0 (omega arith) in
-            let nine : not (mayBeWritten (L .book) r) ≡ false = sealed-told g L T inside fine t r n ∙ m .1 .1 .1 .0 (omega arith) in
-            (m .0, (m .1 .0, (λ h. there ∙ n, (λ h. nine, (λ h. absurd (omega arith), (λ h. absurd (omega arith), tt)))))),
-        λ m.
-            let n : eqb (slotOf (T .view) r) 0 ≡ false = sym there ∙ m .1 .1 .0 (omega arith) in
-            let nine : eqb (T .view .isOpen (slot T r)) 0 ≡ false = sym (sealed-told g L T inside fine t r n) ∙ m .1 .1 .1 .0 (omega arith) in
-            (λ h. refl, (λ h. refl, (λ h. refl, (m .0, (m .1 .0, (λ h. n, (λ h. nine, (λ h. absurd (omega arith), (λ h. absurd (omega arith), tt))))))))),
-      )
+  -- what a call meets before 13, by the ledger and by the model: it is read off the reply, which is the same
+  none-told : (L : Ledger) (T : State) → Fine g T → Tells g L T → (c : Call) →
+      NoneBefore 13 (screenedConditions g T (plain c)) ↔ NoneBefore 13 (refusalsOf g L c)
+  unfolding answer says
+  none-told L T fine t c =
+      let same : answer g T (plain c) ≡ says g L c = plain-told g inside c L T fine t in
+      let m = earlier-iff (screenedConditions g T (plain c)) (result g T c) 1 (all-ordered g T (plain c)) 13 in
+      let l = earlier-iff (refusalsOf g L c) (numbersOf (account g L c .result)) 4 (Rattle.ledger.proofs.EachTold.told c .ordered g L) 13 in
+      (λ h. l .1 (λ n e d. m .0 h n e (same ∙ d)), λ h. m .1 (λ n e d. l .0 h n e (sym same ∙ d)))
 
   -- what the calls ahead of one lead to
   module _ (before : List Call) where
@@ -110,10 +98,6 @@ module _ (g : Geometry) (inside : Inside g) where
     same-answer : (c : Call) → answer g T (plain c) ≡ says g L c
     same-answer c = plain-told g inside c L T (side .0) (side .1)
 
-    same-none : (c : Call) (r x k : ℕ) → c ≡ Write r x k → NoneBefore 13 (screenedConditions g T (plain c)) ↔ NoneBefore 13 (refusalsOf g L c)
-    same-none c r x k e =
-        subst (λ (d : Call). NoneBefore 13 (screenedConditions g T (plain d)) ↔ NoneBefore 13 (refusalsOf g L d)) (sym e) (none-told L T (side .0) (side .1) r x k)
-
     whole : WholeList (clerk g) (g .pages) (blocks g) Rattle.ledger.specs.Ledger.fresh before
     whole =
         let W = whole-list g inside (plains before) in
@@ -121,7 +105,7 @@ module _ (g : Geometry) (inside : Inside g) where
         record {
           full = λ w r x k e.
               let i = W .full (plain w) r x k e in
-              let n = same-none w r x k e in (
+              let n = none-told L T (side .0) (side .1) w in (
                 λ a. let q = i .0 (same-answer w ∙ a) in (n .0 (q .0), λ b l. subst (λ h. OnPage (book (g .pages) h) b ⊎ (unsynced h b ≡ true)) H (q .1 b l)),
                 λ q. sym (same-answer w) ∙ i .1 (n .1 (q .0), λ b l. subst (λ h. OnPage (book (g .pages) h) b ⊎ (unsynced h b ≡ true)) (sym H) (q .1 b l)),
               );

@@ -1,6 +1,6 @@
 -- WHAT THE LEDGER OWES OF EACH CALL, in one place: a clause in `told`. All that is said of every call elsewhere goes by it, or by the call's kind.
 use mathlib.Core.Path.{_≡_, refl, sym, ap, _∙_, subst}
-use mathlib.Core.Bool.{false, cond}
+use mathlib.Core.Bool.{cond}
 use mathlib.Core.List.{List, [], _∷_, _++_, map, flatMap}
 use Prim.Native.Nat.{ℕ}
 use native.Mathlib.Omega.{arith}
@@ -20,10 +20,12 @@ use Rattle.model.specs.Crash.{isC}
 use Rattle.model.specs.declared.Spelling.{Spelling}
 use Rattle.model.specs.declared.Call.{Call}
 use Rattle.model.specs.declared.Call.the-variants.{Begin, Write, Erase, Seal, Fork, Delete, Read, Barrier, Compress, FreeList, Estimate}
+use Rattle.model.proofs.ByNumber.{none-at}
 use Rattle.model.proofs.Fine.{Fine}
 use Rattle.model.proofs.EachCall.{Is, is}
 use Rattle.ledger.specs.BookReading.{blockOn}
-use Rattle.ledger.specs.Ledger.{Ledger, withBirths, isFree, young, freedBy, picked, runsIn, afterKill, afterGiving, afterDelete, afterClearing, account, refusalsOf, blockGiven, keeps}
+use Rattle.ledger.specs.Ledger.{Ledger, withBirths, isFree, young, freedBy, picked, runsIn, afterKill, afterGiving, afterDelete, afterClearing}
+use Rattle.ledger.specs.Ledger.{account, refusalsOf, blockGiven, keeps}
 use Rattle.ledger.proofs.Tells.{Tells, Answered, Keeping, unmoved, still-told, list-answered}
 use Rattle.ledger.proofs.CallsTold.{barrier-answered, barrier-kept, compress-answered, compress-kept, compressed-told, read-answered}
 use Rattle.ledger.proofs.KillTold.{kill-told, erase-answered}
@@ -57,7 +59,8 @@ pub record Told (c : Call) : Type 0 where
   pub items : Spells c
   -- the book is told the block that a W gave, and reads it for no other call
   pub block : (g : Geometry) (L : Ledger) (B : Book) →
-      accept (g .pages) B c (blockGiven (account g L c .result)) ≡ accept (g .pages) B c (firstGiven (eventsOf c (accepted (numbersOf (account g L c .result)))))
+      accept (g .pages) B c (blockGiven (account g L c .result)) ≡
+      accept (g .pages) B c (firstGiven (eventsOf c (accepted (numbersOf (account g L c .result)))))
   pub ordered : InOrder c
 
 -- ── a call that looks only ──
@@ -66,7 +69,8 @@ pub record Told (c : Call) : Type 0 where
 abbrev pub Still : Call → Type 0
 Still c = (g : Geometry) (L : Ledger) → (account g L c .words ≡ []) × (account g L c .leaving ≡ L)
 
-module _ (c : Call) {s : Spelling} {cs : Geometry → State → List Condition} {res : Geometry → State → List ℕ} (e : model.account c ≡ looking s cs res) (z : Still c) where
+module _ (c : Call) {s : Spelling} {cs : Geometry → State → List Condition} {res : Geometry → State → List ℕ}
+    (e : model.account c ≡ looking s cs res) (z : Still c) where
   -- the book does not read it
   unread : (P : ℕ) (B : Book) (b : ℕ) → accept P B c b ≡ B
   unread = subst (Is c) e (is c) .0
@@ -125,7 +129,7 @@ told Begin = record {
 told (Write r x k) = record {
   answered = write-answered r x k;
   keeping = write-kept r x k;
-  words = λ g L T inside fine t n. rw (kill-told g L T inside fine t r x (n .1 .1 .0), picked-told g L T inside t k);
+  words = λ g L T inside fine t n. rw (kill-told g L T inside fine t r x (none-at (conditions g T (Write r x k)) n 8), picked-told g L T inside t k);
   log = λ g L. refl;
   items = λ g L. ap {B = List Item} (λ l. born (picked g L k) r ∷ l) (items-born L (keepIf (young L r) (blockOn (L .book) r x)));
   block = λ g L B. refl;
@@ -134,7 +138,7 @@ told (Write r x k) = record {
 told (Erase r x) = record {
   answered = erase-answered r x;
   keeping = erase-kept r x;
-  words = λ g L T inside fine t n. ap (map released) (kill-told g L T inside fine t r x (n .1 .0));
+  words = λ g L T inside fine t n. ap (map released) (kill-told g L T inside fine t r x (none-at (conditions g T (Erase r x)) n 8));
   log = λ g L. refl;
   items = λ g L. items-born L (keepIf (young L r) (blockOn (L .book) r x));
   block = λ g L B. refl;
@@ -161,7 +165,7 @@ told (Fork r) = record {
 told (Delete r) = record {
   answered = delete-answered r;
   keeping = delete-kept r;
-  words = λ g L T inside fine t n. ap (map released) (freed-told g L T inside fine t r (n .0));
+  words = λ g L T inside fine t n. ap (map released) (freed-told g L T inside fine t r (none-at (conditions g T (Delete r)) n 8));
   log = λ g L. refl;
   items = λ g L. items-born L (freedBy g L r);
   block = λ g L B. refl;

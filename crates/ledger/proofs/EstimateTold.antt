@@ -24,10 +24,10 @@ use Rattle.model.proofs.Fine.{Fine}
 use Rattle.model.proofs.ListFacts.{keep-append}
 use Rattle.model.proofs.Tally.{tally-ext}
 use Rattle.ledger.specs.BookReading.{isThere, following}
-use Rattle.ledger.specs.Ledger.{Ledger, rising, shardOf, shardsIf, account, says, keeps}
+use Rattle.ledger.specs.Ledger.{Ledger, rising, shardOf, shardsIf, account, says}
 use Rattle.ledger.proofs.BookRead.{Reading}
 use Rattle.ledger.proofs.RisingFacts.{rising-cut}
-use Rattle.ledger.proofs.Tells.{Tells, Answered, Keeping, still-told}
+use Rattle.ledger.proofs.Tells.{Tells, Answered}
 use Rattle.ledger.proofs.CallsTold.{there-told, slot-told}
 use Rattle.ledger.proofs.DeleteTold.{follow-none, follow-some, shard-told, freed-told, fork-told}
 

@@ -15,7 +15,7 @@ use Rattle.geometry.specs.Limits.{blocks}
 use Rattle.model.specs.Memory.{Memory, reply, makeReply, makeAfter}
 use Rattle.model.specs.Demand.{Own, withOut, run}
 use Rattle.model.specs.declared.Call.{Call}
-use Rattle.ledger.specs.Ledger.{Ledger, account, refusalsOf, says}
+use Rattle.ledger.specs.Ledger.{Ledger, refusalsOf, says}
 use Rattle.ledger.specs.Told.{tooShort, saysTo, stepsTo, LedgerSays}
 use Rattle.ledger.proofs.EachTold.{told}
 use Rattle.ledger.proofs.StoreToldProof.{store-told, store-left}

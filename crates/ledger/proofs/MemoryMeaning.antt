@@ -34,7 +34,7 @@ use Rattle.ledger.proofs.Exactly.{Means, less, negated, either-of, outs
 use Rattle.ledger.proofs.LogMeaning.{beyond}
 
 -- "3: tables or the store's own log space shorter than the geometry needs, or a result buffer under 2 × N + 64 numbers" (7.1)
-is-short : (g : Geometry) (M : Memory) → Means (short? g M) (TooShort g M) (Enough g M)
+pub is-short : (g : Geometry) (M : Memory) → Means (short? g M) (TooShort g M) (Enough g M)
 unfolding short?
 is-short g M =
     let m = either-of (less (length (M .tables)) (need g)) (either-of (less (length (M .log)) (8 * g .words)) (less (length (M .out)) (2 * blocks g + 64))) in

@@ -12,7 +12,8 @@ use Rattle.geometry.specs.declared.Geometry.{Geometry}
 use Rattle.log.specs.Word.{writeAt, bytesOf}
 use Rattle.log.proofs.Writing.{write-none}
 use Rattle.model.specs.State.{State, withUsed, synced}
-use Rattle.model.specs.Calls.{Account, looking, opening, freeing, placing, marking, renewing, account, renews, wordsBy, leftBy, resultBy, result, written, effect, logged}
+use Rattle.model.specs.Calls.{Account, looking, opening, freeing, placing, marking, renewing, account, renews, wordsBy, leftBy, resultBy, result}
+use Rattle.model.specs.Calls.{written, effect, logged}
 use Rattle.model.specs.Layout.{need, stateOf, stored, headerNumber}
 use Rattle.model.specs.Memory.{Memory, writtenAt, reply, after}
 use Rattle.model.specs.declared.Call.{Call}
@@ -70,7 +71,8 @@ module _ (g : Geometry) (M : Memory) (c : Call) (l : List ℕ) (e : reply g M c 
       within (writtenAt T c) _ (M .log) (bytesOf (written g T c)) (ends-at g T c ∙ ap (λ (n : ℕ). 8 * n) (sym now-used)) (omega (arith, u, A .long .log))
 
   -- Y and C, with n words used: what waited may be given
-  ends-waits : (n : ℕ) (log out : List ℕ) → Released g M (record { tables = stored g (synced (withUsed (stateOf g (M .tables)) n)) (M .tables); log = log; out = out })
+  ends-waits : (n : ℕ) (log out : List ℕ) →
+      Released g M (record { tables = stored g (synced (withUsed (stateOf g (M .tables)) n)) (M .tables); log = log; out = out })
   ends-waits n log out = let A = accepted-is g M c l e .0 in released g (A .inside) M (A .sound) room n log out
 
 -- what is left by a call of a kind

@@ -23,6 +23,7 @@ use Rattle.model.specs.Effects.{begin, seal, fork}
 use Rattle.model.specs.Actions.{Action, doB, doS, doF, done, slotOf, vacant}
 use Rattle.model.specs.Calls.{slot, conditions, result, acted, effect}
 use Rattle.model.specs.Layout.{viewOf, stateOf, stored}
+use Rattle.model.proofs.ByNumber.{none-at}
 use Rattle.model.proofs.Fine.{slot-named, not-zero}
 use Rattle.model.proofs.DoneSound.{spare}
 use Rattle.model.proofs.StoredFacts.{state-ext}
@@ -87,7 +88,8 @@ module _ {g : Geometry} {t : List ℕ} (R : Ready g t) where
   pub begin-needs : (s f : ℕ) (v : Verdict) → v ≡ verdict g t Begin 0 → v ≡ Accept s f → (f < g .records) × (getD t 6 0 < 999999)
   begin-needs s f v e d =
       let w = taken Begin 0 s f v e d in
-      let r = room f (w .0 .0) (w .0 .1 .0) (w .2) in
+      let past = none-at (conditions g T Begin) (w .0) in
+      let r = room f (past 11) (past 12) (w .2) in
       (r .0, r .1)
 
   abbrev Needs : ℕ → ℕ → Type 0
@@ -104,11 +106,15 @@ module _ {g : Geometry} {t : List ℕ} (R : Ready g t) where
 
   pub seal-needs : (n s f : ℕ) (v : Verdict) → v ≡ verdict g t (Seal n) (slot T n) → v ≡ Accept s f → Needs s f
   seal-needs n s f v e d =
-      let w = taken (Seal n) (slot T n) s f v e d in on-needs n s f (w .0 .0) (w .0 .1 .1 .0) (w .0 .1 .1 .1 .0) (w .1) (w .2)
+      let w = taken (Seal n) (slot T n) s f v e d in
+      let past = none-at (conditions g T (Seal n)) (w .0) in
+      on-needs n s f (past 8) (past 11) (past 12) (w .1) (w .2)
 
   pub fork-needs : (n s f : ℕ) (v : Verdict) → v ≡ verdict g t (Fork n) (slot T n) → v ≡ Accept s f → Needs s f
   fork-needs n s f v e d =
-      let w = taken (Fork n) (slot T n) s f v e d in on-needs n s f (w .0 .0) (w .0 .1 .1 .0) (w .0 .1 .1 .1 .0) (w .1) (w .2)
+      let w = taken (Fork n) (slot T n) s f v e d in
+      let past = none-at (conditions g T (Fork n)) (w .0) in
+      on-needs n s f (past 8) (past 11) (past 12) (w .1) (w .2)
 
   -- ── an accepted call, which left the tables u and gave r ──
 

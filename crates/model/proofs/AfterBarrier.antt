@@ -1,9 +1,9 @@
 -- A block that was freed is given again, or listed, only behind an accepted Y or C.
 use mathlib.Core.Path.{_≡_, refl, sym, ap, ap₂, _∙_, subst}
 use mathlib.Core.Logic.{_⊎_, inl, inr}
-use mathlib.Core.Bool.{Bool, true, false, cond, _&&_, _||_, false≢true}
+use mathlib.Core.Bool.{Bool, true, false, _&&_, _||_, false≢true}
 use mathlib.Core.List.{List, [], _∷_, _++_, map}
-use Prim.Native.Nat.{ℕ, _+_, _<_, _≤_}
+use Prim.Native.Nat.{ℕ, _<_}
 use native.Mathlib.Omega.{arith}
 use lib.Dec.{eqb}
 use borrow.Author.Tests.{eq-eqb}
@@ -11,14 +11,14 @@ use Rattle.answer.specs.Reply.{Reply, accepted, refused}
 use Rattle.answer.proofs.Cases.{cases, either}
 use Rattle.geometry.specs.declared.Geometry.{Geometry}
 use Rattle.geometry.specs.Limits.{Inside, blocks}
-use Rattle.log.specs.Runs.{Run, Covered, Longest, LongestRuns, All}
+use Rattle.log.specs.Runs.{Run, Covered, Longest, All}
 use Rattle.model.specs.Book.{Some}
-use Rattle.model.specs.Lists.{In}
 use Rattle.model.specs.Results.{blocksIn}
-use Rattle.model.specs.State.{State, fresh}
-use Rattle.model.specs.Calls.{Account, looking, opening, freeing, placing, marking, renewing, account, pairs, freeList, result}
+use Rattle.model.specs.State.{fresh}
+use Rattle.model.specs.Calls.{Account, looking, opening, freeing, placing, marking, renewing, account, pairs, result}
 use Rattle.model.specs.FreeList.{freeRuns}
-use Rattle.model.specs.History.{Machine, Event, give, free, Entry, entryOf, eventsBy, eventsOf, writeEvents, stateFrom, historyFrom, wasAccepted, freedAmong, syncsBy, syncs, synced?, unsyncedAfter, unsyncedFrom, unsynced}
+use Rattle.model.specs.History.{Machine, Event, give, free, Entry, entryOf, eventsBy, eventsOf, writeEvents, stateFrom, historyFrom}
+use Rattle.model.specs.History.{wasAccepted, freedAmong, syncsBy, syncs, synced?, unsyncedAfter, unsyncedFrom, unsynced}
 use Rattle.model.specs.HistoryFacts.{Synced, Frees, Gives, runsOfPairs, Lists}
 use Rattle.model.specs.Model.{Screened, answer, model, stateAfter, history}
 use Rattle.model.specs.declared.Call.{Call}

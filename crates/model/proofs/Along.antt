@@ -3,30 +3,30 @@ use mathlib.Core.Path.{_≡_, refl, sym, ap, ap₂, _∙_, subst}
 use mathlib.Core.Logic.{_⊎_, inl, inr}
 use mathlib.Core.Bool.{Bool, true, false, cond, _&&_, false≢true}
 use mathlib.Core.List.{List, [], _∷_, _++_, map, append-assoc, append-nil}
-use Prim.Native.Nat.{ℕ, zero, suc, _+_, _-_, _*_, _%_, _≤_, _<_}
+use Prim.Native.Nat.{ℕ, _+_, _*_, _%_}
 use native.Mathlib.Omega.{arith}
-use lib.ListN.{length, getD, take, length-append}
+use lib.ListN.{length, getD, length-append}
 use Rattle.answer.specs.Reply.{Reply, accepted, refused}
-use Rattle.answer.specs.Refusal.{NoneHolds, leaves}
+use Rattle.answer.specs.Refusal.{leaves}
 use Rattle.answer.proofs.Cases.{cases, either}
 use Rattle.geometry.specs.declared.Geometry.{Geometry}
-use Rattle.geometry.specs.Limits.{Inside, blocks}
-use Rattle.log.specs.Word.{words, wordBytes, writeAt, bytesOf, allocated, released, barrier}
+use Rattle.geometry.specs.Limits.{Inside}
+use Rattle.log.specs.Word.{words, wordBytes, writeAt, bytesOf, released, barrier}
 use Rattle.log.specs.Settled.{NoBarrier}
 use Rattle.log.specs.Runs.{Run}
 use Rattle.log.specs.Compress.{runWords, runsWords}
 use Rattle.log.specs.Compress as log
 use Rattle.log.specs.Read.{Reads}
-use Rattle.log.proofs.Writing.{length-word, length-bytes, bytes-append}
+use Rattle.log.proofs.Writing.{length-bytes, bytes-append}
 use Rattle.log.proofs.Appending.{words-append}
 use Rattle.model.specs.Book.{Some}
 use Rattle.model.specs.Held.{held, frees}
 use Rattle.model.specs.State.{State}
 use Rattle.model.specs.Layout.{stateOf, stored}
-use Rattle.model.specs.Calls.{Account, looking, opening, freeing, placing, marking, renewing, account, renews, wordsBy, leftBy, writing, compressed, written, acted, given, logged, effect}
+use Rattle.model.specs.Calls.{Account, looking, opening, freeing, placing, marking, renewing, account, renews, wordsBy, leftBy, writing}
+use Rattle.model.specs.Calls.{compressed, written, acted, given, logged, effect}
 use Rattle.model.specs.Memory.{Memory, usedLog, wordsUsed, writtenAt, reply, after}
-use Rattle.model.specs.SoundStore.{SoundStore}
-use Rattle.model.specs.History.{Machine, Entry, entryOf, stateFrom, historyFrom, wasAccepted, syncsBy, syncs, synced?}
+use Rattle.model.specs.History.{Machine, Entry, entryOf, stateFrom, historyFrom, wasAccepted, syncsBy, syncs}
 use Rattle.model.specs.HistoryFacts.{Synced}
 use Rattle.model.specs.Demand.{Own, withOut, ownStore, run}
 use Rattle.model.specs.Crash.{isC, compacts?, Compacts}
@@ -34,7 +34,7 @@ use Rattle.model.specs.declared.Call.{Call}
 use Rattle.model.specs.declared.Call.the-variants.{Barrier, Compress}
 use Rattle.model.proofs.EachCall.{Is, is}
 use Rattle.model.proofs.LogKeeps.{logAfter}
-use Rattle.model.proofs.Keeps.{Accepted, accepted-is, sound-fine, log-after, accepted-state, accepted-log, calls-keep-sound}
+use Rattle.model.proofs.Keeps.{Accepted, accepted-is, sound-fine, log-after, accepted-state, accepted-log}
 
 -- ── lists of calls ──
 

@@ -1,5 +1,5 @@
 -- What an accepted call's action asks, from the conditions that are not true of the call.
-use mathlib.Core.Path.{_≡_, refl, sym, ap, _∙_}
+use mathlib.Core.Path.{_≡_, ap, _∙_}
 use mathlib.Core.Bool.{false}
 use mathlib.Core.List.{[], _∷_}
 use Prim.Native.Nat.{ℕ, pred, _<_}
@@ -14,10 +14,12 @@ use Rattle.model.specs.View.{View}
 use Rattle.model.specs.Sound.{Sound}
 use Rattle.model.specs.Actions.{doS, doF, Asks, forked, vacant, slotOf}
 use Rattle.model.specs.State.{State, InRange, WaitingFits}
-use Rattle.model.specs.Calls.{noPage, noRecord, isSealed, slot, writing, erasing, deleting, conditions}
+use Rattle.model.specs.Calls.{account, slot, writing, erasing, deleting, short, conditions}
 use Rattle.model.specs.declared.Call.the-variants.{Write, Erase, Seal, Fork}
 use Rattle.model.proofs.DoneSound.{hit}
 use Rattle.model.proofs.ChoiceFacts.{given-block}
+use Rattle.model.proofs.ByNumber.{none-at}
+use Rattle.model.proofs.CallKinds.{ownRefusals, none-left}
 
 -- the slot of a record that is in the store
 pub slot-named : (K : View) → Sound K → (r : ℕ) → 0 < slotOf K r → (0 < K .num (pred (slotOf K r))) × (K .num (pred (slotOf K r)) ≡ r)
@@ -46,25 +48,34 @@ module _ (g : Geometry) (inside : Inside g) (T : State) (R : Fine g T) where
 
   pub asks-W : (r x k : ℕ) → NoneHolds (conditions g T (Write r x k)) → Asks (T .view) (writing g T r x k)
   asks-W r x k n =
-      let s = named-slot r (n .1 .1 .0) in
-      let b = given-block g inside T (R .range) k (n .1 .1 .1 .1 .0) in
-      (s .0, not-zero (T .view .isOpen (slot T r)) (n .1 .1 .1 .0), omega (arith, leb-false (g .pages) x (n .0), R .pages), omega (arith, b .0, R .blocks), b .1)
+      let past = none-at (conditions g T (Write r x k)) n in
+      let b = given-block g inside T (R .range) k (past 13) in (
+        named-slot r (past 8) .0,
+        not-zero (T .view .isOpen (slot T r)) (past 9),
+        omega (arith, leb-false (g .pages) x (past 5), R .pages),
+        omega (arith, b .0, R .blocks),
+        b .1,
+      )
 
   -- (its conditions before 14 are enough)
-  pub asks-erase : (r x : ℕ) → NoneHolds (noPage g x ∷ noRecord T r ∷ isSealed T r ∷ []) → Asks (T .view) (erasing T r x)
+  pub asks-erase : (r x : ℕ) → NoneHolds (ownRefusals g T (account (Erase r x))) → Asks (T .view) (erasing T r x)
   asks-erase r x n =
-      (named-slot r (n .1 .0) .0, not-zero (T .view .isOpen (slot T r)) (n .1 .1 .0), omega (arith, leb-false (g .pages) x (n .0), R .pages))
+      let past = none-at (ownRefusals g T (account (Erase r x))) n in
+      (named-slot r (past 8) .0, not-zero (T .view .isOpen (slot T r)) (past 9), omega (arith, leb-false (g .pages) x (past 5), R .pages))
 
   pub asks-E : (r x : ℕ) → NoneHolds (conditions g T (Erase r x)) → Asks (T .view) (erasing T r x)
-  asks-E r x n = asks-erase r x (n .0, (n .1 .0, (n .1 .1 .0, tt)))
+  asks-E r x n = asks-erase r x (none-left (ownRefusals g T (account (Erase r x))) ((14, short g T (Erase r x)) ∷ []) n)
 
   pub asks-S : (r : ℕ) → NoneHolds (conditions g T (Seal r)) → Asks (T .view) (doS (slot T r))
-  asks-S r n = (named-slot r (n .0) .0, not-zero (T .view .isOpen (slot T r)) (n .1 .0), not-zero (vacant (T .view)) (n .1 .1 .0))
+  asks-S r n =
+      let past = none-at (conditions g T (Seal r)) n in
+      (named-slot r (past 8) .0, not-zero (T .view .isOpen (slot T r)) (past 9), not-zero (vacant (T .view)) (past 11))
 
   pub asks-F : (r : ℕ) → NoneHolds (conditions g T (Fork r)) → Asks (T .view) (doF (slot T r))
   asks-F r n =
-      (named-slot r (n .0) .0, omega (arith, ltb-false 0 (T .view .isOpen (slot T r)) (n .1 .0)), not-zero (vacant (T .view)) (n .1 .1 .0))
+      let past = none-at (conditions g T (Fork r)) n in
+      (named-slot r (past 8) .0, omega (arith, ltb-false 0 (T .view .isOpen (slot T r)) (past 9)), not-zero (vacant (T .view)) (past 11))
 
   -- (its two conditions before 14 are enough)
   pub asks-D : (r : ℕ) → eqb (slotOf (T .view) r) 0 ≡ false → ltb 0 (forked (T .view) (slot T r)) ≡ false → Asks (T .view) (deleting T r)
-  asks-D r n m = (named-slot r n .0, omega (arith, ltb-false 0 (forked (T .view) (slot T r)) m))
+  asks-D r eight ten = (named-slot r eight .0, omega (arith, ltb-false 0 (forked (T .view) (slot T r)) ten))

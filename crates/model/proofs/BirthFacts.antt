@@ -2,7 +2,7 @@
 use mathlib.Core.Path.{_≡_, refl, sym, ap, _∙_, subst}
 use mathlib.Core.Logic.{_⊎_, inl, inr}
 use mathlib.Core.List.{List, [], _∷_, _++_, map, append-assoc, append-nil}
-use Prim.Native.Nat.{ℕ, zero, suc, _<_}
+use Prim.Native.Nat.{ℕ, _<_}
 use native.Mathlib.Omega.{arith}
 use lib.ListN.{getD}
 use Rattle.answer.specs.Reply.{Reply, accepted, refused}
@@ -17,7 +17,8 @@ use Rattle.model.specs.Book.{Some}
 use Rattle.model.specs.Actions.{Action, Asks, done}
 use Rattle.model.specs.Held.{frees}
 use Rattle.model.specs.State.{State, fresh}
-use Rattle.model.specs.Calls.{Account, looking, opening, freeing, placing, marking, renewing, account, refusalsBy, resultBy, spellingBy, leftBy, freedWith, spelling, slot, block, writing, conditions, result, acted, given, logged, effect}
+use Rattle.model.specs.Calls.{Account, looking, opening, freeing, placing, marking, renewing, account, refusalsBy, resultBy, spellingBy, leftBy}
+use Rattle.model.specs.Calls.{freedWith, spelling, slot, block, writing, conditions, result, acted, given, logged, effect}
 use Rattle.model.specs.History.{Entry, entryOf, stateFrom, historyFrom}
 use Rattle.model.specs.HistoryFacts.{Names, Gave, LastGave}
 use Rattle.model.specs.Model.{Screened, answer, keepOr, modelAfter, model, stateAfter, history}
@@ -25,6 +26,7 @@ use Rattle.model.specs.declared.Call.{Call}
 use Rattle.model.specs.declared.Call.the-variants.{Write}
 use Rattle.model.specs.declared.Spelling.{Spelling}
 use Rattle.model.specs.declared.Spelling.the-variants.{Numbers, Blocks}
+use Rattle.model.proofs.ByNumber.{none-at}
 use Rattle.model.proofs.BirthStays.{Gives, done-birth, write-birth}
 use Rattle.model.proofs.ResultFacts.{born-paired}
 use Rattle.model.proofs.HeldFacts.{frees-is}
@@ -143,7 +145,8 @@ module _ (g : Geometry) (inside : Inside g) (T : State) (R : Fine g T) (h : List
       let K = T .view in
       cases (same? b (block g T k))
       (λ i.
-      let v : (done K a) .birth b ≡ r = ap ((done K a) .birth) i ∙ write-birth K (slot T r) x (block g T k) ∙ named-slot g inside T R r (n .1 .1 .0) .1 in
+      let (live, at) = named-slot g inside T R r (none-at (conditions g T (Write r x k)) n 8) in
+      let v : (done K a) .birth b ≡ r = ap ((done K a) .birth) i ∙ write-birth K (slot T r) x (block g T k) ∙ at in
       let w : Gave b r e = (x, k, lib.ListN.drop 1 l, refl, ap accepted d ∙ ap (λ c. accepted (c ∷ lib.ListN.drop 1 l)) (sym i)) in
       subst (λ u. LastGave b u (h ++ (e ∷ []))) (sym v) (new-last b r h e w))
       (λ m.
@@ -213,7 +216,8 @@ module _ (g : Geometry) (inside : Inside g) (T : State) (R : Fine g T) (h : List
   unfolding itemsOf
   looked c Numbers m l b v z w i = absurd (none-born m b v i)
   looked c Blocks m l b v z w i =
-      named c (accepted l) (w .these) b v (λ u j. no-write c (accepted l) z b u) (w .held) (subst (λ k. Some (λ i. i ≡ born b v) (bornIn k)) (sym (w .numbers)) i)
+      named c (accepted l) (w .these) b v (λ u j. no-write c (accepted l) z b u) (w .held)
+      (subst (λ k. Some (λ i. i ≡ born b v) (bornIn k)) (sym (w .numbers)) i)
 
   named-by : (c : Call) (A : Account) (l : List ℕ) (b v : ℕ) → account c ≡ A → Is c A → Fits g T c A → NoneHolds (refusalsBy g T A) → resultBy g T A ≡ l →
       Some (λ i. i ≡ born b v) (itemsOf (spellingBy A) (resultBy g T A)) → LastGave b v (h ++ (entry c (accepted l) ∷ []))
@@ -245,7 +249,7 @@ history-append : (g : Geometry) (l m : List Screened) (T : State) →
 history-append g [] m T = refl
 history-append g (i ∷ l) m T = ap {B = List Entry} (λ k. entryOf (model g) T i ∷ k) (history-append g l m (modelAfter g T i))
 
-after-fine : (g : Geometry) → Inside g → (T : State) → Fine g T → (i : Screened) → Fine g (modelAfter g T i)
+pub after-fine : (g : Geometry) → Inside g → (T : State) → Fine g T → (i : Screened) → Fine g (modelAfter g T i)
 unfolding modelAfter
 after-fine g inside T R i = go (answer g T i) refl
   where

@@ -1,7 +1,7 @@
 -- Results that name blocks, and the log words beside them (3.13).
 use mathlib.Core.Path.{_≡_, refl, sym, ap, _∙_, subst}
 use mathlib.Core.Bool.{cond}
-use mathlib.Core.List.{List, [], _∷_, map}
+use mathlib.Core.List.{List, _∷_, map}
 use Prim.Native.Nat.{ℕ, _*_, _<_}
 use Rattle.answer.specs.Refusal.{NoneHolds}
 use Rattle.geometry.specs.declared.Geometry.{Geometry}
@@ -14,7 +14,8 @@ use Rattle.model.specs.Results.{paired, blocksIn}
 use Rattle.model.specs.Actions.{Action, Asks}
 use Rattle.model.specs.Held.{frees}
 use Rattle.model.specs.State.{State}
-use Rattle.model.specs.Calls.{Account, looking, opening, freeing, placing, marking, renewing, account, refusalsBy, resultBy, wordsBy, leftBy, freedWith, slot, block, writing, written, result, acted, given}
+use Rattle.model.specs.Calls.{Account, looking, opening, freeing, placing, marking, renewing, account, refusalsBy, resultBy, wordsBy, leftBy}
+use Rattle.model.specs.Calls.{freedWith, slot, block, writing, written, result, acted, given}
 use Rattle.model.specs.Layout.{stateOf}
 use Rattle.model.specs.Memory.{Memory, wordsUsed, writtenAt}
 use Rattle.model.specs.Births.{InStore, WithBirths, Spelled, NamedAs, BirthsInResults, wordsAs, wordsFor, LogAsBefore}
@@ -23,6 +24,7 @@ use Rattle.model.specs.declared.Call.{Call}
 use Rattle.model.specs.declared.Call.the-variants.{Compress}
 use Rattle.model.specs.declared.Spelling.{Spelling}
 use Rattle.model.specs.declared.Spelling.the-variants.{Numbers, Blocks}
+use Rattle.model.proofs.ByNumber.{none-at}
 use Rattle.model.proofs.Facts.{born-le}
 use Rattle.model.proofs.Meaning.{sound-means}
 use Rattle.model.proofs.HeldFacts.{frees-is}
@@ -54,7 +56,8 @@ spelled T Blocks m l S w e = with-births (T .view) (w .these) l S (w .numbers �
 
 module _ (g : Geometry) (inside : Inside g) (T : State) (F : Fine g T) where
   -- by the kind
-  named-as : (c : Call) (A : Account) (l : List ℕ) → Fits g T c A → NoneHolds (refusalsBy g T A) → resultBy g T A ≡ l → NamedAs (T .view) (leftBy g T A .view) A l
+  named-as : (c : Call) (A : Account) (l : List ℕ) → Fits g T c A → NoneHolds (refusalsBy g T A) → resultBy g T A ≡ l →
+      NamedAs (T .view) (leftBy g T A .view) A l
   unfolding given acted
   named-as c (looking s cs res) l f n e = spelled T s (res g T) l (F .sound) (f n .1) e
   named-as c (opening cs a) l f n e = tt
@@ -66,7 +69,7 @@ module _ (g : Geometry) (inside : Inside g) (T : State) (F : Fine g T) where
         rest = freedWith T (writing g T r x k);
         numbers = sym e;
         free = q .4;
-        birth = write-birth (T .view) (slot T r) x (block g T k) ∙ named-slot g inside T F r (n .1 .1 .0) .1;
+        birth = write-birth (T .view) (slot T r) x (block g T k) ∙ named-slot g inside T F r (none-at (refusalsBy g T (placing r x k)) n 8) .1;
         freed = freed-births (T .view) (writing g T r x k) (freedWith T (writing g T r x k)) (F .sound) q refl;
       }
   named-as c marking l f n e = tt

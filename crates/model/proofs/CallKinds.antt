@@ -4,19 +4,31 @@ use mathlib.Core.Logic.{inl, inr}
 use mathlib.Core.List.{List, [], _∷_, _++_, map}
 use Prim.Native.Nat.{ℕ, suc, _+_, _<_, _≤_}
 use native.Mathlib.Omega.{arith}
-use Rattle.answer.specs.Refusal.{Condition, place, Holds, NoneBefore, Ordered, NoneHolds}
+use Rattle.answer.specs.Refusal.{Condition, decide, place, Holds, NoneBefore, Ordered, NoneHolds}
 use Rattle.answer.proofs.Cases.{cases, same?}
+use Rattle.geometry.specs.declared.Geometry.{Geometry}
 use Rattle.model.specs.View.{View}
 use Rattle.model.specs.Sound.{Sound}
 use Rattle.model.specs.Effects.{grow, close, erase, begin, seal, fork}
 use Rattle.model.specs.Actions.{Action, doB, doW, doE, doS, doF, doD, done, follower, delete}
 use Rattle.model.specs.Held.{frees, gives}
-use Rattle.model.specs.History.{Event, free, firstGiven}
+use Rattle.model.specs.State.{State}
+use Rattle.model.specs.Calls.{Account, looking, opening, freeing, placing, marking, renewing, refusalsBy}
+use Rattle.model.specs.History.{free, firstGiven}
 use Rattle.model.proofs.BookFacts.{blockFor, erase-paged, delete-gone}
 use Rattle.model.proofs.BirthStays.{Gives}
 use Rattle.model.proofs.Moves.{gifts}
 
 -- ── conditions, one list behind another ──
+
+-- the refusals that an account names itself; its kind may add some after them
+abbrev pub ownRefusals : Geometry → State → Account → List Condition
+ownRefusals g T (looking s cs res) = cs g T
+ownRefusals g T (opening cs a) = cs T
+ownRefusals g T (freeing cs a) = cs g T
+ownRefusals g T (placing r x k) = refusalsBy g T (placing r x k)
+ownRefusals g T marking = refusalsBy g T marking
+ownRefusals g T renewing = refusalsBy g T renewing
 
 pub none-left : (l m : List Condition) → NoneHolds (l ++ m) → NoneHolds l
 none-left [] m n = tt
@@ -25,6 +37,11 @@ none-left (c ∷ l) m n = (n .0, none-left l m (n .1))
 pub none-right : (l m : List Condition) → NoneHolds (l ++ m) → NoneHolds m
 none-right [] m n = n
 none-right (c ∷ l) m n = none-right l m (n .1)
+
+-- where none of the first list is true, the second decides
+pub decide-right : (l m : List Condition) (given : List ℕ) → NoneHolds l → decide (l ++ m) given ≡ decide m given
+decide-right [] m given n = refl
+decide-right (c ∷ l) m given n = rw (n .0) (decide-right l m given (n .1))
 
 -- the conditions stand in the order of the refusals, each behind the place m and before the place t
 abbrev pub Between : ℕ → ℕ → List Condition → Type 0

@@ -7,16 +7,15 @@ use Prim.Native.Nat.{ℕ, zero, suc, _+_, _-_, _*_, _%_, _≤_, _<_}
 use native.Mathlib.Omega.{arith}
 use lib.ListN.{length, getD, take}
 use borrow.Author.Tests.{eq-eqb}
-use lib.Seq.{take-take, take-append-add, take-append-le, length-take-le, take-all}
+use lib.Seq.{take-take, take-append-add, length-take-le, take-all}
 use Rattle.answer.specs.Reply.{Reply, accepted, refused}
 use Rattle.answer.specs.Refusal.{NoneHolds}
 use Rattle.answer.proofs.Cases.{cases, either, lt?, same?}
 use Rattle.geometry.specs.declared.Geometry.{Geometry}
 use Rattle.geometry.specs.Limits.{Inside, blocks}
-use Rattle.log.specs.Word.{words, wordBytes, bytesOf, barrier}
-use Rattle.log.specs.Settled.{settled, NoBarrier}
+use Rattle.log.specs.Word.{words, bytesOf, barrier}
+use Rattle.log.specs.Settled.{NoBarrier}
 use Rattle.log.specs.Marks.{heldIn, passing, heldBlocks}
-use Rattle.log.specs.Read.{Reads}
 use Rattle.log.specs.Tool.{readable, marksOf, heldAtEnd, everyReply, readReply}
 use Rattle.log.proofs.Writing.{length-bytes, bytes-append}
 use Rattle.log.proofs.Appending.{words-append}
@@ -28,15 +27,18 @@ use Rattle.model.specs.Sound.{Sound}
 use Rattle.model.specs.Actions.{Action, Asks, done}
 use Rattle.model.specs.Held.{held, frees}
 use Rattle.model.specs.State.{State}
-use Rattle.model.specs.Calls.{Account, looking, opening, freeing, placing, marking, renewing, account, refusalsBy, wordsBy, leftBy, freed, block, writing, conditions, result, acted, given, effect}
+use Rattle.model.specs.Calls.{Account, looking, opening, freeing, placing, marking, renewing, account, refusalsBy, wordsBy, leftBy, freed}
+use Rattle.model.specs.Calls.{block, writing, conditions, result, acted, given, effect}
 use Rattle.model.specs.Layout.{stateOf}
-use Rattle.model.specs.Memory.{Memory, usedLog, wordsUsed, reply, makeReply, makeAfter}
+use Rattle.model.specs.Memory.{Memory, wordsUsed, reply, makeReply, makeAfter}
 use Rattle.model.specs.SoundStore.{SoundStore}
-use Rattle.model.specs.History.{Event, give, Entry, entryOf, eventsOf, historyFrom, wasAccepted, syncsBy, syncs, synced?}
+use Rattle.model.specs.History.{give, entryOf, eventsOf, historyFrom, wasAccepted, syncsBy, syncs, synced?}
 use Rattle.model.specs.HistoryFacts.{Synced, Gives}
 use Rattle.model.specs.Demand.{Own, withOut, ownStore, run}
-use Rattle.model.specs.Crash.{isC, compacts?, Compacts, Ended, entryAfter, usedAfter, heldAfter, startFrom, Cut, Crash}
+use Rattle.model.specs.Crash.{compacts?, Compacts, Ended, entryAfter, usedAfter, heldAfter, startFrom, Crash}
 use Rattle.model.specs.declared.Call.{Call}
+use Rattle.model.specs.declared.Call.the-variants.{Write}
+use Rattle.model.proofs.ByNumber.{none-at}
 use Rattle.model.proofs.ListFacts.{in-left, in-right}
 use Rattle.model.proofs.HeldFacts.{frees-is}
 use Rattle.model.proofs.ChoiceFacts.{given-block}
@@ -354,14 +356,14 @@ module _ (g : Geometry) (inside : Inside g) where
     not-given : (c : Call) (l : List ℕ) → NoneHolds (conditions g T c) → result g T c ≡ l → Kept T → GaveBy b c (accepted l) → ⊥
     not-given c l n e o G =
         let m = subst (λ d. NoneHolds (conditions g T d)) (G .call) n in
-        let q = given-block g inside T (R .range) (G .k) (m .1 .1 .1 .1 .0) in
+        let q = given-block g inside T (R .range) (G .k) (none-at (conditions g T (Write (G .r) (G .x) (G .k))) m 13) in
         let f : block g T (G .k) ≡ b = same-first (block g T (G .k)) b _ (G .rest) (ap (result g T) (sym (G .call)) ∙ e ∙ same-list l (b ∷ G .rest) (G .answer)) in
         cases o
         (λ h. let z : ⊥ = omega (arith, q .1, ap (T .view .birth) f) in z)
         (λ i. q .2 (subst (λ d. In d (T .waiting)) (sym f) i))
 
   -- along calls with no accepted Y or C
-  untouched : (m : List Own) (M : Memory) (b : ℕ) → SoundStore g (M .tables) (M .log) → (Some Synced (historyFrom (ownStore g) M m) → ⊥) →
+  pub untouched : (m : List Own) (M : Memory) (b : ℕ) → SoundStore g (M .tables) (M .log) → (Some Synced (historyFrom (ownStore g) M m) → ⊥) →
       (0 < stateOf g (M .tables) .view .birth b) ⊎ In b (stateOf g (M .tables) .waiting) → Some (Gives b) (historyFrom (ownStore g) M m) → ⊥
   untouched [] M b S n o i = i
   untouched (a ∷ m) M b S n o i =
@@ -390,12 +392,12 @@ module _ (g : Geometry) (inside : Inside g) where
           (next (subst (λ U. (0 < U .view .birth b) ⊎ In b (U .waiting)) (sym (accepted-state g N (a .call) l e)) (stays T R b (a .call) (A .0 .none) c o)))
 
 -- a held block has a birth
-held-born : (K : View) (b : ℕ) → held K b ≡ true → 0 < K .birth b
+pub held-born : (K : View) (b : ℕ) → held K b ≡ true → 0 < K .birth b
 unfolding held
 held-born K b e = cases (same? (K .birth b) 0) (λ z. absurd (false≢true (sym (ap not (eq-eqb (K .birth b) 0 z)) ∙ e))) (λ n. omega arith)
 
 -- a fresh store has used no word
-fresh-used : (g : Geometry) (M : Memory) → makeReply g M ≡ accepted [] → wordsUsed (makeAfter g M) ≡ 0
+pub fresh-used : (g : Geometry) (M : Memory) → makeReply g M ≡ accepted [] → wordsUsed (makeAfter g M) ≡ 0
 fresh-used g M e =
     let (i, L) = making-is g M e in
     ap (λ t. getD t 9 0) (made-tables g M e) ∙ made-zero g (M .tables) (L .tables) 9 (omega arith) (inl (omega arith)) (omega arith)

@@ -1,23 +1,21 @@
 -- WHAT EACH CALL OWES, in one place: a clause in `is` and one in `fits`. All that is said of every call elsewhere goes by the call's kind.
-use mathlib.Core.Path.{_≡_, refl, ap, _∙_}
+use mathlib.Core.Path.{_≡_, refl, ap}
 use mathlib.Core.Logic.{inl, inr}
-use mathlib.Core.Bool.{false}
-use mathlib.Core.List.{List, [], _∷_}
-use Prim.Native.Nat.{ℕ, _+_, _*_, _<_, _≤_}
+use mathlib.Core.Bool.{Bool, false}
+use mathlib.Core.List.{List}
+use Prim.Native.Nat.{ℕ, _*_, _<_, _≤_}
 use native.Mathlib.Omega.{arith}
 use lib.Dec.{eqb}
 use lib.ListN.{length}
-use Rattle.answer.specs.Refusal.{Condition, place, NoneHolds}
-use Rattle.answer.proofs.Cases.{cases}
+use Rattle.answer.specs.Refusal.{place, NoneHolds}
 use Rattle.geometry.specs.declared.Geometry.{Geometry}
 use Rattle.geometry.specs.Limits.{Inside, blocks}
 use Rattle.log.specs.Runs.{runs}
 use Rattle.model.specs.Lists.{In, onPage}
 use Rattle.model.specs.Results.{paired}
-use Rattle.model.specs.Actions.{Action, doB, doS, doF, Asks, slotOf, vacant}
-use Rattle.model.specs.Held.{available}
+use Rattle.model.specs.Actions.{Action, Asks, slotOf, vacant}
 use Rattle.model.specs.State.{State}
-use Rattle.model.specs.Calls.{Account, looking, opening, freeing, placing, marking, renewing, account, slot, erasing, deleting, freeList, refusalsBy}
+use Rattle.model.specs.Calls.{Account, looking, opening, freeing, placing, marking, renewing, account, slot, pairs, freeList, refusalsBy, conditions}
 use Rattle.model.specs.Book.{Book, accept}
 use Rattle.model.specs.declared.Spelling.{Spelling}
 use Rattle.model.specs.declared.Spelling.the-variants.{Numbers, Blocks}
@@ -25,7 +23,8 @@ use Rattle.model.specs.declared.Call.{Call}
 use Rattle.model.specs.declared.Call.the-variants.{Begin, Write, Erase, Seal, Fork, Delete, Read, Barrier, Compress, FreeList, Estimate}
 use Rattle.model.proofs.BookFacts.{named}
 use Rattle.model.proofs.ResultFacts.{paired-length, on-page}
-use Rattle.model.proofs.CallKinds.{Between, Opens, Frees, none-left}
+use Rattle.model.proofs.ByNumber.{none-at}
+use Rattle.model.proofs.CallKinds.{ownRefusals, Between, Opens, Frees}
 use Rattle.model.proofs.Asked.{Fine, not-zero, named-slot, asks-erase, asks-S, asks-F, asks-D}
 use Rattle.model.proofs.Few.{page-one, runs-le, Few}
 
@@ -91,20 +90,29 @@ module _ (g : Geometry) (inside : Inside g) (T : State) (R : Fine g T) where
     held = λ b i. R .sound .paged (slot T r) x b (named-slot g inside T R r n .0) (on-page (T .view .page (slot T r) x) b i) .born;
   }
 
+  -- as many runs as there are blocks at most, of whatever kind of blocks
+  runs-few : (p : ℕ → Bool) → length (pairs (runs (g .per) p (blocks g))) ≤ 2 * blocks g
+  unfolding runs
+  runs-few p = omega (arith, runs-le (g .per) p 0 0 (blocks g))
+
   listed-le : length (freeList g T) ≤ 2 * blocks g
-  unfolding freeList runs
-  listed-le = omega (arith, runs-le (g .per) (available T) 0 0 (blocks g))
+  unfolding freeList
+  listed-le = runs-few _
 
   pub fits : (c : Call) → Fits g T c (account c)
-  fits Begin = λ n. record { asks = not-zero (vacant (T .view)) (n .0); name = refl }
+  fits Begin = λ n. record { asks = not-zero (vacant (T .view)) (none-at (conditions g T Begin) n 11); name = refl }
   fits (Write r x k) = tt
-  fits (Erase r x) = λ n. record { asks = asks-erase g inside T R r x n; name = ap (λ m. Erase m x) (is-named r (n .1 .0)) }
-  fits (Seal r) = λ n. record { asks = asks-S g inside T R r n; name = ap Seal (is-named r (n .0)) }
-  fits (Fork r) = λ n. record { asks = asks-F g inside T R r n; name = ap Fork (is-named r (n .0)) }
-  fits (Delete r) = λ n. record { asks = asks-D g inside T R r (n .0) (n .1 .0); name = ap Delete (is-named r (n .0)) }
+  fits (Erase r x) = λ n.
+      let past = none-at (ownRefusals g T (account (Erase r x))) n in
+      record { asks = asks-erase g inside T R r x n; name = ap (λ m. Erase m x) (is-named r (past 8)) }
+  fits (Seal r) = λ n. record { asks = asks-S g inside T R r n; name = ap Seal (is-named r (none-at (conditions g T (Seal r)) n 8)) }
+  fits (Fork r) = λ n. record { asks = asks-F g inside T R r n; name = ap Fork (is-named r (none-at (conditions g T (Fork r)) n 8)) }
+  fits (Delete r) = λ n.
+      let past = none-at (ownRefusals g T (account (Delete r))) n in
+      record { asks = asks-D g inside T R r (past 8) (past 10); name = ap Delete (is-named r (past 8)) }
   fits (Read r x) = λ n. (
     inr (omega (arith, paired-length (T .view .birth) (onPage (T .view .page (slot T r) x)), page-one (T .view .page (slot T r) x))),
-    page-held r x (n .1 .0),
+    page-held r x (none-at (conditions g T (Read r x)) n 8),
   )
   fits Barrier = tt
   fits Compress = tt

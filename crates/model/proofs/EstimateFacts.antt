@@ -18,12 +18,14 @@ use Rattle.model.specs.Sound.{Sound}
 use Rattle.model.specs.Actions.{doD, slotOf, follower}
 use Rattle.model.specs.Held.{frees, shardsFreed}
 use Rattle.model.specs.State.{State}
-use Rattle.model.specs.Calls.{slot, written, short, acted, logged}
+use Rattle.model.specs.Calls.{account, slot, written, short, conditions, acted, logged}
 use Rattle.model.specs.Layout.{stateOf, stored}
 use Rattle.model.specs.Memory.{Memory, lent, wordsUsed, writtenAt, reply, after}
 use Rattle.model.specs.Demand.{withOut}
 use Rattle.model.specs.Estimate.{EstimateStill, EstimateRefusals, behind, EstimateTrue, Enough, EstimateEnough, ShardsCounted, ShardsAreCounted}
 use Rattle.model.specs.declared.Call.the-variants.{Delete, Compress, Estimate}
+use Rattle.model.proofs.ByNumber.{none-at}
+use Rattle.model.proofs.CallKinds.{ownRefusals, decide-right}
 use Rattle.model.proofs.DoneSound.{hit, miss}
 use Rattle.model.proofs.Fine.{named-slot}
 use Rattle.model.proofs.Keeps.{Accepted, accepted-is, accepted-state, sound-fine}
@@ -119,11 +121,11 @@ module _ (g : Geometry) (M : Memory) (r a w v : ℕ) (out : List ℕ) (e : reply
       second : {b c d : ℕ} → b ∷ c ∷ d ∷ [] ≡ a ∷ w ∷ v ∷ [] → c ≡ w
       second i = ap (λ l. lib.ListN.getD l 1 0) i
 
-  -- 8 and 10 are false, so 14 decides
+  -- none of the refusals that Q has too is true, so 14 decides
   decided : reply g N (Delete r) ≡ decide ((14, short g T (Delete r)) ∷ []) (freed T)
   decided =
       reply-sound g N (Delete r) (A .inside) (record { tables = A .long .tables; log = A .long .log; out = long }) (A .sound) ∙
-      rw (A .none .0, A .none .1 .0) refl
+      decide-right (ownRefusals g T (account (Delete r))) ((14, short g T (Delete r)) ∷ []) (freed T) (A .none)
 
   enough : Enough g M r w out
   unfolding stateOf
@@ -157,7 +159,7 @@ shards-counted g M r a w v s e there =
     let (A, is) = accepted-is g M (Estimate r) (a ∷ w ∷ v ∷ []) e in
     let T : State = stateOf g (M .tables) in
     let F = sound-fine g (M .tables) (M .log) (A .sound) in
-    let here = named-slot g (A .inside) T F r (A .none .0) in
+    let here = named-slot g (A .inside) T F r (none-at (conditions g T (Estimate r)) (A .none) 8) in
     let at : slot T r ≡ s = F .sound .links .apart (slot T r) s (here .0) (here .1 ∙ sym (there .number)) in
     let third : shardsFreed (T .view) (slot T r) (follower (T .view) (slot T r)) ≡ v = ap (λ l. lib.ListN.getD l 2 0) is in
     subst (λ (n : ℕ). ShardsCounted (T .view) n v) at

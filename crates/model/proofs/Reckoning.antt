@@ -1,18 +1,17 @@
 -- What waits in a state is what is reckoned from the freed blocks and the accepted calls.
-use mathlib.Core.Path.{_≡_, refl, sym, ap, ap₂, _∙_}
-use mathlib.Core.Logic.{_⊎_, inl, inr}
-use mathlib.Core.Bool.{Bool, true, false, cond, _&&_, _||_, or-false}
+use mathlib.Core.Path.{_≡_, refl, sym, ap, _∙_}
+use mathlib.Core.Bool.{Bool, false, cond, _&&_, _||_, or-false}
 use mathlib.Core.List.{List, [], _∷_, _++_, map}
 use Prim.Native.Nat.{ℕ}
 use lib.Dec.{eqb}
 use Rattle.answer.specs.Reply.{Reply, accepted, refused}
-use Rattle.answer.proofs.Cases.{cases, either}
 use Rattle.geometry.specs.declared.Geometry.{Geometry}
 use Rattle.model.specs.Lists.{elem}
 use Rattle.model.specs.Held.{waits, frees}
 use Rattle.model.specs.State.{State, fresh}
-use Rattle.model.specs.Calls.{Account, looking, opening, freeing, placing, marking, renewing, account, leftBy, writing, acted, given, logged, result, effect}
-use Rattle.model.specs.History.{Machine, Event, give, free, Entry, entryOf, eventsOf, stateFrom, historyFrom, wasAccepted, freedAmong, syncsBy, syncs, synced?, unsyncedAfter, unsyncedFrom, unsynced}
+use Rattle.model.specs.Calls.{Account, looking, opening, freeing, placing, marking, renewing, account, leftBy, writing, acted, given, logged, effect}
+use Rattle.model.specs.History.{free, Entry, entryOf, eventsOf, stateFrom, historyFrom, wasAccepted, freedAmong, syncsBy, syncs, synced?}
+use Rattle.model.specs.History.{unsyncedAfter, unsyncedFrom, unsynced}
 use Rattle.model.specs.Model.{Screened, answer, keepOr, modelAfter, model, stateAfter, history}
 use Rattle.model.specs.Births.{movesBy, moves}
 use Rattle.model.specs.declared.Call.{Call}

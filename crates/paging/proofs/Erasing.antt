@@ -21,6 +21,7 @@ use Rattle.model.specs.Actions.{doE, slotOf}
 use Rattle.model.specs.Calls.{slot, written, conditions, result, acted}
 use Rattle.model.specs.Layout.{openCell, viewOf, stateOf, stored}
 use Rattle.model.specs.Results.{paired}
+use Rattle.model.proofs.ByNumber.{none-at}
 use Rattle.model.proofs.Fine.{asks-E}
 use Rattle.model.proofs.ResultFacts.{paired-length}
 use Rattle.model.proofs.ResultSize.{erased-one}
@@ -217,7 +218,7 @@ module _ {g : Geometry} {t : List ℕ} (R : Ready g t) (n x s w : ℕ) (none : N
   erase-fits =
       omega (
         arith,
-        ltb-false (g .words - stateOf g t .used) (length (written g (stateOf g t) (Erase n x))) (none .1 .1 .1 .0),
+        ltb-false (g .words - stateOf g t .used) (length (written g (stateOf g t) (Erase n x))) (none-at (conditions g (stateOf g t) (Erase n x)) none 14),
         length-map (freesOf g t (slot (stateOf g t) n) x) released,
         ap (λ k. length (freesOf g t k x)) es,
         ap (λ k. length (freesOf g t s k)) ew,

@@ -22,6 +22,7 @@ use Rattle.model.specs.Actions.{doW, slotOf}
 use Rattle.model.specs.Calls.{slot, found, blockOf, isNothing, written, conditions, result, acted, given}
 use Rattle.model.specs.Layout.{openCell, viewOf, stateOf, stored}
 use Rattle.model.specs.Results.{paired}
+use Rattle.model.proofs.ByNumber.{none-at}
 use Rattle.model.proofs.ChoiceFacts.{found-free}
 use Rattle.model.proofs.Fine.{asks-W}
 use Rattle.model.proofs.ResultFacts.{paired-length}
@@ -255,7 +256,7 @@ module _ {g : Geometry} {t : List ℕ} (R : Ready g t) (n x k s a o c w : ℕ)
   write-fits =
       omega (
         arith,
-        ltb-false (g .words - stateOf g t .used) (length (written g (stateOf g t) (Write n x k))) (J .0 .1 .1 .1 .1 .1 .0),
+        ltb-false (g .words - stateOf g t .used) (length (written g (stateOf g t) (Write n x k))) (none-at (conditions g (stateOf g t) (Write n x k)) (J .0) 14),
         length-map (freesOf g t (slot (stateOf g t) n) x) released,
         ap length frees-same,
       )

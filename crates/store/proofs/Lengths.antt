@@ -1,7 +1,7 @@
 -- What a call leaves is as long as what it was lent: the words it writes fit the log.
 use mathlib.Core.Path.{_≡_, refl, sym, ap, _∙_}
 use mathlib.Core.Bool.{cond}
-use mathlib.Core.List.{List, []}
+use mathlib.Core.List.{List, [], _∷_}
 use Prim.Native.Nat.{ℕ, _+_, _*_, _-_, _≤_}
 use native.Mathlib.Omega.{arith}
 use lib.ListN.{length}
@@ -13,10 +13,12 @@ use Rattle.geometry.specs.declared.Geometry.{Geometry}
 use Rattle.log.specs.Word.{writeAt, bytesOf}
 use Rattle.log.proofs.Writing.{length-write, length-bytes}
 use Rattle.model.specs.State.{State, InRange}
-use Rattle.model.specs.Calls.{Account, looking, opening, freeing, placing, marking, renewing, account, refusalsBy, renews, wordsBy, freed, compressed, conditions, result, written, effect}
+use Rattle.model.specs.Calls.{Account, looking, opening, freeing, placing, marking, renewing, account, refusalsBy, renews, shortBy, wordsBy}
+use Rattle.model.specs.Calls.{freed, compressed, conditions, result, written, effect}
 use Rattle.model.specs.Layout.{stateOf, stored, made}
 use Rattle.model.specs.Memory.{Memory, writtenAt, reply, after, makeReply, makeAfter}
 use Rattle.model.specs.declared.Call.{Call}
+use Rattle.model.proofs.ByNumber.{none-at}
 use Rattle.model.proofs.CallKinds.{none-right}
 use Rattle.model.proofs.LayoutFacts.{stored-length}
 use Rattle.model.proofs.MadeFacts.{made-length}
@@ -33,11 +35,14 @@ module _ (g : Geometry) (T : State) (R : InRange g T) where
   fit-by : (A : Account) → NoneHolds (refusalsBy g T A) → cond (renews A) 0 (8 * T .used) + length (bytesOf (wordsBy g T A)) ≤ 8 * g .words
   fit-by (looking s cs res) n = nothing
   fit-by (opening cs a) n = nothing
-  fit-by (freeing cs a) n = behind (freed T (a T)) (ltb-false (g .words - T .used) (length (freed T (a T))) (none-right (cs g T) _ n .0))
+  fit-by (freeing cs a) n =
+      let past = none-at ((14, shortBy g T (freeing cs a)) ∷ []) (none-right (cs g T) _ n) in
+      behind (freed T (a T)) (ltb-false (g .words - T .used) (length (freed T (a T))) (past 14))
   fit-by (placing r x k) n =
-      behind (wordsBy g T (placing r x k)) (ltb-false (g .words - T .used) (length (wordsBy g T (placing r x k))) (n .1 .1 .1 .1 .1 .0))
-  fit-by marking n = behind (wordsBy g T marking) (ltb-false (g .words - T .used) 1 (n .0))
-  fit-by renewing n = omega (arith, length-bytes (compressed g T), ltb-false (g .words) (length (compressed g T)) (n .0))
+      let past = none-at (refusalsBy g T (placing r x k)) n in
+      behind (wordsBy g T (placing r x k)) (ltb-false (g .words - T .used) (length (wordsBy g T (placing r x k))) (past 14))
+  fit-by marking n = behind (wordsBy g T marking) (ltb-false (g .words - T .used) 1 (none-at (refusalsBy g T marking) n 14))
+  fit-by renewing n = omega (arith, length-bytes (compressed g T), ltb-false (g .words) (length (compressed g T)) (none-at (refusalsBy g T renewing) n 14))
 
   words-fit : (c : Call) → NoneHolds (conditions g T c) → writtenAt T c + length (bytesOf (written g T c)) ≤ 8 * g .words
   words-fit c n = fit-by (account c) n

@@ -1,0 +1,249 @@
+-- A USE OF EACH READING LAW: on any store that obeys them, what a short script is answered tells what R answers. And the listing's store does answer so.
+use mathlib.Core.Path.{_≡_, refl, ap, _∙_, subst}
+use mathlib.Core.Logic.{inl, inr}
+use mathlib.Core.List.{List, [], _∷_, map}
+use Prim.Native.Nat.{ℕ, _<_}
+use native.Mathlib.Omega.{arith}
+use Rattle.answer.specs.Reply.{accepted, refused}
+use Rattle.answer.proofs.Cases.{cases}
+use Rattle.geometry.specs.Limits.{Inside}
+use Rattle.model.specs.Book.{Some}
+use Rattle.model.specs.History.{Machine, stateFrom, historyFrom}
+use Rattle.model.specs.ReadingLaws.{Shows, Changes, Touches, ReadingLaws}
+use Rattle.model.specs.State.{fresh}
+use Rattle.model.specs.Model.{answer, model}
+use Rattle.model.specs.declared.Call.{Call}
+use Rattle.model.specs.declared.Call.the-variants.{Begin, Write, Erase, Seal, Fork, Delete, Read}
+use Rattle.model.proofs.StepFacts.{fresh-fine}
+use Rattle.model.proofs.ReadingFacts.{reading-laws, fine-from}
+use Rattle.model.proofs.PaperExample.{small, fine, repliesTo}
+
+-- calls none of which changes page x of record r
+abbrev Spares : ℕ → ℕ → List Call → Type 0
+Spares r x [] = Unit {0}
+Spares r x (c ∷ cs) = (Changes r x c → ⊥) × Spares r x cs
+
+-- such are S and F, W and E of another page, and D of another record
+by-S : (q r x : ℕ) → Changes r x (Seal q) → ⊥
+by-S q r x (inl (k, e)) = let z : _≡_ {A = ℕ} 0 1 = cc in omega arith
+by-S q r x (inr (inl e)) = let z : _≡_ {A = ℕ} 0 1 = cc in omega arith
+by-S q r x (inr (inr e)) = let z : _≡_ {A = ℕ} 0 1 = cc in omega arith
+
+by-F : (q r x : ℕ) → Changes r x (Fork q) → ⊥
+by-F q r x (inl (k, e)) = let z : _≡_ {A = ℕ} 0 1 = cc in omega arith
+by-F q r x (inr (inl e)) = let z : _≡_ {A = ℕ} 0 1 = cc in omega arith
+by-F q r x (inr (inr e)) = let z : _≡_ {A = ℕ} 0 1 = cc in omega arith
+
+by-W : (q y k r x : ℕ) → (q ≡ r → y ≡ x → ⊥) → Changes r x (Write q y k) → ⊥
+by-W q y k r x n (inl (j, e)) = n (cc) (cc)
+by-W q y k r x n (inr (inl e)) = let z : _≡_ {A = ℕ} 0 1 = cc in omega arith
+by-W q y k r x n (inr (inr e)) = let z : _≡_ {A = ℕ} 0 1 = cc in omega arith
+
+by-E : (q y r x : ℕ) → (q ≡ r → y ≡ x → ⊥) → Changes r x (Erase q y) → ⊥
+by-E q y r x n (inl (j, e)) = let z : _≡_ {A = ℕ} 0 1 = cc in omega arith
+by-E q y r x n (inr (inl e)) = n (cc) (cc)
+by-E q y r x n (inr (inr e)) = let z : _≡_ {A = ℕ} 0 1 = cc in omega arith
+
+by-D : (q r x : ℕ) → (q ≡ r → ⊥) → Changes r x (Delete q) → ⊥
+by-D q r x n (inl (j, e)) = let z : _≡_ {A = ℕ} 0 1 = cc in omega arith
+by-D q r x n (inr (inl e)) = let z : _≡_ {A = ℕ} 0 1 = cc in omega arith
+by-D q r x n (inr (inr e)) = n (cc)
+
+-- the ends of the script below
+spared-1-0 : Spares 1 0 (Seal 1 ∷ Fork 1 ∷ Erase 2 0 ∷ Write 3 1 0 ∷ Delete 2 ∷ [])
+spared-1-0 = (
+  by-S 1 1 0,
+  (
+    by-F 1 1 0,
+    (
+      by-E 2 0 1 0 (λ e d. omega arith),
+      (
+        by-W 3 1 0 1 0 (λ e d. omega arith),
+        (by-D 2 1 0 (λ e. omega arith), tt),
+      ),
+    ),
+  ),
+)
+
+spared-1-1 : Spares 1 1 (Write 1 0 0 ∷ Seal 1 ∷ Fork 1 ∷ Erase 2 0 ∷ Write 3 1 0 ∷ Delete 2 ∷ [])
+spared-1-1 = (
+  by-W 1 0 0 1 1 (λ e d. omega arith),
+  (
+    by-S 1 1 1,
+    (
+      by-F 1 1 1,
+      (
+        by-E 2 0 1 1 (λ e d. omega arith),
+        (by-W 3 1 0 1 1 (λ e d. omega arith), (by-D 2 1 1 (λ e. omega arith), tt)),
+      ),
+    ),
+  ),
+)
+
+spared-3-0 : Spares 3 0 (Erase 2 0 ∷ Write 3 1 0 ∷ Delete 2 ∷ [])
+spared-3-0 = (by-E 2 0 3 0 (λ e d. omega arith), (by-W 3 1 0 3 0 (λ e d. omega arith), (by-D 2 3 0 (λ e. omega arith), tt)))
+
+spared-2-0 : Spares 2 0 (Write 3 1 0 ∷ [])
+spared-2-0 = (by-W 3 1 0 2 0 (λ e d. omega arith), tt)
+
+-- a store, with some way to ask each call
+module _ (M : Machine) (ask : Call → M .Asked) (asks : (c : Call) → M .call (ask c) ≡ c) (T : M .Tables) where
+  -- the tables after some calls
+  abbrev pub at : List Call → M .Tables
+  at cs = stateFrom M T (map ask cs)
+
+  -- calls that do not change the page do not touch it
+  untouched : (r x : ℕ) (cs : List Call) → Spares r x cs → (U : M .Tables) → Some (Touches r x) (historyFrom M U (map ask cs)) → ⊥
+  untouched r x [] n U s = s
+  untouched r x (c ∷ cs) n U s =
+      cases s (λ w. n .0 (subst (Changes r x) (asks c) (w .1))) (λ j. untouched r x cs (n .1) (M .after U (ask c)) j)
+
+  -- the script is B · W 1 0 0 · S 1 · F 1 · E 2 0 · W 3 1 0 · D 2, on a store with no record yet, and what is heard of it: b and c are the blocks given
+  pub record Heard (b c : ℕ) : Type 0 where
+    pub begin : M .answer (at []) (ask Begin) ≡ accepted (1 ∷ [])
+    pub write : M .answer (at (Begin ∷ [])) (ask (Write 1 0 0)) ≡ accepted (b ∷ 1 ∷ [])
+    pub seal : M .answer (at (Begin ∷ Write 1 0 0 ∷ [])) (ask (Seal 1)) ≡ accepted (2 ∷ [])
+    pub fork : M .answer (at (Begin ∷ Write 1 0 0 ∷ Seal 1 ∷ [])) (ask (Fork 1)) ≡ accepted (3 ∷ [])
+    pub erase : M .answer (at (Begin ∷ Write 1 0 0 ∷ Seal 1 ∷ Fork 1 ∷ [])) (ask (Erase 2 0)) ≡ accepted []
+    pub again : M .answer (at (Begin ∷ Write 1 0 0 ∷ Seal 1 ∷ Fork 1 ∷ Erase 2 0 ∷ [])) (ask (Write 3 1 0)) ≡ accepted (c ∷ 3 ∷ [])
+    pub delete : M .answer (at (Begin ∷ Write 1 0 0 ∷ Seal 1 ∷ Fork 1 ∷ Erase 2 0 ∷ Write 3 1 0 ∷ [])) (ask (Delete 2)) ≡ accepted []
+    -- page 0 of record 1 can be read before S and before F: whatever these two readings give
+    pub first : List ℕ
+    pub before-seal : M .answer (at (Begin ∷ Write 1 0 0 ∷ [])) (ask (Read 1 0)) ≡ accepted first
+    pub second : List ℕ
+    pub before-fork : M .answer (at (Begin ∷ Write 1 0 0 ∷ Seal 1 ∷ [])) (ask (Read 1 0)) ≡ accepted second
+
+  -- it obeys the laws after any calls
+  module _ (P : ℕ) (laws : (cs : List Call) → ReadingLaws M P (stateFrom M T (map ask cs))) (pages : 1 < P) (b c : ℕ) (H : Heard b c) where
+    abbrev pub whole : List Call
+    whole = Begin ∷ Write 1 0 0 ∷ Seal 1 ∷ Fork 1 ∷ Erase 2 0 ∷ Write 3 1 0 ∷ Delete 2 ∷ []
+
+    -- written: the W's block is read on its page, to the end of the script and after any more calls that do not name the page
+    pub on-1 : Shows M (at whole) 1 0 (b ∷ 1 ∷ [])
+    on-1 =
+        laws (Begin ∷ []) .written (ask (Write 1 0 0)) 1 0 0 b (1 ∷ []) (asks (Write 1 0 0)) (H .write)
+        (map ask (Seal 1 ∷ Fork 1 ∷ Erase 2 0 ∷ Write 3 1 0 ∷ Delete 2 ∷ []))
+        (untouched 1 0 (Seal 1 ∷ Fork 1 ∷ Erase 2 0 ∷ Write 3 1 0 ∷ Delete 2 ∷ []) spared-1-0 (at (Begin ∷ Write 1 0 0 ∷ [])))
+
+    -- begun: the page that nothing was written on
+    pub on-1-1 : Shows M (at whole) 1 1 []
+    on-1-1 =
+        laws [] .begun (ask Begin) 1 1 [] (asks Begin) (H .begin) pages
+        (map ask (Write 1 0 0 ∷ Seal 1 ∷ Fork 1 ∷ Erase 2 0 ∷ Write 3 1 0 ∷ Delete 2 ∷ []))
+        (untouched 1 1 (Write 1 0 0 ∷ Seal 1 ∷ Fork 1 ∷ Erase 2 0 ∷ Write 3 1 0 ∷ Delete 2 ∷ []) spared-1-1 (at (Begin ∷ [])))
+
+    -- the two readings before S and before F gave the W's block
+    first-is : H .first ≡ b ∷ 1 ∷ []
+    first-is =
+        laws (Begin ∷ []) .written (ask (Write 1 0 0)) 1 0 0 b (1 ∷ []) (asks (Write 1 0 0)) (H .write) [] (λ s. s)
+        .gives (ask (Read 1 0)) (H .first) (asks (Read 1 0)) (H .before-seal)
+
+    -- stays: S 1 leaves what record 1 reads
+    second-is : H .second ≡ H .first
+    second-is =
+        laws (Begin ∷ Write 1 0 0 ∷ []) .stays (ask (Read 1 0)) 1 0 (H .first) (asks (Read 1 0)) (H .before-seal)
+        (map ask (Seal 1 ∷ [])) (untouched 1 0 (Seal 1 ∷ []) (by-S 1 1 0, tt) (at (Begin ∷ Write 1 0 0 ∷ [])))
+        .gives (ask (Read 1 0)) (H .second) (asks (Read 1 0)) (H .before-fork)
+
+    -- sealed: record 2 reads as record 1 did, until the E
+    pub on-2 : (l : List ℕ) → M .answer (at (Begin ∷ Write 1 0 0 ∷ Seal 1 ∷ Fork 1 ∷ [])) (ask (Read 2 0)) ≡ accepted l → l ≡ b ∷ 1 ∷ []
+    on-2 l e =
+        laws (Begin ∷ Write 1 0 0 ∷ []) .sealed (ask (Seal 1)) (ask (Read 1 0)) 1 2 0 (H .first) [] (asks (Seal 1)) (H .seal)
+        (asks (Read 1 0)) (H .before-seal) (map ask (Fork 1 ∷ [])) (untouched 2 0 (Fork 1 ∷ []) (by-F 1 2 0, tt) (at (Begin ∷ Write 1 0 0 ∷ Seal 1 ∷ [])))
+        .gives (ask (Read 2 0)) l (asks (Read 2 0)) e ∙ first-is
+
+    -- erased: then nothing, while it is there
+    pub on-2-erased : Shows M (at (Begin ∷ Write 1 0 0 ∷ Seal 1 ∷ Fork 1 ∷ Erase 2 0 ∷ Write 3 1 0 ∷ [])) 2 0 []
+    on-2-erased =
+        laws (Begin ∷ Write 1 0 0 ∷ Seal 1 ∷ Fork 1 ∷ []) .erased (ask (Erase 2 0)) 2 0 [] (asks (Erase 2 0)) (H .erase)
+        (map ask (Write 3 1 0 ∷ [])) (untouched 2 0 (Write 3 1 0 ∷ []) spared-2-0 (at (Begin ∷ Write 1 0 0 ∷ Seal 1 ∷ Fork 1 ∷ Erase 2 0 ∷ [])))
+
+    -- forked: the fork reads as its base did; neither E on record 2 nor D of it changes that
+    pub on-3 : (l : List ℕ) → M .answer (at whole) (ask (Read 3 0)) ≡ accepted l → l ≡ b ∷ 1 ∷ []
+    on-3 l e =
+        laws (Begin ∷ Write 1 0 0 ∷ Seal 1 ∷ []) .forked (ask (Fork 1)) (ask (Read 1 0)) 1 3 0 (H .second) [] (asks (Fork 1)) (H .fork)
+        (asks (Read 1 0)) (H .before-fork) (map ask (Erase 2 0 ∷ Write 3 1 0 ∷ Delete 2 ∷ []))
+        (untouched 3 0 (Erase 2 0 ∷ Write 3 1 0 ∷ Delete 2 ∷ []) spared-3-0 (at (Begin ∷ Write 1 0 0 ∷ Seal 1 ∷ Fork 1 ∷ [])))
+        .gives (ask (Read 3 0)) l (asks (Read 3 0)) e ∙ second-is ∙ first-is
+
+    -- and a reading of it is not refused with 8
+    pub on-3-there : M .answer (at whole) (ask (Read 3 0)) ≡ refused 8 → ⊥
+    on-3-there e =
+        omega (
+          arith,
+          laws (Begin ∷ Write 1 0 0 ∷ Seal 1 ∷ []) .forked (ask (Fork 1)) (ask (Read 1 0)) 1 3 0 (H .second) [] (asks (Fork 1)) (H .fork)
+              (asks (Read 1 0)) (H .before-fork) (map ask (Erase 2 0 ∷ Write 3 1 0 ∷ Delete 2 ∷ []))
+              (untouched 3 0 (Erase 2 0 ∷ Write 3 1 0 ∷ Delete 2 ∷ []) spared-3-0 (at (Begin ∷ Write 1 0 0 ∷ Seal 1 ∷ Fork 1 ∷ [])))
+              .there (ask (Read 3 0)) 8 (asks (Read 3 0)) e,
+        )
+
+    -- THE WRONG PROGRAM: a fork that opens empty is refused
+    pub not-empty : M .answer (at whole) (ask (Read 3 0)) ≡ accepted [] → ⊥
+    not-empty e = let d : _≡_ {A = ℕ} 0 1 = ap size (on-3 [] e) in omega arith
+      where
+        size : List ℕ → ℕ
+        size [] = 0
+        size (a ∷ l) = 1
+
+    -- gone: record 2 is read no more
+    pub no-2 : (l : List ℕ) → M .answer (at whole) (ask (Read 2 0)) ≡ accepted l → ⊥
+    no-2 l e =
+        laws (Begin ∷ Write 1 0 0 ∷ Seal 1 ∷ Fork 1 ∷ Erase 2 0 ∷ Write 3 1 0 ∷ []) .gone (ask (Delete 2)) 2 [] (asks (Delete 2)) (H .delete)
+        [] (ask (Read 2 0)) 0 l (asks (Read 2 0)) e
+
+    -- rises: its number is not given again, by a B right after the D either
+    pub above-3 : (n : ℕ) (rest : List ℕ) → M .answer (at whole) (ask Begin) ≡ accepted (n ∷ rest) → 3 < n
+    above-3 n rest e =
+        laws (Begin ∷ Write 1 0 0 ∷ Seal 1 ∷ []) .rises (ask (Fork 1)) (ask Begin) 3 n [] rest (map ask (Erase 2 0 ∷ Write 3 1 0 ∷ Delete 2 ∷ []))
+        (inr (inr (1, asks (Fork 1)))) (inl (asks Begin)) (H .fork) e
+
+    -- unread: there was no record 3 before the F
+    pub no-3-yet : (l : List ℕ) → M .answer (at (Begin ∷ Write 1 0 0 ∷ Seal 1 ∷ [])) (ask (Read 3 0)) ≡ accepted l → ⊥
+    no-3-yet l e =
+        laws (Begin ∷ Write 1 0 0 ∷ Seal 1 ∷ []) .unread (ask (Fork 1)) (ask (Read 3 0)) 3 0 [] l (inr (inr (1, asks (Fork 1)))) (H .fork) (asks (Read 3 0)) e
+
+-- ── the listing's store is asked this script, and answers so ──
+
+listed : Heard (model small) fine (λ c. refl) (fresh small) 0 1
+unfolding repliesTo
+listed = record {
+  begin = refl;
+  write = refl;
+  seal = refl;
+  fork = refl;
+  erase = refl;
+  again = refl;
+  delete = refl;
+  first = 0 ∷ 1 ∷ [];
+  before-seal = refl;
+  second = 0 ∷ 1 ∷ [];
+  before-fork = refl;
+}
+
+inside : Inside small
+inside = record {
+  arenas-least = omega arith;
+  arenas-most = omega arith;
+  per-least = omega arith;
+  per-most = omega arith;
+  blocks-most = omega arith;
+  pages-least = omega arith;
+  pages-most = omega arith;
+  records-least = omega arith;
+  records-most = omega arith;
+  turn-least = omega arith;
+  turn-most = omega arith;
+  words-least = omega arith;
+  words-most = omega arith;
+}
+
+obeys : (cs : List Call) → ReadingLaws (model small) 2 (stateFrom (model small) (fresh small) (map fine cs))
+obeys cs =
+    reading-laws small inside (stateFrom (model small) (fresh small) (map fine cs))
+    (fine-from small inside (map fine cs) (fresh small) (fresh-fine small inside))
+
+-- so its fork reads block 0, born in record 1
+pub fork-of-the-listing : (l : List ℕ) →
+    let cs = Begin ∷ Write 1 0 0 ∷ Seal 1 ∷ Fork 1 ∷ Erase 2 0 ∷ Write 3 1 0 ∷ Delete 2 ∷ [] in
+    answer small (stateFrom (model small) (fresh small) (map fine cs)) (fine (Read 3 0)) ≡ accepted l → l ≡ 0 ∷ 1 ∷ []
+fork-of-the-listing = on-3 (model small) fine (λ c. refl) (fresh small) 2 obeys (omega arith) 0 1 listed
