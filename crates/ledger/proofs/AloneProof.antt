@@ -56,7 +56,7 @@ ledger-book g l = book-from g l Rattle.ledger.specs.Ledger.fresh
 abbrev pub plains : List Call → List Screened
 plains l = map plain l
 
-plains-append : (l m : List Call) → plains (l ++ m) ≡ plains l ++ plains m
+pub plains-append : (l m : List Call) → plains (l ++ m) ≡ plains l ++ plains m
 plains-append [] m = refl
 plains-append (c ∷ l) m = ap {B = List Screened} (λ k. plain c ∷ k) (plains-append l m)
 

@@ -68,7 +68,7 @@ module _ (g : Geometry) where
       go (refused n) e = refl
       go (accepted l) e = used-by T (account (i .call)) l (accepted-is g T i l e .1)
 
-  model-used : (l : List Screened) (T : State) → stateFrom (model g) T l .used ≡ usedBy (T .used) (historyFrom (model g) T l)
+  pub model-used : (l : List Screened) (T : State) → stateFrom (model g) T l .used ≡ usedBy (T .used) (historyFrom (model g) T l)
   model-used [] T = refl
   model-used (i ∷ l) T = model-used l (modelAfter g T i) ∙ ap (λ n. usedBy n (historyFrom (model g) (modelAfter g T i) l)) (step-used T i)
 

@@ -1,0 +1,689 @@
+-- A USE FOR EACH STATEMENT, in the statements' order: replies that were heard, and what follows from them by the statement's name. Each use needs the
+-- statement's full strength. Most of them refuse a reply that a wrong program would give.
+use mathlib.Core.Path.{_≡_, refl, sym, ap, _∙_, subst}
+use mathlib.Core.Logic.{_⊎_, inl, inr}
+use mathlib.Core.Bool.{Bool, true, false, cond, true≢false, false≢true}
+use mathlib.Core.List.{List, [], _∷_, _++_, map}
+use Prim.Native.Nat.{ℕ, suc, _+_, _*_, _/_, _%_, _≤_, _<_}
+use native.Mathlib.Omega.{arith}
+use lib.Dec.{eqb}
+use lib.ListN.{length, take, drop, getD}
+use borrow.Author.Tests.{eq-eqb, ne-eqb}
+use Rattle.answer.specs.Reply.{Reply, accepted, refused}
+use Rattle.answer.specs.Refusal.{NoneBefore}
+use Rattle.answer.proofs.Cases.{cases, either, same?}
+use Rattle.geometry.specs.declared.Geometry.{Geometry}
+use Rattle.geometry.specs.Limits.{geometryOf, blocks}
+use Rattle.choice.specs.First.{Ahead}
+use Rattle.choice.specs.Turn.{next}
+use Rattle.log.specs.Word.{released, writeAt, bytesOf}
+use Rattle.log.specs.Tool.{readReply}
+use Rattle.model.specs.Table.{put}
+use Rattle.model.specs.View.{View, predNum}
+use Rattle.model.specs.Deadlists.{shard}
+use Rattle.model.specs.SoundMeans.{Live}
+use Rattle.model.specs.RefusalMeans.{There}
+use Rattle.model.specs.Held.{waits, tally}
+use Rattle.model.specs.Results.{paired, blocksIn, born, bornIn, itemsOf}
+use Rattle.model.specs.Calls.{spelling}
+use Rattle.model.specs.Book.{Some, Book, OnPage, emptyBook, enter, openLine, pageSet, inLine, setPage, inRecs, inLines, recSealed, sealRec, recOut, dropRec, keepLine, dropIn}
+use Rattle.model.specs.History.{Machine, Event, give, free, Entry, entryOf, stateFrom, historyFrom, events, book, syncs, unsynced, NotFreed, Standing, Demand3}
+use Rattle.model.specs.HistoryFacts.{HistoryFacts, givenIn, freedIn, different, onFirst, onRecs, onLines, Sealed, Gave, Names, LastGave, Synced, Frees, Gives, Lists}
+use Rattle.model.specs.Layout.{viewOf, stateOf}
+use Rattle.model.specs.Memory.{Memory, wordsUsed, allConditions, reply, after, makeReply, makeAfter}
+use Rattle.model.specs.Model.{Screened, history}
+use Rattle.model.specs.Demand.{Request, metBy, machine, Own, withOut, ownStore, run}
+use Rattle.model.specs.Crash.{Ended, usedAfter, heldAfter, startFrom, Cut}
+use Rattle.model.specs.PlugTold.{usedThen, usedBy}
+use Rattle.model.specs.HistoryChoice.{isW, writesIn, markBy, MayBeGiven, IsChosen, HistoryChoice}
+use Rattle.model.specs.Estimate.{behind, BirthsAbove}
+use Rattle.model.specs.declared.Call.{Call}
+use Rattle.model.specs.declared.Call.the-variants.{Begin, Write, Erase, Seal, Fork, Delete, Read, Barrier, Compress, FreeList, Estimate}
+use Rattle.model.proofs.Demands.{demand, waits-means, never-4}
+use Rattle.model.proofs.CrashProof.{crash}
+use Rattle.model.proofs.PlugToldProof.{plug}
+use Rattle.model.proofs.HistoryChoiceProof.{choice}
+use Rattle.model.proofs.PaperExample.{fine, repliesTo}
+use Rattle.model.proofs.EstimateFacts.{estimate-still, estimate-true, estimate-enough, shards-counted}
+use Rattle.model.proofs.BirthsInResults.{births-in-results, log-as-before}
+use Rattle.model.proofs.CutPlace.{history-append, passes?, placeOf, startOf, used-is, cut-early, cut-mid, start-is}
+
+-- ── what is heard ──
+
+-- store 1 2 2 2 8 6: two blocks, two pages
+abbrev pub two : Geometry
+two = geometryOf 1 2 2 2 8 6
+
+abbrev pub gave : Call → List ℕ → Entry
+gave c l = record { call = c; answer = accepted l }
+
+abbrev pub turned : Call → ℕ → Entry
+turned c n = record { call = c; answer = refused n }
+
+-- block 0 is on page 0 of record 1, and block 1 is free
+abbrev pub one-on : List Entry
+one-on = gave Begin (1 ∷ []) ∷ gave (Write 1 0 0) (0 ∷ 1 ∷ []) ∷ []
+
+-- block 1 took its place, and block 0 waits
+abbrev pub one-waits : List Entry
+one-waits = one-on ++ (gave (Write 1 0 0) (1 ∷ 1 ∷ 0 ∷ 1 ∷ []) ∷ [])
+
+-- record 1 is sealed, with block 0 on its page 0
+abbrev pub one-sealed : List Entry
+one-sealed = one-on ++ (gave (Seal 1) (2 ∷ []) ∷ [])
+
+-- block 0 was freed, and nothing is on a page
+abbrev pub one-freed : List Entry
+one-freed = one-on ++ (gave (Erase 1 0) (0 ∷ 1 ∷ []) ∷ [])
+
+-- block 0 was given to record 1, and then to record 2
+abbrev pub given-twice : List Entry
+given-twice =
+    one-freed ++
+    (gave Barrier [] ∷ gave Begin (2 ∷ []) ∷ gave (Write 2 0 0) (1 ∷ 2 ∷ []) ∷ gave (Erase 2 0) (1 ∷ 2 ∷ []) ∷ gave (Write 2 0 0) (0 ∷ 2 ∷ []) ∷ [])
+
+-- the book of what was heard: to unfold it is to unfold all that it is told by
+unfoldable bookHeard : List Entry → Book
+unfolding put emptyBook enter openLine pageSet inLine setPage inRecs inLines recSealed sealRec recOut dropRec keepLine dropIn blocksIn
+bookHeard H = book 2 H
+
+-- ── lists that are written out ──
+
+put-page : (f : ℕ → ℕ) (x v y w : ℕ) → put f x v y ≡ w → (v ≡ w) ⊎ (f y ≡ w)
+unfolding put
+put-page f x v y w e = go (eqb y x) e
+  where
+    go : (t : Bool) → cond t v (f y) ≡ w → (v ≡ w) ⊎ (f y ≡ w)
+    go true d = inl d
+    go false d = inr d
+
+-- is b given and not freed since, after some events? h: before them
+unfoldable stands : ℕ → Bool → List Event → Bool
+stands b h [] = h
+stands b h (give c ∷ l) = stands b (cond (eqb b c) true h) l
+stands b h (free c ∷ l) = stands b (cond (eqb b c) false h) l
+
+stands-append : (b : ℕ) (l m : List Event) (h : Bool) → stands b h (l ++ m) ≡ stands b (stands b h l) m
+unfolding stands
+stands-append b [] m h = refl
+stands-append b (give c ∷ l) m h = stands-append b l m (cond (eqb b c) true h)
+stands-append b (free c ∷ l) m h = stands-append b l m (cond (eqb b c) false h)
+
+still-stands : (b : ℕ) (l : List Event) → NotFreed b l → stands b true l ≡ true
+unfolding stands
+still-stands b [] n = refl
+still-stands b (give c ∷ l) n = cases (same? b c) (λ e. rw (eq-eqb b c e) (still-stands b l (n .1))) (λ d. rw (ne-eqb b c d) (still-stands b l (n .1)))
+still-stands b (free c ∷ l) n = rw (ne-eqb b c (λ e. n .0 (ap free (sym e)))) (still-stands b l (n .1))
+
+standing-stands : (b : ℕ) (l : List Event) → Standing b l → stands b false l ≡ true
+unfolding stands
+standing-stands b l s =
+    ap (stands b false) (s .split) ∙ stands-append b (s .early) (give b ∷ s .late) false ∙ rw (eq-eqb b b refl) (still-stands b (s .late) (s .since))
+
+-- the record of the last W that gave b, or v where there is none
+unfoldable giver : ℕ → ℕ → Call → Reply → ℕ
+giver b v (Write r x k) (accepted (c ∷ l)) = cond (eqb c b) r v
+giver b v (Write r x k) (accepted []) = v
+giver b v (Write r x k) (refused n) = v
+giver b v Begin a = v
+giver b v (Erase r x) a = v
+giver b v (Seal r) a = v
+giver b v (Fork r) a = v
+giver b v (Delete r) a = v
+giver b v (Read r x) a = v
+giver b v Barrier a = v
+giver b v Compress a = v
+giver b v FreeList a = v
+giver b v (Estimate r) a = v
+
+unfoldable lastGiver : ℕ → ℕ → List Entry → ℕ
+lastGiver b v [] = v
+lastGiver b v (e ∷ l) = lastGiver b (giver b v (e .call) (e .answer)) l
+
+giver-append : (b v : ℕ) (l m : List Entry) → lastGiver b v (l ++ m) ≡ lastGiver b (lastGiver b v l) m
+unfolding lastGiver
+giver-append b v [] m = refl
+giver-append b v (e ∷ l) m = giver-append b (giver b v (e .call) (e .answer)) l m
+
+gives-it : (b r v : ℕ) (e : Entry) → Gave b r e → giver b v (e .call) (e .answer) ≡ r
+unfolding giver
+gives-it b r v e (x, k, rest, c, a) = rw (c, a, eq-eqb b b refl)
+
+gives-not : (b v : ℕ) (c : Call) (a : Reply) → ((q : ℕ) → Gave b q (record { call = c; answer = a }) → ⊥) → giver b v c a ≡ v
+unfolding giver
+gives-not b v (Write r x k) (accepted (d ∷ l)) n =
+    rw (ne-eqb d b (λ e. n r (x, k, l, refl, ap (λ (f : ℕ). accepted (f ∷ l)) e)))
+gives-not b v (Write r x k) (accepted []) n = refl
+gives-not b v (Write r x k) (refused m) n = refl
+gives-not b v Begin a n = refl
+gives-not b v (Erase r x) a n = refl
+gives-not b v (Seal r) a n = refl
+gives-not b v (Fork r) a n = refl
+gives-not b v (Delete r) a n = refl
+gives-not b v (Read r x) a n = refl
+gives-not b v Barrier a n = refl
+gives-not b v Compress a n = refl
+gives-not b v FreeList a n = refl
+gives-not b v (Estimate r) a n = refl
+
+none-gives : (b v : ℕ) (l : List Entry) → ((q : ℕ) → Some (Gave b q) l → ⊥) → lastGiver b v l ≡ v
+unfolding lastGiver
+none-gives b v [] n = refl
+none-gives b v (e ∷ l) n =
+    ap (λ (w : ℕ). lastGiver b w l) (gives-not b v (e .call) (e .answer) (λ q g. n q (inl g))) ∙ none-gives b v l (λ q i. n q (inr i))
+
+last-giver : (b r : ℕ) (l : List Entry) → LastGave b r l → lastGiver b 0 l ≡ r
+unfolding lastGiver
+last-giver b r l G =
+    ap (lastGiver b 0) (G .split) ∙ giver-append b 0 (G .early) (G .entry ∷ G .late) ∙
+    ap (λ (w : ℕ). lastGiver b w (G .late)) (gives-it b r (lastGiver b 0 (G .early)) (G .entry) (G .gave)) ∙ none-gives b r (G .late) (G .since)
+
+below-two : (b : ℕ) → b < 2 → (b ≡ 0) ⊎ (b ≡ 1)
+below-two b h = cases (same? b 0) (λ e. inl e) (λ n. inr (omega (arith, h, n)))
+
+-- ── DEMAND 3 AND THE FACTS, of any store with two blocks and two pages ──
+
+module _ (M : Machine) (T : M .Tables) (D : (l : List (M .Asked)) → Demand3 M 2 2 T l × HistoryFacts M 2 2 T l) where
+  abbrev now : List (M .Asked) → M .Tables
+  now l = stateFrom M T l
+
+  -- `full`, from left to right: while block 1 is free no W is refused 13
+  pub not-yet-full : (before : List (M .Asked)) → historyFrom M T before ≡ one-on →
+      (w : M .Asked) (r x k : ℕ) → M .call w ≡ Write r x k → M .answer (now before) w ≡ refused 13 → ⊥
+  unfolding bookHeard
+  not-yet-full before h w r x k c a =
+      let all = D (before ++ (w ∷ [])) .0 .full before [] w r x k refl c .0 a .1 in
+      let at : OnPage (book 2 one-on) 1 ⊎ (unsynced one-on 1 ≡ true) = subst (λ H. OnPage (book 2 H) 1 ⊎ (unsynced H 1 ≡ true)) h (all 1 (omega arith)) in
+      cases at
+      (λ o. cases o (λ q. cases q (λ p. cases (put-page (λ y. 0) 0 1 (p .0) 2 (p .1)) (λ e. omega (arith, e)) (λ e. omega (arith, e))) (λ z. z)) (λ z. z))
+      (λ u. false≢true u)
+
+  -- and from right to left: with block 1 on a page and block 0 waiting, a W that nothing earlier refuses is refused 13
+  pub full-now : (before : List (M .Asked)) → historyFrom M T before ≡ one-waits →
+      (w : M .Asked) (r x k : ℕ) → M .call w ≡ Write r x k → NoneBefore 13 (M .conditions (now before) w) → M .answer (now before) w ≡ refused 13
+  unfolding bookHeard
+  full-now before h w r x k c n =
+      D (before ++ (w ∷ [])) .0 .full before [] w r x k refl c .1 (
+        n,
+        λ b l. subst (λ H. OnPage (book 2 H) b ⊎ (unsynced H b ≡ true)) (sym h)
+            (cases (below-two b l)
+            (λ e. subst (λ d. OnPage (book 2 one-waits) d ⊎ (unsynced one-waits d ≡ true)) (sym e) (inr refl))
+            (λ e. subst (λ d. OnPage (book 2 one-waits) d ⊎ (unsynced one-waits d ≡ true)) (sym e) (inl (inl (inl (0, refl)))))),
+      )
+
+  -- `gives`: the only block that is free is given
+  pub gives-1 : (before : List (M .Asked)) → historyFrom M T before ≡ one-on → (w : M .Asked) (r x k : ℕ) (given : List ℕ) →
+      M .call w ≡ Write r x k → M .answer (now before) w ≡ accepted given → (rest : List ℕ) × (given ≡ 1 ∷ rest)
+  unfolding bookHeard
+  gives-1 before h w r x k given c a =
+      let (b, rest, is, below, off, awake) = D (before ++ (w ∷ [])) .0 .gives before [] w r x k given refl c a in
+      cases (below-two b below)
+      (λ e. absurd (off (subst (λ H. OnPage (book 2 H) b) (sym h) (subst (λ d. OnPage (book 2 one-on) d) (sym e) (inl (inl (0, refl)))))))
+      (λ e. (rest, is ∙ ap {B = List ℕ} (λ d. d ∷ rest) e))
+
+  -- and none that waits: with block 1 on a page and block 0 waiting no W is accepted
+  pub none-to-give : (before : List (M .Asked)) → historyFrom M T before ≡ one-waits → (w : M .Asked) (r x k : ℕ) (given : List ℕ) →
+      M .call w ≡ Write r x k → M .answer (now before) w ≡ accepted given → ⊥
+  unfolding bookHeard
+  none-to-give before h w r x k given c a =
+      let (b, rest, is, below, off, awake) = D (before ++ (w ∷ [])) .0 .gives before [] w r x k given refl c a in
+      cases (below-two b below)
+      (λ e. true≢false (ap (λ d. unsynced one-waits d) (sym e) ∙ subst (λ H. unsynced H b ≡ false) h awake))
+      (λ e. off (subst (λ H. OnPage (book 2 H) b) (sym h) (subst (λ d. OnPage (book 2 one-waits) d) (sym e) (inl (inl (0, refl))))))
+
+  -- `frees`, with its 'since': block 0 was freed already, so D cannot free it once more
+  pub not-twice : (l : List (M .Asked)) → historyFrom M T l ≡ one-waits ++ (gave (Delete 1) (1 ∷ 1 ∷ 0 ∷ 1 ∷ []) ∷ []) → ⊥
+  unfolding stands bookHeard
+  not-twice l h =
+      false≢true
+      (standing-stands 0 (give 0 ∷ give 1 ∷ free 0 ∷ free 1 ∷ []) (D l .0 .frees (give 0 ∷ give 1 ∷ free 0 ∷ free 1 ∷ []) [] 0 (ap events h)))
+
+  -- `held`: a D that frees its first block and merely drops the other is refused
+  pub none-lost : (l : List (M .Asked)) →
+      historyFrom M T l ≡ one-on ++ (gave (Write 1 1 0) (1 ∷ 1 ∷ []) ∷ gave (Delete 1) (0 ∷ 1 ∷ []) ∷ []) → ⊥
+  unfolding givenIn freedIn different tally onLines onRecs onFirst bookHeard
+  none-lost l h =
+      let e : _≡_ {A = ℕ} 2 1 = subst (λ H. givenIn (events H) ≡ freedIn (events H) + different 2 2 (book 2 H)) h (D l .1 .held) in
+      omega (arith, e)
+
+  -- `sealed`: whatever is called between them, two readings of a sealed page give the same
+  pub reads-same : (before more : List (M .Asked)) → historyFrom M T before ≡ one-sealed → (v w : M .Asked) (l m : List ℕ) →
+      M .call v ≡ Read 1 0 → M .call w ≡ Read 1 0 → M .answer (now before) v ≡ accepted l → M .answer (now (before ++ more)) w ≡ accepted m → l ≡ m
+  unfolding bookHeard
+  reads-same before more h v w l m cv cw av aw =
+      D before .1 .sealed more v w 1 0 l m cv cw (subst (λ H. Sealed (book 2 H) 1) (sym h) (inl (inl (refl, refl)))) av aw
+
+  -- `room`: right after C neither W nor E nor D nor Y is refused 14
+  abbrev Roomy : Call → Type 0
+  Roomy d = (before : List (M .Asked)) (c i : M .Asked) (l : List ℕ) → M .call c ≡ Compress → M .answer (now before) c ≡ accepted l →
+      M .call i ≡ d → M .answer (now (before ++ (c ∷ []))) i ≡ refused 14 → ⊥
+
+  pub room-W : (r x k : ℕ) → Roomy (Write r x k)
+  room-W r x k before c i l cc a e = D before .1 .room c i l cc a
+
+  pub room-E : (r x : ℕ) → Roomy (Erase r x)
+  room-E r x before c i l cc a e = D before .1 .room c i l cc a
+
+  pub room-D : (r : ℕ) → Roomy (Delete r)
+  room-D r before c i l cc a e = D before .1 .room c i l cc a
+
+  pub room-Y : Roomy Barrier
+  room-Y before c i l cc a e = D before .1 .room c i l cc a
+
+  -- `birth-is`, of R, E and D: block 0 was given to record 1 once, and then to record 2; that is the birth that is named
+  born-in-2 : (before : List (M .Asked)) → historyFrom M T before ≡ given-twice → (i : M .Asked) (v : ℕ) →
+      Names 0 v (entryOf M (now before) i) → giver 0 2 (M .call i) (M .answer (now before) i) ≡ 2 → v ≡ 2
+  unfolding lastGiver giver
+  born-in-2 before h i v n still =
+      sym (last-giver 0 v (historyFrom M T (before ++ (i ∷ []))) (D before .1 .birth-is i 0 v n)) ∙
+      ap (lastGiver 0 0) (history-append M T before (i ∷ []) ∙ ap {B = List Entry} (λ H. H ++ (entryOf M (now before) i ∷ [])) h) ∙ still
+
+  pub R-names-2 : (before : List (M .Asked)) → historyFrom M T before ≡ given-twice → (i : M .Asked) (v : ℕ) → M .call i ≡ Read 2 0 →
+      M .answer (now before) i ≡ accepted (0 ∷ v ∷ []) → v ≡ 2
+  unfolding giver itemsOf bornIn
+  R-names-2 before h i v c a =
+      born-in-2 before h i v (0 ∷ v ∷ [], a, subst (λ d. Some (λ j. j ≡ born 0 v) (itemsOf (spelling d) (0 ∷ v ∷ []))) (sym c) (inl refl)) (rw c refl)
+
+  pub E-names-2 : (before : List (M .Asked)) → historyFrom M T before ≡ given-twice → (i : M .Asked) (v : ℕ) → M .call i ≡ Erase 2 0 →
+      M .answer (now before) i ≡ accepted (0 ∷ v ∷ []) → v ≡ 2
+  unfolding giver itemsOf bornIn
+  E-names-2 before h i v c a =
+      born-in-2 before h i v (0 ∷ v ∷ [], a, subst (λ d. Some (λ j. j ≡ born 0 v) (itemsOf (spelling d) (0 ∷ v ∷ []))) (sym c) (inl refl)) (rw c refl)
+
+  pub D-names-2 : (before : List (M .Asked)) → historyFrom M T before ≡ given-twice → (i : M .Asked) (v : ℕ) → M .call i ≡ Delete 2 →
+      M .answer (now before) i ≡ accepted (0 ∷ v ∷ []) → v ≡ 2
+  unfolding giver itemsOf bornIn
+  D-names-2 before h i v c a =
+      born-in-2 before h i v (0 ∷ v ∷ [], a, subst (λ d. Some (λ j. j ≡ born 0 v) (itemsOf (spelling d) (0 ∷ v ∷ []))) (sym c) (inl refl)) (rw c refl)
+
+  -- `given-after-barrier`: a block that E freed is not given while no Y or C was accepted; a refused Y does not count
+  pub not-given-yet : (l : List (M .Asked)) → historyFrom M T l ≡ one-freed ++ (turned Barrier 14 ∷ gave (Write 1 0 0) (0 ∷ 1 ∷ []) ∷ []) → ⊥
+  unfolding bookHeard
+  not-given-yet l h =
+      cases
+      (D l .1 .given-after-barrier one-on (turned Barrier 14 ∷ []) [] (gave (Erase 1 0) (0 ∷ 1 ∷ [])) (gave (Write 1 0 0) (0 ∷ 1 ∷ [])) 0 h
+      (inl refl) (inl refl))
+      (λ e. false≢true e) (λ z. z)
+
+  -- nor one that a W freed
+  pub not-given-back : (l : List (M .Asked)) → historyFrom M T l ≡ one-waits ++ (gave (Write 1 1 0) (0 ∷ 1 ∷ []) ∷ []) → ⊥
+  unfolding bookHeard
+  not-given-back l h =
+      D l .1 .given-after-barrier one-on [] [] (gave (Write 1 0 0) (1 ∷ 1 ∷ 0 ∷ 1 ∷ [])) (gave (Write 1 1 0) (0 ∷ 1 ∷ [])) 0 h (inr (inl refl)) (inl refl)
+
+  -- `listed-after-barrier`: nor listed; block 1 is the second of the run
+  pub not-listed-yet : (l : List (M .Asked)) →
+      historyFrom M T l ≡ one-on ++ (gave (Write 1 1 0) (1 ∷ 1 ∷ []) ∷ gave (Erase 1 1) (1 ∷ 1 ∷ []) ∷ gave FreeList (0 ∷ 2 ∷ []) ∷ []) → ⊥
+  unfolding bookHeard
+  not-listed-yet l h =
+      D l .1 .listed-after-barrier (one-on ++ (gave (Write 1 1 0) (1 ∷ 1 ∷ []) ∷ [])) [] [] (gave (Erase 1 1) (1 ∷ 1 ∷ [])) (gave FreeList (0 ∷ 2 ∷ [])) 1 h
+      (inl refl) (0 ∷ 2 ∷ [], refl, refl, inl (omega arith, omega arith))
+
+-- ── the same of the calls on lent memory ──
+
+-- `demand`: on any memory on which the making was accepted, each call with a log and a buffer of its own
+module _ (M : Memory) (made : makeReply two M ≡ accepted []) where
+  abbrev lent-at : List Request → List ℕ
+  lent-at l = stateFrom (machine two) (makeAfter two M .tables) l
+
+  pub lent-full : (before : List Request) → historyFrom (machine two) (makeAfter two M .tables) before ≡ one-waits → (w : Request) (r x k : ℕ) →
+      w .call ≡ Write r x k → NoneBefore 13 (allConditions two (metBy (lent-at before) w) (w .call)) →
+      reply two (metBy (lent-at before) w) (w .call) ≡ refused 13
+  lent-full = full-now (machine two) (makeAfter two M .tables) (demand two M made)
+
+  pub lent-not-twice : (l : List Request) →
+      historyFrom (machine two) (makeAfter two M .tables) l ≡ one-waits ++ (gave (Delete 1) (1 ∷ 1 ∷ 0 ∷ 1 ∷ []) ∷ []) → ⊥
+  lent-not-twice = not-twice (machine two) (makeAfter two M .tables) (demand two M made)
+
+  pub lent-room : (r x k : ℕ) (before : List Request) (c i : Request) (l : List ℕ) → c .call ≡ Compress →
+      reply two (metBy (lent-at before) c) (c .call) ≡ accepted l → i .call ≡ Write r x k →
+      reply two (metBy (lent-at (before ++ (c ∷ []))) i) (i .call) ≡ refused 14 → ⊥
+  lent-room = room-W (machine two) (makeAfter two M .tables) (demand two M made)
+
+  -- `waits-means`, both ways: the tables say that block 0 waits, and say no longer so once a Y was accepted
+  pub lent-waits : (l : List Request) → historyFrom (machine two) (makeAfter two M .tables) l ≡ one-freed → waits (stateOf two (lent-at l)) 0 ≡ true
+  unfolding bookHeard
+  lent-waits l h = waits-means two M made l 0 ∙ ap (λ H. unsynced H 0) h
+
+  pub lent-synced : (l : List Request) → historyFrom (machine two) (makeAfter two M .tables) l ≡ one-freed ++ (gave Barrier [] ∷ []) →
+      waits (stateOf two (lent-at l)) 0 ≡ false
+  unfolding bookHeard
+  lent-synced l h = waits-means two M made l 0 ∙ ap (λ H. unsynced H 0) h
+
+  -- `never-4`: neither W nor C, with a buffer of any length
+  pub never-W : (before : List Own) (out : List ℕ) (r x k : ℕ) → reply two (withOut (run two (makeAfter two M) before) out) (Write r x k) ≡ refused 4 → ⊥
+  never-W before out r x k = never-4 two M made before (record { call = Write r x k; out = out })
+
+  pub never-C : (before : List Own) (out : List ℕ) → reply two (withOut (run two (makeAfter two M) before) out) Compress ≡ refused 4 → ⊥
+  never-C before out = never-4 two M made before (record { call = Compress; out = out })
+
+-- ── A PLUG PULLED ──
+
+-- store 1 2 2 2 8 10: room for ten words
+abbrev pub ten : Geometry
+ten = geometryOf 1 2 2 2 8 10
+
+-- the log after C has two words, and then five: allocate 1, barrier, free 0, barrier, allocate 0
+abbrev pub plugged : List Entry
+plugged =
+    one-on ++
+    (gave Compress (2 ∷ []) ∷ gave (Write 1 1 0) (1 ∷ 1 ∷ []) ∷ gave Barrier [] ∷ gave (Erase 1 0) (0 ∷ 1 ∷ []) ∷ gave Barrier [] ∷
+    gave (Write 1 0 0) (0 ∷ 1 ∷ []) ∷ [])
+
+-- a wrong program: block 0 is given again while it waits, and freed again
+abbrev given-too-soon : List Entry
+given-too-soon =
+    one-on ++ (gave Barrier [] ∷ gave (Erase 1 0) (0 ∷ 1 ∷ []) ∷ gave (Write 1 0 0) (0 ∷ 1 ∷ []) ∷ gave (Erase 1 0) (0 ∷ 1 ∷ []) ∷ [])
+
+-- page 0 was written and erased, page 1 was written
+pages-then : (y w : ℕ) → put (put (put (λ x. 0) 0 1) 1 2) 0 0 y ≡ w → (w ≡ 0) ⊎ (w ≡ 2)
+unfolding put
+pages-then y w e =
+    cases (same? y 0)
+    (λ z. inl (sym e ∙ rw (eq-eqb y 0 z) refl))
+    (λ n. cases (same? y 1)
+    (λ z. inr (sym e ∙ rw (ne-eqb y 0 n, eq-eqb y 1 z) refl))
+    (λ m. inl (sym e ∙ rw (ne-eqb y 0 n, ne-eqb y 1 m) refl)))
+
+-- A holds, or does not
+abbrev Is : Bool → Type 0 → Type 0
+Is true A = A
+Is false A = A → ⊥
+
+module _ (M : Memory) (made : makeReply ten M ≡ accepted []) (l : List Own) where
+  abbrev own : List Own → List Entry
+  own k = historyFrom (ownStore ten) (makeAfter ten M) k
+
+  held-as : (k : List Own) (b : ℕ) (p : Bool) → Is p (OnPage (book 2 (own k)) b) → heldAfter ten (makeAfter ten M) k b ≡ p
+  held-as k b true o = plug ten M made k .holds b .1 o
+  held-as k b false n = cases (either (heldAfter ten (makeAfter ten M) k b)) (λ t. absurd (n (plug ten M made k .holds b .0 t))) (λ f. f)
+
+  module _ (h : historyFrom (ownStore ten) (makeAfter ten M) l ≡ plugged) (out : List ℕ) (long : 68 ≤ length out) where
+    -- `crash`, for a cut at byte n that leaves k calls up to the last whole barrier
+    reads-cut : (n k : ℕ) (p q : Bool) → 16 ≤ n → n ≤ 56 → placeOf n 0 0 0 plugged ≡ k →
+        Is p (OnPage (book 2 (take k plugged)) 0) → Is q (OnPage (book 2 (take k plugged)) 1) →
+        readReply ten (take n (run ten (makeAfter ten M) l .log)) out ≡ accepted (cond p (0 ∷ cond q (1 ∷ []) []) (cond q (1 ∷ []) []))
+    unfolding startOf bookHeard
+    reads-cut n k p q least most e on0 on1 =
+        let start : startFrom ten (makeAfter ten M) 0 l ≡ 2 = start-is ten M made l ∙ ap (startOf 0 0) h in
+        let end : usedAfter ten (makeAfter ten M) l ≡ 7 = used-is ten M made l ∙ ap (usedBy 0) h in
+        let c : Cut ten (makeAfter ten M) l n = crash ten M made l n (omega (arith, start, least)) (omega (arith, end, most)) in
+        let told : own (c .early) ≡ take k plugged = cut-early ten M made l n k c (ap (placeOf n 0 0 0) h ∙ e) .2 ∙ ap (take k) h in
+        let t0 = held-as (c .early) 0 p (subst (λ H. Is p (OnPage (book 2 H) 0)) (sym told) on0) in
+        let t1 = held-as (c .early) 1 q (subst (λ H. Is q (OnPage (book 2 H) 1)) (sym told) on1) in
+        c .reads out (omega (arith, long)) ∙ ap accepted (rw (t0, t1) refl)
+
+    -- right at the end of C's words
+    pub cut-16 : readReply ten (take 16 (run ten (makeAfter ten M) l .log)) out ≡ accepted (0 ∷ [])
+    unfolding placeOf passes? bookHeard
+    cut-16 = reads-cut 16 3 true false (omega arith) (omega arith) refl (inl (inl (0, refl))) off
+      where
+        off : OnPage (book 2 (take 3 plugged)) 1 → ⊥
+        off o = cases o (λ q. cases q (λ p. cases (put-page (λ y. 0) 0 1 (p .0) 2 (p .1)) (λ e. omega (arith, e)) (λ e. omega (arith, e))) (λ z. z)) (λ z. z)
+
+    -- one byte of the Y is missing: back to the C
+    pub cut-31 : readReply ten (take 31 (run ten (makeAfter ten M) l .log)) out ≡ accepted (0 ∷ [])
+    unfolding placeOf passes? bookHeard
+    cut-31 = reads-cut 31 3 true false (omega arith) (omega arith) refl (inl (inl (0, refl))) off
+      where
+        off : OnPage (book 2 (take 3 plugged)) 1 → ⊥
+        off o = cases o (λ q. cases q (λ p. cases (put-page (λ y. 0) 0 1 (p .0) 2 (p .1)) (λ e. omega (arith, e)) (λ e. omega (arith, e))) (λ z. z)) (λ z. z)
+
+    -- at the Y's end, and inside the word after it
+    pub cut-32 : readReply ten (take 32 (run ten (makeAfter ten M) l .log)) out ≡ accepted (0 ∷ 1 ∷ [])
+    unfolding placeOf passes? bookHeard
+    cut-32 = reads-cut 32 5 true true (omega arith) (omega arith) refl (inl (inl (0, refl))) (inl (inl (1, refl)))
+
+    pub cut-35 : readReply ten (take 35 (run ten (makeAfter ten M) l .log)) out ≡ accepted (0 ∷ 1 ∷ [])
+    unfolding placeOf passes? bookHeard
+    cut-35 = reads-cut 35 5 true true (omega arith) (omega arith) refl (inl (inl (0, refl))) (inl (inl (1, refl)))
+
+    -- the free of block 0 counts once the Y after it is whole
+    pub cut-48 : readReply ten (take 48 (run ten (makeAfter ten M) l .log)) out ≡ accepted (1 ∷ [])
+    unfolding placeOf passes? bookHeard
+    cut-48 = reads-cut 48 7 false true (omega arith) (omega arith) refl off (inl (inl (1, refl)))
+      where
+        off : OnPage (book 2 (take 7 plugged)) 0 → ⊥
+        off o = cases o (λ q. cases q (λ p. cases (pages-then (p .0) 1 (p .1)) (λ e. omega (arith, e)) (λ e. omega (arith, e))) (λ z. z)) (λ z. z)
+
+  -- `kept`: block 0, held at the barrier, is not given before the next one, though it was freed since and is freed again after that
+  pub not-too-soon : historyFrom (ownStore ten) (makeAfter ten M) l ≡ given-too-soon → ⊥
+  unfolding placeOf passes? startOf bookHeard
+  not-too-soon h =
+      let start : startFrom ten (makeAfter ten M) 0 l ≡ 0 = start-is ten M made l ∙ ap (startOf 0 0) h in
+      let end : usedAfter ten (makeAfter ten M) l ≡ 5 = used-is ten M made l ∙ ap (usedBy 0) h in
+      let c : Cut ten (makeAfter ten M) l 40 = crash ten M made l 40 (omega (arith, start)) (omega (arith, end)) in
+      let at : placeOf 40 0 0 0 (own l) ≡ 3 = ap (placeOf 40 0 0 0) h in
+      let told : own (c .early) ≡ take 3 given-too-soon = cut-early ten M made l 40 3 c at .2 ∙ ap (take 3) h in
+      let t0 = held-as (c .early) 0 true (subst (λ H. OnPage (book 2 H) 0) (sym told) (inl (inl (0, refl)))) in
+      let mid = cut-mid ten M made l 40 3 c at (subst (λ H. Some Ended (drop 3 H) → ⊥) (sym h) no-Y) ∙ ap (drop 3) h in
+      c .kept 0 t0 (subst (Some (Gives 0)) (sym mid) (inr (inl (inl refl))))
+    where
+      no-Y : Some Ended (drop 3 given-too-soon) → ⊥
+      no-Y s =
+          cases s (λ e. false≢true (ap syncs (e .0)))
+          (λ t. cases t (λ e. false≢true (ap syncs (e .0))) (λ u. cases u (λ e. false≢true (ap syncs (e .0))) (λ z. z)))
+
+-- ── THE CHOICE AND 14, OVER HISTORIES ──
+
+-- store 3 2 4 1 2 14: three arenas of two blocks, a turn of two writes
+abbrev pub arenas3 : Geometry
+arenas3 = geometryOf 3 2 4 1 2 14
+
+-- two writes: the turn has ended, and arena 0 is full
+abbrev pub turn-ended : List Entry
+turn-ended = gave Begin (1 ∷ []) ∷ gave (Write 1 0 0) (0 ∷ 1 ∷ []) ∷ gave (Write 1 1 0) (1 ∷ 1 ∷ []) ∷ []
+
+-- block 4 was given, freed, and waits no more: the mark of arena 2 stands after it
+abbrev pub mark-moved : List Entry
+mark-moved = turn-ended ++ (gave (Write 1 2 1) (4 ∷ 1 ∷ []) ∷ gave (Erase 1 2) (4 ∷ 1 ∷ []) ∷ gave Barrier [] ∷ [])
+
+unfoldable writesHeard : List Entry → ℕ
+unfolding writesIn markBy next bookHeard
+writesHeard H = writesIn H
+
+-- pages that hold blocks 0 and 1
+two-pages : (y w : ℕ) → put (put (λ x. 0) 0 1) 1 2 y ≡ w → (w ≡ 0) ⊎ ((w ≡ 1) ⊎ (w ≡ 2))
+two-pages y w e =
+    cases (put-page (put (λ x. 0) 0 1) 1 2 y w e)
+    (λ d. inr (inr (sym d)))
+    (λ d. cases (put-page (λ x. 0) 0 1 y w d) (λ f. inr (inl (sym f))) (λ f. inl (sym f)))
+
+third-page : (y w : ℕ) → put (put (put (put (λ x. 0) 0 1) 1 2) 2 5) 2 0 y ≡ w → (w ≡ 0) ⊎ ((w ≡ 1) ⊎ (w ≡ 2))
+unfolding put
+third-page y w e =
+    cases (same? y 2)
+    (λ z. inl (sym e ∙ rw (eq-eqb y 2 z) refl))
+    (λ n. two-pages y w (rw (ne-eqb y 2 n) at e))
+
+not-low : (b : ℕ) → 2 ≤ b → (suc b ≡ 0) ⊎ ((suc b ≡ 1) ⊎ (suc b ≡ 2)) → ⊥
+not-low b k h = cases h (λ e. omega (arith, e)) (λ d. cases d (λ e. omega (arith, e, k)) (λ e. omega (arith, e, k)))
+
+free-then : (b : ℕ) → b < 6 → 2 ≤ b → MayBeGiven arenas3 turn-ended b
+unfolding writesHeard
+free-then b h k = record {
+  inside = h;
+  off = λ o. cases o (λ q. cases q (λ p. not-low b k (two-pages (p .0) (suc b) (p .1))) (λ z. z)) (λ z. z);
+  awake = refl;
+}
+
+free-later : (b : ℕ) → b < 6 → 2 ≤ b → MayBeGiven arenas3 mark-moved b
+unfolding writesHeard
+free-later b h k = record {
+  inside = h;
+  off = λ o. cases o (λ q. cases q (λ p. not-low b k (third-page (p .0) (suc b) (p .1))) (λ z. z)) (λ z. z);
+  awake = refl;
+}
+
+module _ (M : Machine) (T : M .Tables) (D : (l : List (M .Asked)) → HistoryChoice M arenas3 T l) where
+  -- `choice`: the counter is 1, so kind 1 is arena 2, and its first block is given
+  pub gives-4 : (before : List (M .Asked)) → historyFrom M T before ≡ turn-ended → (w : M .Asked) (r x b : ℕ) (rest : List ℕ) →
+      M .call w ≡ Write r x 1 → M .answer (stateFrom M T before) w ≡ accepted (b ∷ rest) → b ≡ 4
+  unfolding writesHeard
+  gives-4 before h w r x b rest c a =
+      let C : IsChosen arenas3 turn-ended 1 b = subst (λ H. IsChosen arenas3 H 1 b) h (D before .choice w r x 1 b rest c a) in
+      cases (same? (C .passed) 0)
+      (λ z.
+      let at : b / 2 ≡ 2 = C .arena ∙ ap (λ (j : ℕ). (2 / 2 + 1 + j) % 3) z in
+      cases (same? b 5)
+      (λ e.
+      let ahead : Ahead (markBy arenas3 (b / 2) 0 (events turn-ended)) 0 (b % 2) =
+      subst (λ (d : ℕ). Ahead (markBy arenas3 (d / 2) 0 (events turn-ended)) 0 (d % 2)) (sym e) (inl (omega arith, omega arith)) in
+      absurd (C .first 4 (sym at) ahead (free-then 4 (omega arith) (omega arith))))
+      (λ n. omega (arith, at, n)))
+      (λ n. absurd (C .full 0 4 (omega (arith, n)) refl (free-then 4 (omega arith) (omega arith))))
+
+  -- and from its mark on: block 5, though block 4 is free again
+  pub gives-5 : (before : List (M .Asked)) → historyFrom M T before ≡ mark-moved → (w : M .Asked) (r x b : ℕ) (rest : List ℕ) →
+      M .call w ≡ Write r x 1 → M .answer (stateFrom M T before) w ≡ accepted (b ∷ rest) → b ≡ 5
+  unfolding writesHeard
+  gives-5 before h w r x b rest c a =
+      let C : IsChosen arenas3 mark-moved 1 b = subst (λ H. IsChosen arenas3 H 1 b) h (D before .choice w r x 1 b rest c a) in
+      cases (same? (C .passed) 0)
+      (λ z.
+      let at : b / 2 ≡ 2 = C .arena ∙ ap (λ (j : ℕ). (3 / 2 + 1 + j) % 3) z in
+      cases (same? b 4)
+      (λ e.
+      let ahead : Ahead (markBy arenas3 (b / 2) 0 (events mark-moved)) 1 (b % 2) =
+      subst (λ (d : ℕ). Ahead (markBy arenas3 (d / 2) 0 (events mark-moved)) 1 (d % 2)) (sym e) (inr (inr (omega arith, omega arith))) in
+      absurd (C .first 5 (sym at) ahead (free-later 5 (omega arith) (omega arith))))
+      (λ n. omega (arith, at, n)))
+      (λ n. absurd (C .full 0 4 (omega (arith, n)) refl (free-later 4 (omega arith) (omega arith))))
+
+-- five words of six are used, and block 0 is on page 0
+abbrev pub five-used : List Entry
+five-used = one-on ++ (gave Barrier [] ∷ gave Barrier [] ∷ gave Barrier [] ∷ gave Barrier [] ∷ [])
+
+module _ (M : Machine) (T : M .Tables) (D : (l : List (M .Asked)) → HistoryChoice M two T l) (before : List (M .Asked))
+    (h : historyFrom M T before ≡ five-used) (c : M .Asked) (k : List ℕ) (compress : M .call c ≡ Compress)
+    (done : M .answer (stateFrom M T before) c ≡ accepted k) where
+  -- `fourteen`, from right to left: a W that names two blocks right after C writes two words: it is refused 14, or for something else
+  pub W-has-no-room : (i j : M .Asked) (r x : ℕ) → M .call i ≡ Write r x 0 → M .call j ≡ Write r x 0 →
+      M .answer (stateFrom M T (before ++ (c ∷ []))) j ≡ accepted (1 ∷ 1 ∷ 0 ∷ 1 ∷ []) →
+      ((n : ℕ) → M .answer (stateFrom M T before) i ≡ refused n → n ≡ 14) → M .answer (stateFrom M T before) i ≡ refused 14
+  unfolding bookHeard
+  W-has-no-room i j r x ci cj after-C others =
+      let w = D before .fourteen c i j k (1 ∷ 1 ∷ 0 ∷ 1 ∷ []) compress done (λ e. true≢false (ap isW (sym ci ∙ e))) (cj ∙ sym ci) after-C in
+      w .1 (
+        others,
+        subst (λ H. 6 < usedBy 0 H + usedThen 0 (M .call i) (accepted (1 ∷ 1 ∷ 0 ∷ 1 ∷ []))) (sym h)
+            (subst (λ d. 6 < usedBy 0 five-used + usedThen 0 d (accepted (1 ∷ 1 ∷ 0 ∷ 1 ∷ []))) (sym ci) (omega arith)),
+      )
+
+  -- and from left to right: an E that names one block has room for its word
+  pub E-has-room : (i j : M .Asked) (r x : ℕ) → M .call i ≡ Erase r x → M .call j ≡ Erase r x →
+      M .answer (stateFrom M T (before ++ (c ∷ []))) j ≡ accepted (0 ∷ 1 ∷ []) → M .answer (stateFrom M T before) i ≡ refused 14 → ⊥
+  unfolding bookHeard
+  E-has-room i j r x ci cj after-C e =
+      let w = D before .fourteen c i j k (0 ∷ 1 ∷ []) compress done (λ f. erases (sym ci ∙ f)) (cj ∙ sym ci) after-C in
+      let more : 6 < usedBy 0 five-used + usedThen 0 (M .call i) (accepted (0 ∷ 1 ∷ [])) =
+      subst (λ H. 6 < usedBy 0 H + usedThen 0 (M .call i) (accepted (0 ∷ 1 ∷ []))) h (w .0 e .1) in
+      let none : 6 < 6 = subst (λ d. 6 < usedBy 0 five-used + usedThen 0 d (accepted (0 ∷ 1 ∷ []))) ci more in
+      omega (arith, none)
+    where
+      erases : Erase r x ≡ Compress → ⊥
+      erases f = false≢true (ap syncs f)
+
+  -- `fits`: a W that names two blocks is not accepted
+  pub W-not-accepted : (i : M .Asked) (r x : ℕ) → M .call i ≡ Write r x 0 → M .answer (stateFrom M T before) i ≡ accepted (1 ∷ 1 ∷ 0 ∷ 1 ∷ []) → ⊥
+  unfolding bookHeard
+  W-not-accepted i r x ci a =
+      let most : usedThen (usedBy 0 five-used) (M .call i) (accepted (1 ∷ 1 ∷ 0 ∷ 1 ∷ [])) ≤ 6 =
+      subst (λ H. usedThen (usedBy 0 H) (M .call i) (accepted (1 ∷ 1 ∷ 0 ∷ 1 ∷ [])) ≤ 6) h (D before .fits i (1 ∷ 1 ∷ 0 ∷ 1 ∷ []) a) in
+      let seven : 7 ≤ 6 = subst (λ d. usedThen 5 d (accepted (1 ∷ 1 ∷ 0 ∷ 1 ∷ [])) ≤ 6) ci most in
+      omega (arith, seven)
+
+  -- `never-C`
+  pub C-has-room : (i : M .Asked) → M .call i ≡ Compress → M .answer (stateFrom M T before) i ≡ refused 14 → ⊥
+  C-has-room i ci = D before .never-C i ci
+
+-- `choice` itself: on lent memory, and on a store that keeps its own log
+pub lent-gives-4 : (M : Memory) → makeReply arenas3 M ≡ accepted [] → (before : List Request) →
+    historyFrom (machine arenas3) (makeAfter arenas3 M .tables) before ≡ turn-ended → (w : Request) (r x b : ℕ) (rest : List ℕ) → w .call ≡ Write r x 1 →
+    reply arenas3 (metBy (stateFrom (machine arenas3) (makeAfter arenas3 M .tables) before) w) (w .call) ≡ accepted (b ∷ rest) → b ≡ 4
+lent-gives-4 M made = gives-4 (machine arenas3) (makeAfter arenas3 M .tables) (choice arenas3 M made .0)
+
+pub own-gives-5 : (M : Memory) → makeReply arenas3 M ≡ accepted [] → (before : List Own) →
+    historyFrom (ownStore arenas3) (makeAfter arenas3 M) before ≡ mark-moved → (w : Own) (r x b : ℕ) (rest : List ℕ) → w .call ≡ Write r x 1 →
+    reply arenas3 (withOut (run arenas3 (makeAfter arenas3 M) before) (w .out)) (w .call) ≡ accepted (b ∷ rest) → b ≡ 5
+own-gives-5 M made = gives-5 (ownStore arenas3) (makeAfter arenas3 M) (choice arenas3 M made .1)
+
+-- ── Q AND THE D AFTER IT ──
+
+-- on any memory Q answered that D r would free two blocks and write two words, of one shard
+module _ (g : Geometry) (M : Memory) (r : ℕ) (asked : reply g M (Estimate r) ≡ accepted (2 ∷ 2 ∷ 1 ∷ [])) where
+  three-are : (a b c d e f : ℕ) → _≡_ {A = List ℕ} (a ∷ b ∷ c ∷ []) (d ∷ e ∷ f ∷ []) → (a ≡ d) × (b ≡ e)
+  three-are a b c d e f p = (ap (λ (l : List ℕ). getD l 0 0) p, ap (λ (l : List ℕ). getD l 1 0) p)
+
+  -- `estimate-true`: an accepted D names two blocks, no more and no fewer, and uses two words more
+  pub D-frees-two : (out l : List ℕ) → reply g (behind g M r out) (Delete r) ≡ accepted l →
+      (length (blocksIn l) ≡ 2) × (wordsUsed (after g (behind g M r out) (Delete r)) ≡ wordsUsed M + 2)
+  D-frees-two out l d =
+      let q = estimate-true g M r (2 ∷ 2 ∷ 1 ∷ []) asked in
+      let (f, w) = three-are 2 2 1 (q .freed) (q .words) (q .shards) (q .three) in
+      let e = q .exactly out l d in
+      (e .0 ∙ sym f, e .1 ∙ ap (λ (n : ℕ). wordsUsed M + n) (sym w))
+
+  -- so too with a C between them
+  pub D-after-C : (out other k l : List ℕ) → reply g (behind g M r out) Compress ≡ accepted k →
+      reply g (withOut (after g (behind g M r out) Compress) other) (Delete r) ≡ accepted l → length (blocksIn l) ≡ 2
+  D-after-C out other k l c d =
+      let q = estimate-true g M r (2 ∷ 2 ∷ 1 ∷ []) asked in
+      let (f, w) = three-are 2 2 1 (q .freed) (q .words) (q .shards) (q .three) in
+      q .behindC out other k l c d ∙ sym f
+
+  -- `estimate-enough`, both ways: one word too few is refused 14, the very number is accepted
+  pub one-word-short : (out : List ℕ) → 2 * blocks g + 64 ≤ length out → suc (wordsUsed M) ≡ g .words → reply g (behind g M r out) (Delete r) ≡ refused 14
+  one-word-short out long e = estimate-enough g M r 2 2 1 out asked long .refuses (omega (arith, e))
+
+  pub just-enough : (out : List ℕ) → 2 * blocks g + 64 ≤ length out → wordsUsed M + 2 ≡ g .words →
+      (l : List ℕ) × (reply g (behind g M r out) (Delete r) ≡ accepted l)
+  just-enough out long e = estimate-enough g M r 2 2 1 out asked long .accepts (omega (arith, e))
+
+  -- `estimate-still`: it looks only
+  pub Q-looks-only : (after g M (Estimate r) .tables ≡ M .tables) × (after g M (Estimate r) .log ≡ M .log)
+  Q-looks-only = estimate-still g M r
+
+  -- `shards-counted`: the record that follows has a shard, born after r's pred, that is not empty
+  pub a-shard : (s n : ℕ) → There (stateOf g (M .tables) .view) r s → Live (stateOf g (M .tables) .view) n → stateOf g (M .tables) .view .prev n ≡ suc s →
+      (v : ℕ) × (predNum (stateOf g (M .tables) .view) s < v) × (shard (stateOf g (M .tables) .view) n v ≡ [] → ⊥)
+  a-shard s n there live follows = let (births, above, long) = shards-counted g M r 2 2 1 s asked there .next n live follows in go births above long
+    where
+      K : View
+      K = stateOf g (M .tables) .view
+
+      go : (births : List ℕ) → BirthsAbove K n (predNum K s) births → length births ≡ 1 → (v : ℕ) × (predNum K s < v) × (shard K n v ≡ [] → ⊥)
+      go [] B e = absurd (omega (arith, e))
+      go (v ∷ vs) B e = let (low, some) = B .these v .0 (inl refl) in (v, low, some)
+
+-- ── BIRTHS BESIDE BLOCKS ──
+
+-- on any memory D r gave block b with v
+module _ (g : Geometry) (M : Memory) (r b v : ℕ) (done : reply g M (Delete r) ≡ accepted (b ∷ v ∷ [])) where
+  -- `births-in-results`: v is the birth that b had, and b was on a page
+  pub D-gives-birth : viewOf g (M .tables) .birth b ≡ v
+  unfolding paired
+  D-gives-birth = let w = births-in-results g M (Delete r) (b ∷ v ∷ []) done in go (w .these) (w .numbers)
+    where
+      go : (these : List ℕ) → _≡_ {A = List ℕ} (b ∷ v ∷ []) (paired (viewOf g (M .tables) .birth) these) → viewOf g (M .tables) .birth b ≡ v
+      go [] e = absurd (let z : _≡_ {A = ℕ} 2 0 = ap (λ (l : List ℕ). length l) e in omega (arith, z))
+      go (c ∷ cs) e =
+          let d : b ≡ c = ap (λ (l : List ℕ). getD l 0 0) e in
+          let f : v ≡ viewOf g (M .tables) .birth c = ap (λ (l : List ℕ). getD l 1 0) e in
+          ap (viewOf g (M .tables) .birth) d ∙ sym f
+
+  -- `log-as-before`: one word, a free of b; the birth is no part of it
+  pub D-writes-free : after g M (Delete r) .log ≡ writeAt (M .log) (8 * wordsUsed M) (bytesOf (released b ∷ []))
+  unfolding blocksIn
+  D-writes-free = log-as-before g M (Delete r) (b ∷ v ∷ []) (λ e. false≢true (ap syncs e)) done
+
+-- ── what was taken as heard is what the model answers ──
+
+abbrev called : List Entry → List Screened
+called l = map (λ e. fine (e .call)) l
+
+pub heard-so : (history two (called one-waits) ≡ one-waits) × (history two (called one-sealed) ≡ one-sealed) ×
+    (history two (called given-twice) ≡ given-twice) × (history ten (called plugged) ≡ plugged) × (history arenas3 (called mark-moved) ≡ mark-moved) ×
+    (history two (called five-used) ≡ five-used)
+unfolding repliesTo
+heard-so = (refl, refl, refl, refl, refl, refl)
