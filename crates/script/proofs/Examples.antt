@@ -9,7 +9,8 @@ use Rattle.model.specs.Results.{plain, born, bornIn, itemsOf}
 use Rattle.script.specs.declared.parse.Parsed.{Parsed}
 use Rattle.script.specs.declared.parse.Parsed.the-variants.{Store, Asks}
 use Rattle.script.specs.Decimal.{digits, decimal, led}
-use Rattle.script.specs.Parse.{parsed, opens, callLine, numbersFrom, numberFrom, firstDigit, digitsFrom, countOf, callOf}
+use Rattle.script.specs.Parse.{parsed, opens, callLine, numbersFrom, numberFrom, firstDigit, digitsFrom}
+use Rattle.script.specs.Letters.{made, callIn, callOf}
 use Rattle.script.specs.Lines.{run, linesOf}
 use Rattle.script.specs.Said.{saidAt}
 use Rattle.script.specs.ReplyText.{itemText, itemsText, replyText, plus, minus, replyRead, itemsRead, insideRead}
@@ -22,31 +23,31 @@ store-line = refl
 
 -- `W 2 0 0`
 write-line : parsed (87 ∷ 32 ∷ 50 ∷ 32 ∷ 48 ∷ 32 ∷ 48 ∷ []) ≡ Asks (Write 2 0 0)
-unfolding parsed opens callLine countOf callOf numbersFrom numberFrom firstDigit digitsFrom
+unfolding parsed opens callLine made callIn callOf numbersFrom numberFrom firstDigit digitsFrom
 write-line = refl
 
 -- `D 9`
 delete-line : parsed (68 ∷ 32 ∷ 57 ∷ []) ≡ Asks (Delete 9)
-unfolding parsed opens callLine countOf callOf numbersFrom numberFrom firstDigit digitsFrom
+unfolding parsed opens callLine made callIn callOf numbersFrom numberFrom firstDigit digitsFrom
 delete-line = refl
 
 -- `L`
 list-line : parsed (76 ∷ []) ≡ Asks FreeList
-unfolding parsed opens callLine countOf callOf numbersFrom numberFrom firstDigit digitsFrom
+unfolding parsed opens callLine made callIn callOf numbersFrom numberFrom firstDigit digitsFrom
 list-line = refl
 
 -- `Q 7`
 estimate-line : parsed (81 ∷ 32 ∷ 55 ∷ []) ≡ Asks (Estimate 7)
-unfolding parsed opens callLine countOf callOf numbersFrom numberFrom firstDigit digitsFrom
+unfolding parsed opens callLine made callIn callOf numbersFrom numberFrom firstDigit digitsFrom
 estimate-line = refl
 
 -- `D 09`, `L ` and the empty line are no calls
 leading-zero : parsed (68 ∷ 32 ∷ 48 ∷ 57 ∷ []) ≡ Parsed.No
-unfolding parsed opens callLine countOf callOf numbersFrom numberFrom firstDigit digitsFrom
+unfolding parsed opens callLine made callIn callOf numbersFrom numberFrom firstDigit digitsFrom
 leading-zero = refl
 
 space-behind : parsed (76 ∷ 32 ∷ []) ≡ Parsed.No
-unfolding parsed opens callLine countOf callOf numbersFrom numberFrom firstDigit digitsFrom
+unfolding parsed opens callLine made callIn callOf numbersFrom numberFrom firstDigit digitsFrom
 space-behind = refl
 
 empty-line : parsed [] ≡ Parsed.No
@@ -55,16 +56,16 @@ empty-line = refl
 
 -- `Q` has one number: `Q` alone and `Q 1 2` are no calls
 estimate-bare : parsed (81 ∷ []) ≡ Parsed.No
-unfolding parsed opens callLine countOf callOf numbersFrom numberFrom firstDigit digitsFrom
+unfolding parsed opens callLine made callIn callOf numbersFrom numberFrom firstDigit digitsFrom
 estimate-bare = refl
 
 estimate-two : parsed (81 ∷ 32 ∷ 49 ∷ 32 ∷ 50 ∷ []) ≡ Parsed.No
-unfolding parsed opens callLine countOf callOf numbersFrom numberFrom firstDigit digitsFrom
+unfolding parsed opens callLine made callIn callOf numbersFrom numberFrom firstDigit digitsFrom
 estimate-two = refl
 
 -- `D 12345678`: eight digits
 eight-digits : parsed (68 ∷ 32 ∷ 49 ∷ 50 ∷ 51 ∷ 52 ∷ 53 ∷ 54 ∷ 55 ∷ 56 ∷ []) ≡ Parsed.No
-unfolding parsed opens callLine countOf callOf numbersFrom numberFrom firstDigit digitsFrom
+unfolding parsed opens callLine made callIn callOf numbersFrom numberFrom firstDigit digitsFrom
 eight-digits = refl
 
 -- `+`, `+ 0 2` of numbers, `+ 0:1` and `+ 2:2 1:2` of blocks with their births, and `- 8`
@@ -145,5 +146,5 @@ one-line = refl
 
 -- `B`, then `D 9` with no line feed behind it: the second line says its call, and ends where the text does
 last-said : saidAt (66 ∷ 10 ∷ 68 ∷ 32 ∷ 57 ∷ []) 2 ≡ record { says = Asks (Delete 9); end = 5 }
-unfolding saidAt run parsed opens callLine countOf callOf numbersFrom numberFrom firstDigit digitsFrom
+unfolding saidAt run parsed opens callLine made callIn callOf numbersFrom numberFrom firstDigit digitsFrom
 last-said = refl

@@ -1,106 +1,140 @@
--- The letters of calls: each of them or none; and what the numbers read behind `store` or a letter make of a line.
-use mathlib.Core.Path.{_≡_, refl, sym, ap}
-use Prim.Native.Nat.{ℕ, _<_, _≤_}
-use mathlib.Core.Bool.{Bool, true, false}
+-- The table of letters: what holds of all its rows; and what the numbers read after `store` or a letter make of a line.
+use mathlib.Core.Path.{_≡_, refl, sym, ap, _∙_}
+use Prim.Native.Nat.{ℕ, zero, suc, _<_, _≤_}
+use mathlib.Core.Bool.{Bool, true, false, cond, not, _&&_, true≢false}
 use mathlib.Core.List.{List, [], _∷_}
-use mathlib.Core.Option.{Option}
+use mathlib.Core.Option.{Option, none, some}
 use native.Mathlib.Omega.{arith}
-use lib.ListN.{length, getD, take}
-use lib.Seq.{getD-take}
-use lib.Dec.{lit<}
-use borrow.Author.Tests.{ne-eqb, lt-ltb, le-ltb}
-use Rattle.answer.proofs.Cases.{cases, same?}
-use Rattle.model.specs.declared.Call.the-variants.{FreeList}
+use lib.ListN.{length, getD, take, length-take}
+use lib.Seq.{take-all}
+use lib.Dec.{eqb}
+use borrow.Author.Tests.{eqb-false, ne-eqb, lt-ltb, le-ltb}
+use Rattle.answer.proofs.Cases.{cases, either, lt?}
+use Rattle.model.specs.declared.Call.{Call}
 use Rattle.script.specs.declared.parse.Parsed.{Parsed}
-use Rattle.script.specs.declared.parse.Parsed.the-variants.{Store, Asks}
-use Rattle.script.specs.Parse.{gave, numbersFrom, sixOf, storeOf, countOf, callOf, callLine}
+use Rattle.script.specs.declared.parse.Parsed.the-variants.{Store}
+use Rattle.script.specs.Letters.{Form, bare, one, two, three, table, made, callIn, callOf}
+use Rattle.script.specs.Parse.{numbersFrom, counted, sixOf, storeOf, saysOf, saysBy, asksOf, callLine}
 
--- none of B W E S F D R Y C, in the order of a match
-abbrev pub Apart : ℕ → Type 0
-Apart b =
-    ((((((((Unit {0} × (b ≡ 66 → ⊥)) × (b ≡ 87 → ⊥)) × (b ≡ 69 → ⊥)) × (b ≡ 83 → ⊥)) × (b ≡ 70 → ⊥)) × (b ≡ 68 → ⊥)) × (b ≡ 82 → ⊥)) × (b ≡ 89 → ⊥))
-    × (b ≡ 67 → ⊥)
+-- ── how many numbers a form takes ──
 
-pub call-last : (b x y z : ℕ) → Apart b × (b ≡ 81 → ⊥) → callOf b x y z ≡ FreeList
+abbrev pub takes : Form → ℕ
+takes (bare c) = 0
+takes (one f) = 1
+takes (two f) = 2
+takes (three f) = 3
+
+-- none of more or fewer
+pub made-other : (f : Form) (ns : List ℕ) → (length ns ≡ takes f → ⊥) → made f ns ≡ none
+unfolding made
+made-other (bare c) [] h = absurd (h refl)
+made-other (bare c) (x ∷ ns) h = refl
+made-other (one f) [] h = refl
+made-other (one f) (x ∷ ns) h = made-other (bare (f x)) ns (λ e. h (ap suc e))
+made-other (two f) [] h = refl
+made-other (two f) (x ∷ ns) h = made-other (one (f x)) ns (λ e. h (ap suc e))
+made-other (three f) [] h = refl
+made-other (three f) (x ∷ ns) h = made-other (two (f x)) ns (λ e. h (ap suc e))
+
+takes-few : (f : Form) → takes f ≤ 3
+takes-few (bare c) = omega arith
+takes-few (one f) = omega arith
+takes-few (two f) = omega arith
+takes-few (three f) = omega arith
+
+-- no call has more than three numbers
+pub call-long : (rs : List (ℕ × Form)) (b : ℕ) (ns : List ℕ) → 3 < length ns → callIn rs b ns ≡ none
+unfolding callIn
+call-long [] b ns h = refl
+call-long (r ∷ rs) b ns h =
+    cases (either (eqb b (r .0)))
+    (λ t. rw t (made-other (r .1) ns (λ e. let z : ⊥ = omega (arith, takes-few (r .1)) in z)))
+    (λ f. rw f (call-long rs b ns h))
+
+-- ── a letter that is no call of so many numbers ──
+
+-- the letters of the rows that take n numbers, last first, after others
+abbrev pub lettersOf : List (ℕ × Form) → ℕ → List ℕ → List ℕ
+lettersOf [] n bs = bs
+lettersOf (r ∷ rs) n bs = lettersOf rs n (cond (eqb (takes (r .1)) n) (r .0 ∷ bs) bs)
+
+-- a byte is none of these
+abbrev pub Apart : List ℕ → ℕ → Type 0
+Apart [] b = Unit {0}
+Apart (k ∷ ks) b = Apart ks b × (b ≡ k → ⊥)
+
+-- those that were there before
+apart-before : (rs : List (ℕ × Form)) (n b : ℕ) (bs : List ℕ) → Apart (lettersOf rs n bs) b → Apart bs b
+apart-before [] n b bs h = h
+apart-before (r ∷ rs) n b bs h =
+    cases (either (eqb (takes (r .1)) n))
+    (λ t. let k : Apart (lettersOf rs n (r .0 ∷ bs)) b = rw t at h in apart-before rs n b (r .0 ∷ bs) k .0)
+    (λ f. let k : Apart (lettersOf rs n bs) b = rw f at h in apart-before rs n b bs k)
+
+apart-none : (rs : List (ℕ × Form)) (n b : ℕ) (bs ns : List ℕ) → length ns ≡ n → Apart (lettersOf rs n bs) b → callIn rs b ns ≡ none
+unfolding callIn
+apart-none [] n b bs ns e h = refl
+apart-none (r ∷ rs) n b bs ns e h =
+    cases (either (eqb (takes (r .1)) n))
+    (λ t.
+    let k : Apart (lettersOf rs n (r .0 ∷ bs)) b = rw t at h in
+    rw (ne-eqb b (r .0) (apart-before rs n b (r .0 ∷ bs) k .1)) (apart-none rs n b (r .0 ∷ bs) ns e k))
+    (λ f.
+    let k : Apart (lettersOf rs n bs) b = rw f at h in
+    let m : made (r .1) ns ≡ none = made-other (r .1) ns (λ q. eqb-false (takes (r .1)) n f (sym q ∙ e)) in
+    let rest : callIn rs b ns ≡ none = apart-none rs n b bs ns e k in
+    cases (either (eqb b (r .0))) (λ y. rw y m) (λ x. rw x rest))
+
+-- a byte that no row of so many numbers has is no call of them
+pub no-call : (b : ℕ) (ns : List ℕ) → Apart (lettersOf table (length ns) []) b → Parsed.No ≡ saysOf (callOf b ns)
 unfolding callOf
-call-last b x y z r =
-    let h = r .0 in
-    rw (
-      ne-eqb b 66 (h .0 .0 .0 .0 .0 .0 .0 .0 .1),
-      ne-eqb b 87 (h .0 .0 .0 .0 .0 .0 .0 .1),
-      ne-eqb b 69 (h .0 .0 .0 .0 .0 .0 .1),
-      ne-eqb b 83 (h .0 .0 .0 .0 .0 .1),
-      ne-eqb b 70 (h .0 .0 .0 .0 .1),
-      ne-eqb b 68 (h .0 .0 .0 .1),
-      ne-eqb b 82 (h .0 .0 .1),
-      ne-eqb b 89 (h .0 .1),
-      ne-eqb b 67 (h .1),
-      ne-eqb b 81 (r .1),
-    )
+no-call b ns h = rw (apart-none table (length ns) b [] ns refl h)
 
-pub count-none : (b : ℕ) → (Apart b × (b ≡ 76 → ⊥)) × (b ≡ 81 → ⊥) → countOf b ≡ 4
-unfolding countOf
-count-none b r =
-    let h = r .0 .0 in
-    rw (
-      ne-eqb b 66 (h .0 .0 .0 .0 .0 .0 .0 .0 .1),
-      ne-eqb b 87 (h .0 .0 .0 .0 .0 .0 .0 .1),
-      ne-eqb b 69 (h .0 .0 .0 .0 .0 .0 .1),
-      ne-eqb b 83 (h .0 .0 .0 .0 .0 .1),
-      ne-eqb b 70 (h .0 .0 .0 .0 .1),
-      ne-eqb b 68 (h .0 .0 .0 .1),
-      ne-eqb b 82 (h .0 .0 .1),
-      ne-eqb b 89 (h .0 .1),
-      ne-eqb b 67 (h .1),
-      ne-eqb b 76 (r .0 .1),
-      ne-eqb b 81 (r .1),
-    )
+-- ── what is no letter ──
 
--- what holds of each letter, and of whatever has no call, holds of every byte
-pub letters : (P : ℕ → Type 0) → P 66 → P 87 → P 69 → P 83 → P 70 → P 68 → P 82 → P 89 → P 67 → P 76 → P 81
-    → ((b : ℕ) → countOf b ≡ 4 → P b) → (b : ℕ) → P b
-letters P p66 p87 p69 p83 p70 p68 p82 p89 p67 p76 p81 other b =
-    cases (same? b 66) (λ e. rw e p66) (λ n66.
-    cases (same? b 87) (λ e. rw e p87) (λ n87.
-    cases (same? b 69) (λ e. rw e p69) (λ n69.
-    cases (same? b 83) (λ e. rw e p83) (λ n83.
-    cases (same? b 70) (λ e. rw e p70) (λ n70.
-    cases (same? b 68) (λ e. rw e p68) (λ n68.
-    cases (same? b 82) (λ e. rw e p82) (λ n82.
-    cases (same? b 89) (λ e. rw e p89) (λ n89.
-    cases (same? b 67) (λ e. rw e p67) (λ n67.
-    cases (same? b 76) (λ e. rw e p76) (λ n76.
-    cases (same? b 81) (λ e. rw e p81) (λ n81.
-    other b (count-none b (((((((((((tt, n66), n87), n69), n83), n70), n68), n82), n89), n67), n76), n81)))))))))))))
+-- no row has this byte
+abbrev without : List (ℕ × Form) → ℕ → Bool
+without [] b = true
+without (r ∷ rs) b = not (eqb b (r .0)) && without rs b
 
--- a call takes no more numbers than are read for it
-pub call-take : (o : List ℕ) (b : ℕ) → countOf b ≤ 3
-    → callOf b (getD (take (countOf b) o) 0 0) (getD (take (countOf b) o) 1 0) (getD (take (countOf b) o) 2 0) ≡ callOf b (getD o 0 0) (getD o 1 0) (getD o 2 0)
-unfolding countOf callOf
-call-take o =
-    letters _
-    (λ h. refl)
-    (λ h. rw (getD-take 3 o 0 0 (lit< tt), getD-take 3 o 1 0 (lit< tt), getD-take 3 o 2 0 (lit< tt)))
-    (λ h. rw (getD-take 2 o 0 0 (lit< tt), getD-take 2 o 1 0 (lit< tt)))
-    (λ h. rw (getD-take 1 o 0 0 (lit< tt)))
-    (λ h. rw (getD-take 1 o 0 0 (lit< tt)))
-    (λ h. rw (getD-take 1 o 0 0 (lit< tt)))
-    (λ h. rw (getD-take 2 o 0 0 (lit< tt), getD-take 2 o 1 0 (lit< tt)))
-    (λ h. refl)
-    (λ h. refl)
-    (λ h. refl)
-    (λ h. rw (getD-take 1 o 0 0 (lit< tt)))
-    (λ b e h. absurd (let z : ⊥ = omega arith in z))
+none-not : {c : Call} → none ≡ some c → ⊥
+none-not p = let z : _≡_ {A = ℕ} 0 1 = cc in omega arith
 
--- what a line of `store` says, by whether its six numbers were read into a buffer
-pub store-yes : (r : Bool) (o : List ℕ) (x : Option (List ℕ)) → gave r (take 6 o) ≡ x → r ≡ true → Store (sixOf o) ≡ storeOf x
-store-yes r o x e t =
-    let six : sixOf (take 6 o) ≡ sixOf o =
-    rw (getD-take 6 o 0 0 (lit< tt), getD-take 6 o 1 0 (lit< tt), getD-take 6 o 2 0 (lit< tt), getD-take 6 o 3 0 (lit< tt), getD-take 6 o 4 0 (lit< tt), getD-take 6 o 5 0 (lit< tt)) in
-    rw (← e, t) (ap Store (sym six))
+without-none : (rs : List (ℕ × Form)) (b : ℕ) (ns : List ℕ) → without rs b ≡ true → callIn rs b ns ≡ none
+unfolding callIn
+without-none [] b ns h = refl
+without-none (r ∷ rs) b ns h =
+    cases (either (eqb b (r .0)))
+    (λ t. absurd (true≢false (sym (rw t at h))))
+    (λ f. rw f (without-none rs b ns (rw f at h)))
 
-pub store-no : (r : Bool) (o : List ℕ) (x : Option (List ℕ)) → gave r (take 6 o) ≡ x → r ≡ false → Parsed.No ≡ storeOf x
-store-no r o x e t = rw (← e, t)
+module _ (b : ℕ) (ns : List ℕ) (c : Call) (is : callOf b ns ≡ some c) where
+  -- a call's letter is not the first of `store`, and no line feed
+  pub letter-not-s : b ≡ 115 → ⊥
+  unfolding callOf
+  letter-not-s e = none-not (sym (rw e (without-none table 115 ns refl)) ∙ is)
+
+  pub letter-not-feed : b ≡ 10 → ⊥
+  unfolding callOf
+  letter-not-feed e = none-not (sym (rw e (without-none table 10 ns refl)) ∙ is)
+
+  pub numbers-few : length ns ≤ 3
+  unfolding callOf
+  numbers-few = cases (lt? 3 (length ns)) (λ h. absurd (none-not (sym (call-long table b ns h) ∙ is))) (λ h. h)
+
+-- ── lines by the numbers that were read into a buffer ──
+
+-- what a line of `store` says
+module _ (r : ℕ) (o : List ℕ) (x : Option (List ℕ)) (long : length o ≡ 6) (e : counted r o ≡ x) where
+  pub store-yes : r ≡ 6 → Store (sixOf o) ≡ storeOf x
+  store-yes t =
+      let kept : take 6 o ≡ o = take-all 6 o (omega arith) in rw (← e, t, kept, long)
+
+  pub store-no : (r ≡ 6 → ⊥) → Parsed.No ≡ storeOf x
+  store-no t =
+      cases (lt? 6 r)
+      (λ h. rw (← e, lt-ltb 6 r h))
+      (λ h. rw (← e, le-ltb 6 r h, ne-eqb (length (take r o)) 6 (omega (arith, length-take r o))))
 
 -- what another line says
 pub call-empty : (l : List ℕ) → length l ≡ 0 → Parsed.No ≡ callLine l
@@ -108,25 +142,38 @@ unfolding callLine
 call-empty [] h = refl
 call-empty (b ∷ l) h = absurd (let z : ⊥ = omega arith in z)
 
-pub call-other : (l : List ℕ) → (length l ≡ 0 → ⊥) → 3 < countOf (getD l 0 0) → Parsed.No ≡ callLine l
-unfolding callLine
-call-other [] h k = absurd (h refl)
-call-other (b ∷ l) h k = rw (lt-ltb 3 (countOf b) k)
+take-three : (o : List ℕ) (r : ℕ) → r ≤ 3 → length o ≡ 6 → take r (getD o 0 0 ∷ getD o 1 0 ∷ getD o 2 0 ∷ []) ≡ take r o
+take-three [] r h k = absurd (let z : ⊥ = omega arith in z)
+take-three (x ∷ []) r h k = absurd (let z : ⊥ = omega arith in z)
+take-three (x ∷ y ∷ []) r h k = absurd (let z : ⊥ = omega arith in z)
+take-three (x ∷ y ∷ z ∷ o) zero h k = refl
+take-three (x ∷ y ∷ z ∷ o) (suc zero) h k = refl
+take-three (x ∷ y ∷ z ∷ o) (suc (suc zero)) h k = refl
+take-three (x ∷ y ∷ z ∷ o) (suc (suc (suc zero))) h k = refl
+take-three (x ∷ y ∷ z ∷ o) (suc (suc (suc (suc r)))) h k = absurd (let z : ⊥ = omega arith in z)
 
-pub call-yes : (l : List ℕ) (n : ℕ) (r : Bool) (o : List ℕ) → (length l ≡ 0 → ⊥) → n ≡ countOf (getD l 0 0) → n ≤ 3
-    → gave r (take n o) ≡ numbersFrom l 1 n [] → r ≡ true → Asks (callOf (getD l 0 0) (getD o 0 0) (getD o 1 0) (getD o 2 0)) ≡ callLine l
-unfolding callLine
-call-yes [] n r o h c k e t = absurd (h refl)
-call-yes (b ∷ l) n r o h c k e t =
-    let k′ : countOf b ≤ 3 = omega arith in
-    let e′ : gave r (take (countOf b) o) ≡ numbersFrom (b ∷ l) 1 (countOf b) [] = rw c at e in
-    rw (le-ltb 3 (countOf b) k′, ← e′, t) (ap Asks (sym (call-take o b k′)))
+-- by how many numbers were read
+says-counted : (b r : ℕ) (o : List ℕ) → length o ≡ 6 → saysBy b r (getD o 0 0) (getD o 1 0) (getD o 2 0) ≡ asksOf b (counted r o)
+unfolding saysBy callOf
+says-counted b r o long =
+    cases (lt? 3 r)
+    (λ h.
+    cases (lt? 6 r)
+    (λ k. rw (lt-ltb 3 r h, lt-ltb 6 r k))
+    (λ k. rw (lt-ltb 3 r h, le-ltb 6 r k, call-long table b (take r o) (omega (arith, length-take r o)))))
+    (λ h. let k : r ≤ 6 = omega arith in rw (le-ltb 3 r h, le-ltb 6 r k, take-three o r h long))
 
-pub call-no : (l : List ℕ) (n : ℕ) (r : Bool) (o : List ℕ) → (length l ≡ 0 → ⊥) → n ≡ countOf (getD l 0 0) → n ≤ 3
-    → gave r (take n o) ≡ numbersFrom l 1 n [] → r ≡ false → Parsed.No ≡ callLine l
+pub call-says : (l : List ℕ) (r : ℕ) (o : List ℕ) → (length l ≡ 0 → ⊥) → length o ≡ 6 → counted r o ≡ numbersFrom l 1 3 []
+    → saysBy (getD l 0 0) r (getD o 0 0) (getD o 1 0) (getD o 2 0) ≡ callLine l
 unfolding callLine
-call-no [] n r o h c k e t = absurd (h refl)
-call-no (b ∷ l) n r o h c k e t =
-    let k′ : countOf b ≤ 3 = omega arith in
-    let e′ : gave r (take (countOf b) o) ≡ numbersFrom (b ∷ l) 1 (countOf b) [] = rw c at e in
-    rw (le-ltb 3 (countOf b) k′, ← e′, t)
+call-says [] r o h k e = absurd (h refl)
+call-says (b ∷ l) r o h k e = says-counted b r o k ∙ ap (asksOf b) e
+
+-- more than three numbers
+pub says-none : (b n x y z : ℕ) → ((((Unit {0} × (n ≡ 0 → ⊥)) × (n ≡ 1 → ⊥)) × (n ≡ 2 → ⊥)) × (n ≡ 3 → ⊥)) → Parsed.No ≡ saysBy b n x y z
+unfolding saysBy
+says-none b n x y z h = let more : 3 < n = omega (arith, h .0 .0 .0 .1, h .0 .0 .1, h .0 .1, h .1) in rw (lt-ltb 3 n more)
+
+-- as many as a buffer has
+pub counted-few : (n : ℕ) (o : List ℕ) (x : Option (List ℕ)) → n ≤ 6 → x ≡ some (take n o) → counted n o ≡ x
+counted-few n o x h e = rw (le-ltb 6 n h) (sym e)

@@ -7,6 +7,7 @@ pub mod Decimals
 pub mod Printing
 pub mod Digits
 pub mod Saying
+pub mod OneSpelling
 pub mod LinesFacts
 pub mod OnePass
 pub mod Replies

@@ -1,6 +1,7 @@
 -- A line that is read in one pass: a letter and small numbers up to a line feed or the text's end are the whole line, and say their call.
 use Prim.Native.Nat.{ℕ, suc, _+_, _-_, _*_, _<_, _≤_}
 use mathlib.Core.Path.{_≡_, refl, sym, ap, ap₂, _∙_}
+use mathlib.Core.Option.{Option, none, some}
 use mathlib.Core.List.{List, [], _∷_, _++_, append-assoc}
 use native.Mathlib.Nat.{add-zero}
 use native.Mathlib.Numerals.{add-one}
@@ -8,23 +9,28 @@ use native.Mathlib.Omega.{arith}
 use borrow.Author.Tests.{ne-eqb, lt-ltb, le-ltb}
 use lib.ListN.{length, getD, take, drop, length-append, length-drop}
 use lib.Seq.{slice, drop-cons, take-at, slice-empty}
+use mathlib.Core.Logic.{_⊎_}
+use denote.Enum.Declared.{tagOf}
+use Rattle.script.proofs.parse.Parsed.{the-type}
 use Rattle.answer.proofs.Cases.{cases, lt?}
 use Rattle.model.specs.declared.Call.{Call}
 use Rattle.script.specs.declared.number.Number.{Number}
 use Rattle.script.specs.declared.parse.Parsed.{Parsed}
-use Rattle.script.specs.declared.parse.Parsed.the-variants.{Asks}
+use Rattle.script.specs.declared.parse.Parsed.the-variants.{Store, Asks}
 use Rattle.script.specs.declared.reader.Line.the-variants.{Part, Done}
 use Rattle.script.specs.declared.said.Said.{Said}
 use Rattle.script.specs.declared.said.Near.{Near}
 use Rattle.script.specs.Decimal.{decimal, led, spaced}
 use Rattle.script.specs.Lines.{run, lineAt, NoFeed}
-use Rattle.script.specs.Parse.{numberFrom, opens, countOf, callOf, callLine, parsed}
-use Rattle.script.specs.Grammar.{numbers, spelled, AllSmall}
-use Rattle.script.specs.Said.{saidAt, Agrees, Tells}
+use Rattle.script.specs.Letters.{callOf}
+use Rattle.script.specs.Parse.{numberFrom, opens, saysOf, callLine, parsed}
+use Rattle.script.specs.Grammar.{AllSmall}
+use Rattle.script.specs.Said.{saidAt, Agrees, Tells, nearOf}
+use Rattle.script.proofs.Letters.{letter-not-feed, numbers-few}
 use Rattle.script.proofs.Runs.{run-here, run-end}
 use Rattle.script.proofs.Decimals.{length-decimal}
 use Rattle.script.proofs.Digits.{AllDigits, digit-range, decimal-means, number-spelt}
-use Rattle.script.proofs.Saying.{rest-is, said, made-of}
+use Rattle.script.proofs.Saying.{rest-is, said}
 use Rattle.script.proofs.LinesFacts.{slice-is, run-short}
 
 -- ── no line feed in numbers ──
@@ -84,17 +90,13 @@ module _ (text : List ℕ) where
 
 -- ── a call found ──
 
-letter-no-feed : (b : ℕ) → countOf b ≤ 3 → b ≡ 10 → ⊥
-unfolding countOf
-letter-no-feed b h e = let k : 4 ≤ 3 = rw e at h in omega arith
-
 module _ (text : List ℕ) (at b : ℕ) (ms : List ℕ) (end : ℕ) (h : at < length text) (e : b ≡ getD text at 0) (s : Stand text (at + 1) ms end) where
   line-bytes : drop at text ≡ (b ∷ spaced ms) ++ drop end text
   line-bytes = drop-cons text at 0 h ∙ ap₂ (λ (x : ℕ) (y : List ℕ). x ∷ y) (sym e) (ap (λ (k : ℕ). drop k text) (sym (add-one at)) ∙ s .bytes)
 
-  module _ (k : countOf b ≤ 3) (z : run (drop end text) ≡ 0) where
+  module _ (c : Call) (is : callOf b ms ≡ some c) (z : run (drop end text) ≡ 0) where
     line-run : run (drop at text) ≡ suc (length (spaced ms))
-    line-run = rw line-bytes (omega (arith, run-append (b ∷ spaced ms) (drop end text) (letter-no-feed b k, no-feed-spaced ms)))
+    line-run = rw line-bytes (omega (arith, run-append (b ∷ spaced ms) (drop end text) (letter-not-feed b ms c is, no-feed-spaced ms)))
 
     line-slice : slice at (at + run (drop at text)) text ≡ b ∷ spaced ms
     line-slice =
@@ -102,28 +104,30 @@ module _ (text : List ℕ) (at b : ℕ) (ms : List ℕ) (end : ℕ) (h : at < le
         ∙ ap₂ (λ (n : ℕ) (l : List ℕ). take n l) line-run line-bytes
         ∙ take-at (b ∷ spaced ms) (drop end text) (suc (length (spaced ms))) refl
 
-    line-says : length ms ≡ countOf b → parsed (b ∷ spaced ms) ≡ Asks (callOf b (getD ms 0 0) (getD ms 1 0) (getD ms 2 0))
-    unfolding spelled
-    line-says n =
-        let c : Call = callOf b (getD ms 0 0) (getD ms 1 0) (getD ms 2 0) in
-        let m = made-of ms b n k in
-        let q : spelled (Asks c) ≡ b ∷ spaced ms = rw (m .0, m .1) in
-        let w : AllSmall (numbers c) = rw (m .1) (s .small) in
-        let j : length (spelled (Asks c)) ≤ 80 = omega (arith, ap length q, length-spaced ms (s .small)) in
-        ap parsed (sym q) ∙ said (Asks c) (λ p. let y : _≡_ {A = ℕ} 0 1 = cc in omega arith) j w
-
-    call-said : length ms ≡ countOf b → _≡_ {A = Said} (record { says = Asks (callOf b (getD ms 0 0) (getD ms 1 0) (getD ms 2 0)); end = end }) (saidAt text at)
+    -- a letter and as many numbers as it takes, up to a line feed, say their call
+    call-said : _≡_ {A = Said} (record { says = Asks c; end = end }) (saidAt text at)
     unfolding saidAt
-    call-said n =
+    call-said =
         let p : end ≡ at + run (drop at text) = omega (arith, line-run, s .ends) in
-        ap₂ (λ (x : Parsed) (y : ℕ). record { says = x; end = y }) (sym (ap parsed line-slice ∙ line-says n)) p
+        let j : suc (length (spaced ms)) ≤ 80 = omega (arith, numbers-few b ms c is, length-spaced ms (s .small)) in
+        let q = said c (record { letter = b; numbers = ms; is = is }) j (s .small) in
+        ap₂ (λ (x : Parsed) (y : ℕ). record { says = x; end = y }) (sym (ap parsed line-slice ∙ q)) p
 
-  -- a letter and as many numbers as it takes, up to a line feed, say their call
-  pub call-found : (c : Call) → length ms ≡ countOf b → countOf b ≤ 3 → c ≡ callOf b (getD ms 0 0) (getD ms 1 0) (getD ms 2 0)
-      → end < length text → getD text end 0 ≡ 10 → _≡_ {A = Said} (record { says = Asks c; end = end }) (saidAt text at)
-  call-found c n k q i f = ap (λ (x : Call). record { says = Asks x; end = end }) q ∙ call-said k (run-here text end i f) n
+  said-by : (x : Option Call) → callOf b ms ≡ x → run (drop end text) ≡ 0 → Tells (nearOf (saysOf x) end) (saidAt text at)
+  said-by none is z = tt
+  said-by (some c) is z = call-said c is z
+
+  -- what a letter and numbers say up to a line feed, their line says
+  pub call-found : (p : Parsed) (n : Near) → p ≡ saysOf (callOf b ms) → n ≡ nearOf p end → end < length text → getD text end 0 ≡ 10 → Tells n (saidAt text at)
+  call-found p n q r i f = rw (r, q) (said-by (callOf b ms) refl (run-here text end i f))
 
 -- ── what is found in one pass ──
+
+-- a letter and numbers that are no call
+pub near-none : (p : Parsed) (e : ℕ) → (tagOf the-type p ≡ 0) ⊎ (tagOf the-type p ≡ 2) → Near.No ≡ nearOf p e
+near-none (Store x) e h = refl
+near-none (Asks c) e h = cases h (λ q. absurd (let z : ⊥ = omega arith in z)) (λ q. absurd (let z : ⊥ = omega arith in z))
+near-none Parsed.No e h = refl
 
 -- what was read in a short way, taken apart
 pub agrees-read : (r n : Number) (v e most : ℕ) → r ≡ Number.Read v e → Agrees r n most → (Number.Read v e ≡ n) × (e ≤ most)

@@ -3,7 +3,7 @@ use Prim.Native.Nat.{ℕ, zero, suc, _+_, _-_, _*_, _^_, _<_, _≤_}
 use mathlib.Core.Path.{_≡_, refl, sym, ap, _∙_}
 use mathlib.Core.Bool.{true, false}
 use mathlib.Core.List.{List, [], _∷_, _++_}
-use mathlib.Core.Option.{none}
+use mathlib.Core.Option.{none, some}
 use native.Mathlib.Numerals.{add-one}
 use native.Mathlib.Nat.{pow-le-pow-right, pow-succ'}
 use native.Mathlib.Omega.{arith}
@@ -106,20 +106,32 @@ read-behind l first from v i h e =
     (λ z. let w = h z in rw (eq-eqb first 0 z, w .0, w .1))
     (λ n. rw (ne-eqb first 0 n) e)
 
+-- the numbers end with the line
+pub numbers-end : (l : List ℕ) (at n : ℕ) (bs : List ℕ) → at ≡ length l → numbersFrom l at n bs ≡ some bs
+unfolding numbersFrom
+numbers-end l at zero bs h = rw (eq-eqb at (length l) h)
+numbers-end l at (suc n) bs h = rw (eq-eqb at (length l) h)
+
+-- no more are to be read, and the line goes on
+pub numbers-over : (l : List ℕ) (at : ℕ) (bs : List ℕ) → (at ≡ length l → ⊥) → numbersFrom l at 0 bs ≡ none
+unfolding numbersFrom
+numbers-over l at bs h = rw (ne-eqb at (length l) h)
+
 -- one number more, or none
-module _ (l : List ℕ) (at r n : ℕ) (bs : List ℕ) (e : r ≡ suc n) where
+module _ (l : List ℕ) (at r n : ℕ) (bs : List ℕ) (e : r ≡ suc n) (goes : at ≡ length l → ⊥) where
   pub numbers-none : Number.No ≡ numberFrom (drop at l) at → numbersFrom l at r bs ≡ none
   unfolding numbersFrom
-  numbers-none h = rw (e, ← h)
+  numbers-none h = rw (e, ne-eqb at (length l) goes, ← h)
 
   pub numbers-more : (v end : ℕ) → Number.Read v end ≡ numberFrom (drop at l) at → numbersFrom l at r bs ≡ numbersFrom l end n (bs ++ (v ∷ []))
   unfolding numbersFrom
-  numbers-more v end h = rw (e, ← h)
+  numbers-more v end h = rw (e, ne-eqb at (length l) goes, ← h)
 
 -- the number that is read at a position joins those that a buffer holds
-pub numbers-step : (l : List ℕ) (at count i : ℕ) (o : List ℕ) (v end : ℕ) → i < count → i < length o → Number.Read v end ≡ numberFrom (drop at l) at
+pub numbers-step : (l : List ℕ) (at count i : ℕ) (o : List ℕ) (v end : ℕ) → i < count → i < length o → (at ≡ length l → ⊥)
+    → Number.Read v end ≡ numberFrom (drop at l) at
     → numbersFrom l at (count - i) (take i o) ≡ numbersFrom l end (count - (i + 1)) (take (i + 1) (set o i v))
-numbers-step l at count i o v end h k e =
+numbers-step l at count i o v end h k goes e =
     let r : count - i ≡ suc (count - (i + 1)) = omega arith in
-    numbers-more l at (count - i) (count - (i + 1)) (take i o) r v end e
+    numbers-more l at (count - i) (count - (i + 1)) (take i o) r goes v end e
     ∙ ap (numbersFrom l end (count - (i + 1))) (sym (take-suc-set o i v k) ∙ ap (λ (n : ℕ). take n (set o i v)) (sym (add-one i)))

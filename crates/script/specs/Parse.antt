@@ -4,14 +4,14 @@ use Prim.Native.Nat.{ℕ, zero, suc, _+_, _-_, _*_}
 use mathlib.Core.Bool.{Bool, true, false, cond, _&&_}
 use mathlib.Core.List.{List, [], _∷_, _++_}
 use mathlib.Core.Option.{Option, none, some}
-use lib.ListN.{length, getD, drop}
+use lib.ListN.{length, getD, take, drop}
 use lib.Dec.{eqb, leb, ltb}
 use Rattle.model.specs.declared.Call.{Call}
-use Rattle.model.specs.declared.Call.the-variants.{Begin, Write, Erase, Seal, Fork, Delete, Read, Barrier, Compress, FreeList, Estimate}
 use Rattle.script.specs.declared.number.Number.{Number}
 use Rattle.script.specs.declared.parse.Six.{Six}
 use Rattle.script.specs.declared.parse.Parsed.{Parsed}
 use Rattle.script.specs.declared.parse.Parsed.the-variants.{Store, Asks}
+use Rattle.script.specs.Letters.{callOf}
 
 abbrev pub isDigit : ℕ → Bool
 isDigit b = leb 48 b && leb b 57
@@ -39,10 +39,15 @@ onNumber Number.No f = none
 abbrev pub gave : Bool → List ℕ → Option (List ℕ)
 gave t ns = cond t (some ns) none
 
--- n numbers from a position to the line's end, behind those that were read before
+-- the numbers from a position to the line's end, at most n of them, after those that were read before
 unfoldable pub numbersFrom : List ℕ → ℕ → ℕ → List ℕ → Option (List ℕ)
 numbersFrom line at zero before = gave (eqb at (length line)) before
-numbersFrom line at (suc n) before = onNumber (numberFrom (drop at line) at) (λ value end. numbersFrom line end n (before ++ (value ∷ [])))
+numbersFrom line at (suc n) before =
+    cond (eqb at (length line)) (some before) (onNumber (numberFrom (drop at line) at) (λ value end. numbersFrom line end n (before ++ (value ∷ []))))
+
+-- numbers in a buffer by their count; 7 is the count of none
+abbrev pub counted : ℕ → List ℕ → Option (List ℕ)
+counted n ns = cond (ltb 6 n) none (some (take n ns))
 
 -- whether a line begins with a word
 unfoldable pub opens : List ℕ → List ℕ → Bool
@@ -67,26 +72,25 @@ sixOf ns =
 
 abbrev pub storeOf : Option (List ℕ) → Parsed
 storeOf none = Parsed.No
-storeOf (some ns) = Store (sixOf ns)
+storeOf (some ns) = cond (eqb (length ns) 6) (Store (sixOf ns)) Parsed.No
 
--- how many numbers follow a letter: B W E S F D R Y C L Q; 4 for no letter of a call
-unfoldable pub countOf : ℕ → ℕ
-countOf b =
-    cond (eqb b 66) 0 (cond (eqb b 87) 3 (cond (eqb b 69) 2 (cond (eqb b 83) 1 (cond (eqb b 70) 1 (cond (eqb b 68) 1 (cond (eqb b 82) 2 (cond (eqb b 89) 0 (cond (eqb b 67) 0 (cond (eqb b 76) 0 (cond (eqb b 81) 1 4))))))))))
+-- what a letter and numbers say
+abbrev pub saysOf : Option Call → Parsed
+saysOf none = Parsed.No
+saysOf (some c) = Asks c
 
--- the call of a letter and its numbers
-unfoldable pub callOf : ℕ → ℕ → ℕ → ℕ → Call
-callOf b x y z =
-    cond (eqb b 66) Begin (cond (eqb b 87) (Write x y z) (cond (eqb b 69) (Erase x y) (cond (eqb b 83) (Seal x) (cond (eqb b 70) (Fork x) (cond (eqb b 68) (Delete x) (cond (eqb b 82) (Read x y) (cond (eqb b 89) Barrier (cond (eqb b 67) Compress (cond (eqb b 81) (Estimate x) FreeList)))))))))
+-- what a letter and n numbers say, of which the first three are x, y and z
+unfoldable pub saysBy : ℕ → ℕ → ℕ → ℕ → ℕ → Parsed
+saysBy b n x y z = cond (ltb 3 n) Parsed.No (saysOf (callOf b (take n (x ∷ y ∷ z ∷ []))))
 
 abbrev pub asksOf : ℕ → Option (List ℕ) → Parsed
 asksOf b none = Parsed.No
-asksOf b (some ns) = Asks (callOf b (getD ns 0 0) (getD ns 1 0) (getD ns 2 0))
+asksOf b (some ns) = saysOf (callOf b ns)
 
 -- a line that does not open with `store`
 unfoldable pub callLine : List ℕ → Parsed
 callLine [] = Parsed.No
-callLine (b ∷ l) = cond (ltb 3 (countOf b)) Parsed.No (asksOf b (numbersFrom (b ∷ l) 1 (countOf b) []))
+callLine (b ∷ l) = asksOf b (numbersFrom (b ∷ l) 1 3 [])
 
 -- what a line says
 unfoldable pub parsed : List ℕ → Parsed

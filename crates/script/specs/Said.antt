@@ -4,14 +4,15 @@ use mathlib.Core.List.{List}
 use mathlib.Core.Path.{_≡_}
 use mathlib.Core.Bool.{cond}
 use lib.Dec.{eqb}
-use lib.ListN.{drop}
+use lib.ListN.{length, getD, drop}
 use lib.Seq.{slice}
 use Rattle.script.specs.declared.number.Number.{Number}
-use Rattle.script.specs.declared.parse.Parsed.the-variants.{Asks}
+use Rattle.script.specs.declared.parse.Parsed.{Parsed}
+use Rattle.script.specs.declared.parse.Parsed.the-variants.{Store, Asks}
 use Rattle.script.specs.declared.said.Said.{Said}
 use Rattle.script.specs.declared.said.Near.{Near}
 use Rattle.script.specs.Lines.{run}
-use Rattle.script.specs.Parse.{digitsFrom, parsed}
+use Rattle.script.specs.Parse.{digitsFrom, numberFrom, parsed}
 
 -- the line from a position to the first line feed, or the end: what it says, and the position behind it
 unfoldable pub saidAt : List ℕ → ℕ → Said
@@ -30,3 +31,16 @@ Agrees Number.No n most = Unit {0}
 abbrev pub Tells : Near → Said → Type 0
 Tells (Near.Asks c e) said = record { says = Asks c; end = e } ≡ said
 Tells Near.No said = Unit {0}
+
+abbrev pub nearOf : Parsed → ℕ → Near
+nearOf (Store s) e = Near.No
+nearOf (Asks c) e = Near.Asks c e
+nearOf Parsed.No e = Near.No
+
+-- a line that begins with a letter, and room for all that is read in one pass
+abbrev pub Begun : List ℕ → ℕ → ℕ → Type 0
+Begun text at b = (at + 17 ≤ length text) × (b ≡ getD text at 0)
+
+-- a number that was read in a short way, and where it ends
+abbrev pub Next : List ℕ → ℕ → ℕ → ℕ → Type 0
+Next text at n end = (Number.Read n end ≡ numberFrom (drop at text) at) × (end ≤ at + 5)

@@ -1,9 +1,10 @@
 // What a line says.
 ghost use mathlib.Core.Path.{_≡_};
 ghost use Prim.Native.Nat.{_≤_, _<_};
-ghost use mathlib.Core.List.{[]};
-ghost use lib.ListN.{length, take, getD};
-ghost use Rattle.script.specs.Parse.{gave, numbersFrom, opens, store, storeOf, countOf, callOf, callLine, parsed};
+ghost use mathlib.Core.List.{[], _∷_};
+ghost use lib.ListN.{length, getD};
+ghost use Rattle.script.specs.Letters.{callOf};
+ghost use Rattle.script.specs.Parse.{numbersFrom, counted, opens, store, storeOf, saysOf, saysBy, callLine, parsed};
 use crate::number::Number;
 use crate::number::number_at;
 use model::Call;
@@ -42,23 +43,27 @@ fn opens_store(line: &[u8]) -> bool
     true
 }
 
-// Reads as many numbers as asked, from a position to the line's end.
-fn numbers_at(line: &[u8], from: usize, count: usize, out: &mut [u32; 6]) -> bool
-    requires { ⌜ (count ≤ 6) × (length (now out) ≡ 6) ⌝ }
-    ensures { λ r. ⌜ gave r (take count (now (out .exit))) ≡ numbersFrom (now (line .entry)) from count [] ⌝ }
+// Reads the numbers from a position to the line's end, at most as many as asked; returns how many they are, 7 where the line has anything else.
+fn numbers_at(line: &[u8], from: usize, most: usize, out: &mut [u32; 6]) -> usize
+    requires { ⌜ (most ≤ 6) × (length (now out) ≡ 6) ⌝ }
+    ensures is { λ r. ⌜ counted r (now (out .exit)) ≡ numbersFrom (now (line .entry)) from most [] ⌝ }
+    ensures long { λ r. ⌜ length (now (out .exit)) ≡ 6 ⌝ }
 {
     let mut at = from;
     let mut i: usize = 0;
-    while i < count {
+    while at != line.len() {
+        if most <= i {
+            return 7;
+        }
         let read = number_at(line, at);
         let Number::Read(value, end) = read else {
-            return false;
+            return 7;
         };
         out[i] = value;
         at = end;
         i += 1;
     }
-    at == line.len()
+    i
 }
 
 // The six numbers of a store line, behind its five letters.
@@ -66,7 +71,7 @@ fn store_line(line: &[u8]) -> Parsed
     ensures { λ r. ⌜ r ≡ storeOf (numbersFrom (now (line .entry)) 5 6 []) ⌝ }
 {
     let mut n = [0u32; 6];
-    if numbers_at(line, 5, 6, &mut n) {
+    if numbers_at(line, 5, 6, &mut n) == 6 {
         return Parsed::Store(Six {
             arenas: n[0],
             per: n[1],
@@ -79,42 +84,63 @@ fn store_line(line: &[u8]) -> Parsed
     Parsed::No
 }
 
-// How many numbers follow a letter; 4 for no letter of a call.
-pub fn count_of(letter: u8) -> usize
-    ensures { λ r. ⌜ r ≡ countOf letter ⌝ }
+// The calls of a letter alone. Each call of the table has its arm in one of four functions, the one that its numbers choose.
+pub fn bare_of(letter: u8) -> Parsed
+    ensures { λ r. ⌜ r ≡ saysOf (callOf letter []) ⌝ }
 {
     match letter {
-        b'B' => 0,
-        b'W' => 3,
-        b'E' => 2,
-        b'S' => 1,
-        b'F' => 1,
-        b'D' => 1,
-        b'R' => 2,
-        b'Y' => 0,
-        b'C' => 0,
-        b'L' => 0,
-        b'Q' => 1,
-        _ => 4,
+        b'B' => Parsed::Asks(Call::Begin),
+        b'Y' => Parsed::Asks(Call::Barrier),
+        b'C' => Parsed::Asks(Call::Compress),
+        b'L' => Parsed::Asks(Call::FreeList),
+        _ => Parsed::No,
     }
 }
 
-// The call of a letter and its numbers.
-pub fn call_of(letter: u8, x: u32, y: u32, z: u32) -> Call
-    ensures { λ r. ⌜ r ≡ callOf letter x y z ⌝ }
+// The calls of a letter and one number.
+pub fn one_of(letter: u8, x: u32) -> Parsed
+    ensures { λ r. ⌜ r ≡ saysOf (callOf letter (x ∷ [])) ⌝ }
 {
     match letter {
-        b'B' => Call::Begin,
-        b'W' => Call::Write(x, y, z),
-        b'E' => Call::Erase(x, y),
-        b'S' => Call::Seal(x),
-        b'F' => Call::Fork(x),
-        b'D' => Call::Delete(x),
-        b'R' => Call::Read(x, y),
-        b'Y' => Call::Barrier,
-        b'C' => Call::Compress,
-        b'Q' => Call::Estimate(x),
-        _ => Call::FreeList,
+        b'S' => Parsed::Asks(Call::Seal(x)),
+        b'F' => Parsed::Asks(Call::Fork(x)),
+        b'D' => Parsed::Asks(Call::Delete(x)),
+        b'Q' => Parsed::Asks(Call::Estimate(x)),
+        _ => Parsed::No,
+    }
+}
+
+// The calls of a letter and two numbers.
+pub fn two_of(letter: u8, x: u32, y: u32) -> Parsed
+    ensures { λ r. ⌜ r ≡ saysOf (callOf letter (x ∷ y ∷ [])) ⌝ }
+{
+    match letter {
+        b'E' => Parsed::Asks(Call::Erase(x, y)),
+        b'R' => Parsed::Asks(Call::Read(x, y)),
+        _ => Parsed::No,
+    }
+}
+
+// The calls of a letter and three numbers.
+pub fn three_of(letter: u8, x: u32, y: u32, z: u32) -> Parsed
+    ensures { λ r. ⌜ r ≡ saysOf (callOf letter (x ∷ y ∷ z ∷ [])) ⌝ }
+{
+    match letter {
+        b'W' => Parsed::Asks(Call::Write(x, y, z)),
+        _ => Parsed::No,
+    }
+}
+
+// What a letter and as many numbers say.
+pub fn call_of(letter: u8, count: usize, x: u32, y: u32, z: u32) -> Parsed
+    ensures { λ r. ⌜ r ≡ saysBy letter count x y z ⌝ }
+{
+    match count {
+        0 => bare_of(letter),
+        1 => one_of(letter, x),
+        2 => two_of(letter, x, y),
+        3 => three_of(letter, x, y, z),
+        _ => Parsed::No,
     }
 }
 
@@ -125,16 +151,9 @@ fn call_line(line: &[u8]) -> Parsed
     if line.len() == 0 {
         return Parsed::No;
     }
-    let letter = line[0];
-    let count = count_of(letter);
-    if 3 < count {
-        return Parsed::No;
-    }
     let mut n = [0u32; 6];
-    if numbers_at(line, 1, count, &mut n) {
-        return Parsed::Asks(call_of(letter, n[0], n[1], n[2]));
-    }
-    Parsed::No
+    let count = numbers_at(line, 1, 3, &mut n);
+    call_of(line[0], count, n[0], n[1], n[2])
 }
 
 // What a line says: the six numbers of a store, a call, or neither.

@@ -1,13 +1,16 @@
 // What the line at a position says and where it ends, found together.
 ghost use mathlib.Core.Path.{_≡_};
 ghost use Prim.Native.Nat.{_+_, _≤_, _<_};
-ghost use lib.ListN.{length, getD, drop};
-ghost use Rattle.script.specs.Parse.{countOf, numberFrom};
-ghost use Rattle.script.specs.Said.{saidAt, behindFirst, Agrees, Tells};
+ghost use lib.ListN.{length, drop};
+ghost use Rattle.script.specs.Parse.{numberFrom};
+ghost use Rattle.script.specs.Said.{saidAt, behindFirst, Agrees, Tells, Begun, Next, nearOf};
 use crate::number::Number;
 use crate::parse::Parsed;
-use crate::parse::call_of;
+use crate::parse::bare_of;
+use crate::parse::one_of;
 use crate::parse::parse;
+use crate::parse::three_of;
+use crate::parse::two_of;
 use crate::reader::Line;
 use crate::reader::line_from;
 use model::Call;
@@ -81,22 +84,49 @@ fn short_at(text: &[u8], at: usize) -> Number
     few_digits(text, start + 1, text[start] as u32 - 48)
 }
 
-// A line of a letter alone.
-fn no_number(text: &[u8], at: usize, letter: u8) -> Near
-    requires { ⌜ (at + 17 ≤ length (now text)) × (letter ≡ getD (now text) at 0) × (countOf letter ≡ 0) ⌝ }
+// What a letter and its numbers say, up to their line's end.
+fn found(says: Parsed, end: usize) -> Near
+    ensures { λ r. ⌜ r ≡ nearOf says end ⌝ }
+{
+    let Parsed::Asks(c) = says else {
+        return Near::No;
+    };
+    Near::Asks(c, end)
+}
+
+// A line of a letter and three numbers, from the third on.
+fn three_numbers(text: &[u8], at: usize, letter: u8, x: u32, i: usize, y: u32, j: usize) -> Near
+    requires { ⌜ Begun (now text) at letter × Next (now text) (at + 1) x i × Next (now text) i y j ⌝ }
     ensures { λ r. ⌜ Tells r (saidAt (now (text .entry)) at) ⌝ }
 {
-    let end = at + 1;
+    let third = short_at(text, j);
+    let Number::Read(z, end) = third else {
+        return Near::No;
+    };
     if text[end] == 10 {
-        let c = call_of(letter, 0, 0, 0);
-        return Near::Asks(c, end);
+        return found(three_of(letter, x, y, z), end);
     }
     Near::No
 }
 
-// A line of a letter and one number.
+// A line of a letter and two numbers or more, from the second on.
+fn two_numbers(text: &[u8], at: usize, letter: u8, x: u32, i: usize) -> Near
+    requires { ⌜ Begun (now text) at letter × Next (now text) (at + 1) x i ⌝ }
+    ensures { λ r. ⌜ Tells r (saidAt (now (text .entry)) at) ⌝ }
+{
+    let second = short_at(text, i);
+    let Number::Read(y, end) = second else {
+        return Near::No;
+    };
+    if text[end] == 10 {
+        return found(two_of(letter, x, y), end);
+    }
+    three_numbers(text, at, letter, x, i, y, end)
+}
+
+// A line of a letter and one number or more.
 fn one_number(text: &[u8], at: usize, letter: u8) -> Near
-    requires { ⌜ (at + 17 ≤ length (now text)) × (letter ≡ getD (now text) at 0) × (countOf letter ≡ 1) ⌝ }
+    requires { ⌜ Begun (now text) at letter ⌝ }
     ensures { λ r. ⌜ Tells r (saidAt (now (text .entry)) at) ⌝ }
 {
     let first = short_at(text, at + 1);
@@ -104,54 +134,9 @@ fn one_number(text: &[u8], at: usize, letter: u8) -> Near
         return Near::No;
     };
     if text[end] == 10 {
-        let c = call_of(letter, x, 0, 0);
-        return Near::Asks(c, end);
+        return found(one_of(letter, x), end);
     }
-    Near::No
-}
-
-// A line of a letter and two numbers.
-fn two_numbers(text: &[u8], at: usize, letter: u8) -> Near
-    requires { ⌜ (at + 17 ≤ length (now text)) × (letter ≡ getD (now text) at 0) × (countOf letter ≡ 2) ⌝ }
-    ensures { λ r. ⌜ Tells r (saidAt (now (text .entry)) at) ⌝ }
-{
-    let first = short_at(text, at + 1);
-    let Number::Read(x, i) = first else {
-        return Near::No;
-    };
-    let second = short_at(text, i);
-    let Number::Read(y, end) = second else {
-        return Near::No;
-    };
-    if text[end] == 10 {
-        let c = call_of(letter, x, y, 0);
-        return Near::Asks(c, end);
-    }
-    Near::No
-}
-
-// A line of a letter and three numbers.
-fn three_numbers(text: &[u8], at: usize, letter: u8) -> Near
-    requires { ⌜ (at + 17 ≤ length (now text)) × (letter ≡ getD (now text) at 0) × (countOf letter ≡ 3) ⌝ }
-    ensures { λ r. ⌜ Tells r (saidAt (now (text .entry)) at) ⌝ }
-{
-    let first = short_at(text, at + 1);
-    let Number::Read(x, i) = first else {
-        return Near::No;
-    };
-    let second = short_at(text, i);
-    let Number::Read(y, j) = second else {
-        return Near::No;
-    };
-    let third = short_at(text, j);
-    let Number::Read(z, end) = third else {
-        return Near::No;
-    };
-    if text[end] == 10 {
-        let c = call_of(letter, x, y, z);
-        return Near::Asks(c, end);
-    }
-    Near::No
+    two_numbers(text, at, letter, x, end)
 }
 
 // The call at a position, if its numbers are short and 17 bytes are left: no call with such numbers has more, with its line feed.
@@ -162,20 +147,12 @@ fn near_at(text: &[u8], at: usize) -> Near
     if text.len() - at < 17 {
         return Near::No;
     }
-    match text[at] {
-        b'B' => no_number(text, at, b'B'),
-        b'W' => three_numbers(text, at, b'W'),
-        b'E' => two_numbers(text, at, b'E'),
-        b'S' => one_number(text, at, b'S'),
-        b'F' => one_number(text, at, b'F'),
-        b'D' => one_number(text, at, b'D'),
-        b'R' => two_numbers(text, at, b'R'),
-        b'Y' => no_number(text, at, b'Y'),
-        b'C' => no_number(text, at, b'C'),
-        b'L' => no_number(text, at, b'L'),
-        b'Q' => one_number(text, at, b'Q'),
-        _ => Near::No,
+    let letter = text[at];
+    let end = at + 1;
+    if text[end] == 10 {
+        return found(bare_of(letter), end);
     }
+    one_number(text, at, letter)
 }
 
 // What the line at a position says, and where it ends. The parts of what `by_line` found are taken one by one: handed on whole, what is said would

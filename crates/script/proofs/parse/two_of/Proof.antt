@@ -1,0 +1,20 @@
+-- `two_of` meets its contract: at each letter both sides compute.
+use mathlib.Core.List.{[], _∷_}
+use Rattle.script.specs.Letters.{made, callIn, callOf}
+use Rattle.script.proofs.Letters.{no-call}
+use Rattle.script.proofs.parse.two_of.Statement.{statement}
+use Rattle.script.proofs.parse.two_of.Tie as tie
+
+returns : tie.Need-returns
+unfolding made callIn callOf
+returns c = rw (c .match .keys1)
+
+returns-2 : tie.Need-returns-2
+unfolding made callIn callOf
+returns-2 c = rw (c .match .keys2)
+
+returns-3 : tie.Need-returns-3
+returns-3 c = no-call _ (_ ∷ _ ∷ []) (c .match .rest)
+
+pub two-of-spec : {M : Type 1} → statement M
+two-of-spec = tie.close (tie.spec returns returns-2 returns-3)
