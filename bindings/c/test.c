@@ -1,4 +1,4 @@
-/* Makes a store through include/sogvect.h, makes every call, serves a script, checks the answers and prints `ok`. */
+/* Makes a store through include/sogvect.h, makes every call, serves a script, checks the answers and prints `ok`. C99 and C++17. */
 #include <stdio.h>
 #include <stdlib.h>
 #include <string.h>
@@ -12,12 +12,12 @@
 static uint32_t tables[SOGVECT_TABLES_NUMBERS(4, BLOCKS)];
 static uint8_t logged[SOGVECT_LOG_BYTES(20)];
 static uint32_t out[SOGVECT_OUT_NUMBERS(BLOCKS)];
-static size_t count;
 
 #define TABLES tables, sizeof tables / sizeof *tables
 #define LOG logged, sizeof logged
 #define OUT out, sizeof out / sizeof *out
-#define STORE SIX, TABLES, LOG, OUT
+
+static struct sogvect_store store = {{SIX}, TABLES, LOG, OUT, 0};
 
 #define EXPECT(fact) expect((fact), #fact, __LINE__)
 
@@ -30,121 +30,187 @@ static void expect(int holds, const char *fact, int line) {
 
 /* The call was done, and its result is these numbers. */
 static int gives(uint32_t code, size_t n, const uint32_t *numbers) {
-    return code == SOGVECT_DONE && count == n && memcmp(out, numbers, n * sizeof *numbers) == 0;
+    return code == SOGVECT_DONE && store.count == n && memcmp(out, numbers, n * sizeof *numbers) == 0;
 }
 
 #define GIVES(call, ...) \
     do { \
         const uint32_t numbers[] = {__VA_ARGS__}; \
-        count = SIZE_MAX; \
+        store.count = SIZE_MAX; \
         EXPECT(gives((call), sizeof numbers / sizeof *numbers, numbers)); \
     } while (0)
 
 #define GIVES_NOTHING(call) \
     do { \
-        count = SIZE_MAX; \
-        EXPECT((call) == SOGVECT_DONE && count == 0); \
+        store.count = SIZE_MAX; \
+        EXPECT((call) == SOGVECT_DONE && store.count == 0); \
     } while (0)
 
 #define REFUSES(call, number) \
     do { \
-        count = SIZE_MAX - 1; \
-        EXPECT((call) == (number) && count == SIZE_MAX - 1); \
+        store.count = SIZE_MAX - 1; \
+        EXPECT((call) == (number) && store.count == SIZE_MAX - 1); \
     } while (0)
 
 /* A block in a result is two numbers, the block and its birth. */
 static void every_call(void) {
-    EXPECT(sogvect_make(STORE) == SOGVECT_DONE);
-    GIVES(sogvect_begin(STORE, &count), 1);
-    GIVES(sogvect_write(STORE, 1, 4, SOGVECT_DATA, &count), 0, 1);
-    GIVES(sogvect_write(STORE, 1, 3, SOGVECT_PIVOT, &count), 3, 1);
-    GIVES(sogvect_read(STORE, 1, 4, &count), 0, 1);
-    GIVES_NOTHING(sogvect_read(STORE, 1, 2, &count));
-    GIVES(sogvect_seal(STORE, 1, &count), 2);
-    GIVES(sogvect_write(STORE, 2, 4, SOGVECT_LEAF, &count), 1, 2);
-    GIVES(sogvect_write(STORE, 2, 4, SOGVECT_LEAF, &count), 2, 2, 1, 2);
-    GIVES(sogvect_fork(STORE, 1, &count), 3);
-    GIVES_NOTHING(sogvect_erase(STORE, 3, 4, &count));
-    GIVES(sogvect_erase(STORE, 2, 4, &count), 2, 2);
+    EXPECT(sogvect_make_store(&store) == SOGVECT_DONE);
+    GIVES(sogvect_begin(&store), 1);
+    GIVES(sogvect_write(&store, 1, 4, SOGVECT_DATA), 0, 1);
+    GIVES(sogvect_write(&store, 1, 3, SOGVECT_PIVOT), 3, 1);
+    GIVES(sogvect_read(&store, 1, 4), 0, 1);
+    GIVES_NOTHING(sogvect_read(&store, 1, 2));
+    GIVES(sogvect_seal(&store, 1), 2);
+    GIVES(sogvect_write(&store, 2, 4, SOGVECT_LEAF), 1, 2);
+    GIVES(sogvect_write(&store, 2, 4, SOGVECT_LEAF), 2, 2, 1, 2);
+    GIVES(sogvect_fork(&store, 1), 3);
+    GIVES_NOTHING(sogvect_erase(&store, 3, 4));
+    GIVES(sogvect_erase(&store, 2, 4), 2, 2);
     /* 1 and 2 wait until the barrier */
-    GIVES(sogvect_free_list(STORE, &count), 4, 2);
-    GIVES_NOTHING(sogvect_barrier(STORE, &count));
-    GIVES(sogvect_free_list(STORE, &count), 1, 2, 4, 2);
-    REFUSES(sogvect_estimate(STORE, 1, &count), SOGVECT_FORKED);
-    GIVES(sogvect_estimate(STORE, 3, &count), 0, 0, 0);
-    GIVES_NOTHING(sogvect_delete(STORE, 3, &count));
-    GIVES(sogvect_estimate(STORE, 1, &count), 1, 1, 1);
-    GIVES(sogvect_delete(STORE, 1, &count), 0, 1);
-    GIVES(sogvect_free_list(STORE, &count), 1, 2, 4, 2);
-    GIVES(sogvect_compress(STORE, &count), 2);
-    GIVES(sogvect_free_list(STORE, &count), 0, 3, 4, 2);
+    GIVES(sogvect_free_list(&store), 4, 2);
+    GIVES_NOTHING(sogvect_barrier(&store));
+    GIVES(sogvect_free_list(&store), 1, 2, 4, 2);
+    REFUSES(sogvect_estimate(&store, 1), SOGVECT_FORKED);
+    GIVES(sogvect_estimate(&store, 3), 0, 0, 0);
+    GIVES_NOTHING(sogvect_delete(&store, 3));
+    GIVES(sogvect_estimate(&store, 1), 1, 1, 1);
+    GIVES(sogvect_delete(&store, 1), 0, 1);
+    GIVES(sogvect_free_list(&store), 1, 2, 4, 2);
+    GIVES(sogvect_compress(&store), 2);
+    GIVES(sogvect_free_list(&store), 0, 3, 4, 2);
 }
 
 static void refusals(void) {
     uint32_t kept[sizeof tables / sizeof *tables];
+    struct sogvect_store sound = store;
     memcpy(kept, tables, sizeof tables);
-    REFUSES(sogvect_begin(17, 3, 5, 4, 7, 20, TABLES, LOG, OUT, &count), SOGVECT_OUTSIDE_LIMITS);
-    REFUSES(sogvect_begin(SIX, tables, sizeof tables / sizeof *tables - 1, LOG, OUT, &count), SOGVECT_TOO_SHORT);
-    REFUSES(sogvect_begin(3, 2, 5, 4, 7, 20, TABLES, LOG, OUT, &count), SOGVECT_NOT_SOUND);
-    REFUSES(sogvect_write(STORE, 2, 5, 0, &count), SOGVECT_NO_PAGE);
-    REFUSES(sogvect_write(STORE, 2, 4, 3, &count), SOGVECT_NO_KIND);
-    REFUSES(sogvect_delete(STORE, 9, &count), SOGVECT_NO_RECORD);
-    REFUSES(sogvect_estimate(STORE, 9, &count), SOGVECT_NO_RECORD);
-    REFUSES(sogvect_fork(STORE, 2, &count), SOGVECT_WRONG_STATE);
+    store.geometry.arenas = 17;
+    REFUSES(sogvect_begin(&store), SOGVECT_OUTSIDE_LIMITS);
+    EXPECT(sogvect_make_store(&store) == SOGVECT_OUTSIDE_LIMITS);
+    store = sound;
+    store.tables_len -= 1;
+    REFUSES(sogvect_begin(&store), SOGVECT_TOO_SHORT);
+    EXPECT(sogvect_make_store(&store) == SOGVECT_TOO_SHORT);
+    store = sound;
+    store.geometry.arenas = 3;
+    store.geometry.per = 2;
+    REFUSES(sogvect_begin(&store), SOGVECT_NOT_SOUND);
+    store = sound;
+    REFUSES(sogvect_write(&store, 2, 5, 0), SOGVECT_NO_PAGE);
+    REFUSES(sogvect_write(&store, 2, 4, 3), SOGVECT_NO_KIND);
+    REFUSES(sogvect_delete(&store, 9), SOGVECT_NO_RECORD);
+    REFUSES(sogvect_estimate(&store, 9), SOGVECT_NO_RECORD);
+    REFUSES(sogvect_fork(&store, 2), SOGVECT_WRONG_STATE);
     EXPECT(memcmp(kept, tables, sizeof tables) == 0);
+}
+
+/* A letter that no call has is refused by 1, whatever else is wrong. */
+static void letters(void) {
+    static const char calls[] = "BWESFDRYCLQ";
+    uint32_t kept[sizeof tables / sizeof *tables], letter;
+    struct sogvect_store sound = store;
+    memcpy(kept, tables, sizeof tables);
+    for (letter = 0; letter < 600; letter++) {
+        if (letter == 0 || letter > 255 || strchr(calls, (int)letter) == NULL)
+            REFUSES(sogvect_call_store(&store, letter, 2, 4, 0), SOGVECT_NO_CALL);
+    }
+    REFUSES(sogvect_call_store(&store, UINT32_MAX, 2, 4, 0), SOGVECT_NO_CALL);
+    for (letter = 0; letter < 600; letter++) {
+        if (letter != 'R' && letter != 'L' && letter != 'Q')
+            REFUSES(sogvect_look_store(&store, letter, 2, 4), SOGVECT_NO_CALL);
+    }
+    store.geometry.arenas = 17;
+    store.tables_len = 0;
+    REFUSES(sogvect_call_store(&store, 'b', 2, 4, 0), SOGVECT_NO_CALL);
+    REFUSES(sogvect_look_store(&store, 'B', 2, 4), SOGVECT_NO_CALL);
+    store = sound;
+    /* numbers that a call does not take are passed over */
+    GIVES(sogvect_call_store(&store, 'L', 9, 9, 9), 0, 3, 4, 2);
+    GIVES(sogvect_call_store(&store, 'Q', 2, UINT32_MAX, 9), 1, 1, 0);
+    EXPECT(memcmp(kept, tables, sizeof tables) == 0);
+}
+
+/* Looks at memory that is const, with a buffer of their own, give what calls give. */
+static void looks(void) {
+    static uint32_t mine[SOGVECT_OUT_NUMBERS(BLOCKS)];
+    const uint32_t *const read_tables = tables;
+    const uint8_t *const read_log = logged;
+    uint32_t page;
+    for (page = 0; page < 6; page++) {
+        size_t n = SIZE_MAX;
+        uint32_t code = sogvect_look(SIX, read_tables, sizeof tables / sizeof *tables, read_log, sizeof logged,
+                                     mine, sizeof mine / sizeof *mine, 'R', 2, page, &n);
+        store.count = SIZE_MAX;
+        EXPECT(code == sogvect_call_store(&store, 'R', 2, page, 0) && n == store.count);
+        EXPECT(n == SIZE_MAX || memcmp(mine, out, n * sizeof *out) == 0);
+    }
+}
+
+/* Each refusal has a reason of its own. */
+static void reasons(void) {
+    uint32_t i, j;
+    for (i = SOGVECT_DONE; i <= SOGVECT_LOG_FULL + 1; i++) {
+        for (j = SOGVECT_DONE; j < i; j++)
+            EXPECT(strcmp(sogvect_reason(i), sogvect_reason(j)) != 0);
+    }
+    EXPECT(strcmp(sogvect_reason(SOGVECT_NO_RECORD), "the record is not in the store") == 0);
+    EXPECT(sogvect_reason(UINT32_MAX) == sogvect_reason(SOGVECT_LOG_FULL + 1));
 }
 
 static void logs(void) {
     const uint8_t none[] = {0, 0, 0, 0, 0, 0, 0, 3};
     const uint8_t wrong[] = {0, 0, 0, 0, 0, 0, 0, 6, 0, 0, 0, 0, 0, 0, 0, 3};
     uint32_t alike = 9;
-    GIVES(sogvect_log_read(SIX, logged, 8 * (size_t)tables[9], OUT, &count), 3);
-    /* cut in its barrier, and behind it */
-    GIVES_NOTHING(sogvect_log_read(SIX, logged, 8 * (size_t)tables[9] - 1, OUT, &count));
-    GIVES(sogvect_log_read(SIX, logged, 8 * (size_t)tables[9] + 1, OUT, &count), 3);
-    GIVES_NOTHING(sogvect_log_read(SIX, none, 8, OUT, &count));
-    GIVES_NOTHING(sogvect_log_read(SIX, none, 7, OUT, &count));
-    GIVES_NOTHING(sogvect_log_read(SIX, wrong, 15, OUT, &count));
-    REFUSES(sogvect_log_read(SIX, wrong, 16, OUT, &count), SOGVECT_NO_LOG);
+    GIVES(sogvect_log_read(SIX, logged, SOGVECT_LOG_USED(&store), OUT, &store.count), 3);
+    /* cut in its barrier, and after it */
+    GIVES_NOTHING(sogvect_log_read(SIX, logged, SOGVECT_LOG_USED(&store) - 1, OUT, &store.count));
+    GIVES(sogvect_log_read(SIX, logged, SOGVECT_LOG_USED(&store) + 1, OUT, &store.count), 3);
+    GIVES_NOTHING(sogvect_log_read(SIX, none, 8, OUT, &store.count));
+    GIVES_NOTHING(sogvect_log_read(SIX, none, 7, OUT, &store.count));
+    GIVES_NOTHING(sogvect_log_read(SIX, wrong, 15, OUT, &store.count));
+    REFUSES(sogvect_log_read(SIX, wrong, 16, OUT, &store.count), SOGVECT_NO_LOG);
     EXPECT(sogvect_log_compare(SIX, none, 7, none, 8, &alike) == SOGVECT_NO_LOG && alike == 9);
     EXPECT(sogvect_log_compare(SIX, none, 0, none, 8, &alike) == SOGVECT_DONE && alike == 1);
-    EXPECT(sogvect_log_compare(SIX, none, 8, logged, 8 * (size_t)tables[9], &alike) == SOGVECT_DONE && alike == 0);
+    EXPECT(sogvect_log_compare(SIX, none, 8, logged, SOGVECT_LOG_USED(&store), &alike) == SOGVECT_DONE && alike == 0);
     uint8_t anew[SOGVECT_LOG_BYTES(20)];
-    count = 9;
-    EXPECT(sogvect_log_compact(SIX, none, 0, anew, sizeof anew - 1, &count) == SOGVECT_TOO_SHORT && count == 9);
-    EXPECT(sogvect_log_compact(SIX, none, 7, anew, sizeof anew, &count) == SOGVECT_NO_LOG && count == 9);
-    EXPECT(sogvect_log_compact(SIX, none, 0, anew, sizeof anew, &count) == SOGVECT_DONE && count == 1);
+    store.count = 9;
+    EXPECT(sogvect_log_compact(SIX, none, 0, anew, sizeof anew - 1, &store.count) == SOGVECT_TOO_SHORT && store.count == 9);
+    EXPECT(sogvect_log_compact(SIX, none, 7, anew, sizeof anew, &store.count) == SOGVECT_NO_LOG && store.count == 9);
+    EXPECT(sogvect_log_compact(SIX, none, 0, anew, sizeof anew, &store.count) == SOGVECT_DONE && store.count == 1);
     EXPECT(memcmp(anew, none, sizeof none) == 0);
 }
 
 static void script(void) {
-    static uint32_t its_tables[SOGVECT_TABLES_NUMBERS_MOST], its_out[SOGVECT_OUT_NUMBERS_MOST];
-    static uint8_t its_log[SOGVECT_LOG_BYTES_MOST], replies[65536];
+    static uint32_t its_tables[SOGVECT_TABLES_NUMBERS_MAX], its_out[SOGVECT_OUT_NUMBERS_MAX];
+    static uint8_t its_log[SOGVECT_LOG_BYTES_MAX], replies[65536];
     const char *text = "store 2 3 5 4 7 20\nB\nW 1 4 0\nno call\nL";
     const char *said = "+\n+ 1\n+ 0:1\n- 1\n+ 1 2 3 3\n";
     uint32_t run[SOGVECT_SCRIPT_RUN] = {0};
     size_t at = 0, bytes = 0;
 #define PART(tables_len) \
     sogvect_script((const uint8_t *)text, strlen(text), &at, run, SOGVECT_SCRIPT_RUN, its_tables, tables_len, its_log, sizeof its_log, its_out, \
-                   SOGVECT_OUT_NUMBERS_MOST, replies, sizeof replies, &bytes)
+                   SOGVECT_OUT_NUMBERS_MAX, replies, sizeof replies, &bytes)
 #define PART_REFUSES(tables_len, number) EXPECT(PART(tables_len) == (number) && at == 41 && bytes == strlen(said))
-    EXPECT(PART(SOGVECT_TABLES_NUMBERS_MOST) == SOGVECT_DONE);
+    EXPECT(PART(SOGVECT_TABLES_NUMBERS_MAX) == SOGVECT_DONE);
     EXPECT(at >= strlen(text) && bytes == strlen(said) && memcmp(replies, said, bytes) == 0);
     EXPECT(run[0] == 1 && run[1] == 2 && run[6] == 20);
     at = 41;
-    PART_REFUSES(SOGVECT_TABLES_NUMBERS_MOST - 1, SOGVECT_TOO_SHORT);
+    PART_REFUSES(SOGVECT_TABLES_NUMBERS_MAX - 1, SOGVECT_TOO_SHORT);
     its_tables[9] = 9;
-    PART_REFUSES(SOGVECT_TABLES_NUMBERS_MOST, SOGVECT_NOT_SOUND);
+    PART_REFUSES(SOGVECT_TABLES_NUMBERS_MAX, SOGVECT_NOT_SOUND);
     run[1] = 17;
-    PART_REFUSES(SOGVECT_TABLES_NUMBERS_MOST, SOGVECT_OUTSIDE_LIMITS);
+    PART_REFUSES(SOGVECT_TABLES_NUMBERS_MAX, SOGVECT_OUTSIDE_LIMITS);
 }
 
 int main(void) {
-    EXPECT(SOGVECT_TABLES_NUMBERS(SOGVECT_RECORDS_MOST, SOGVECT_BLOCKS_MOST) == SOGVECT_TABLES_NUMBERS_MOST);
-    EXPECT(SOGVECT_LOG_BYTES(SOGVECT_WORDS_MOST) == SOGVECT_LOG_BYTES_MOST);
-    EXPECT(SOGVECT_OUT_NUMBERS(SOGVECT_BLOCKS_MOST) == SOGVECT_OUT_NUMBERS_MOST);
+    EXPECT(SOGVECT_TABLES_NUMBERS(SOGVECT_RECORDS_MAX, SOGVECT_BLOCKS_MAX) == SOGVECT_TABLES_NUMBERS_MAX);
+    EXPECT(SOGVECT_LOG_BYTES(SOGVECT_WORDS_MAX) == SOGVECT_LOG_BYTES_MAX);
+    EXPECT(SOGVECT_OUT_NUMBERS(SOGVECT_BLOCKS_MAX) == SOGVECT_OUT_NUMBERS_MAX);
     every_call();
     refusals();
+    letters();
+    looks();
+    reasons();
     logs();
     script();
     puts("ok");

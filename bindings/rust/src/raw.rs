@@ -1,56 +1,6 @@
 //! The functions of libsogvect.a as they are, with slices as a pointer and a length. `include/sogvect.h` says what each does.
-//! A block that `sogvect_write`, `sogvect_erase`, `sogvect_delete` or `sogvect_read` names is two numbers of the result buffer, the block and its birth.
 //!
 //! Every pointer has to be aligned and valid for its length, not null even where the length is 0, and what is lent as `*mut` may overlap nothing else that is lent.
-
-/// Declares the functions of the calls: the six numbers, tables, log and result buffer, the call's own numbers, the count.
-macro_rules! calls {
-    ($($(#[$doc:meta])* $name:ident($($number:ident),*);)*) => {
-        extern "C" {
-            $($(#[$doc])* pub fn $name(
-                arenas: usize,
-                per: usize,
-                pages: usize,
-                records: usize,
-                turn: usize,
-                words: usize,
-                tables: *mut u32,
-                tables_len: usize,
-                log: *mut u8,
-                log_len: usize,
-                out: *mut u32,
-                out_len: usize,
-                $($number: u32,)*
-                count: *mut usize,
-            ) -> u32;)*
-        }
-    };
-}
-
-calls! {
-    /// A new open record in a new line.
-    sogvect_begin();
-    /// A free block on a page of open record n.
-    sogvect_write(n, page, kind);
-    /// A page of open record n becomes empty.
-    sogvect_erase(n, page);
-    /// Record n is sealed, an open one follows it.
-    sogvect_seal(n);
-    /// A new line from sealed record n.
-    sogvect_fork(n);
-    /// Record n leaves the store.
-    sogvect_delete(n);
-    /// The block on a page of record n, and its birth.
-    sogvect_read(n, page);
-    /// A barrier in the log; the waiting of blocks ends.
-    sogvect_barrier();
-    /// The log anew, compressed; the waiting of blocks ends.
-    sogvect_compress();
-    /// The free blocks that do not wait, as runs.
-    sogvect_free_list();
-    /// What the deletion of record n would do.
-    sogvect_estimate(n);
-}
 
 extern "C" {
     /// A fresh store on the lent memory.
@@ -67,6 +17,47 @@ extern "C" {
         log_len: usize,
         out: *const u32,
         out_len: usize,
+    ) -> u32;
+
+    /// The call of a letter, as its byte, and three numbers. A block in a result is two numbers of the result buffer, the block and its birth.
+    pub fn sogvect_call(
+        arenas: usize,
+        per: usize,
+        pages: usize,
+        records: usize,
+        turn: usize,
+        words: usize,
+        tables: *mut u32,
+        tables_len: usize,
+        log: *mut u8,
+        log_len: usize,
+        out: *mut u32,
+        out_len: usize,
+        letter: u32,
+        x: u32,
+        y: u32,
+        z: u32,
+        count: *mut usize,
+    ) -> u32;
+
+    /// The same of a letter that only looks, R, L or Q: tables and log are read and never written.
+    pub fn sogvect_look(
+        arenas: usize,
+        per: usize,
+        pages: usize,
+        records: usize,
+        turn: usize,
+        words: usize,
+        tables: *const u32,
+        tables_len: usize,
+        log: *const u8,
+        log_len: usize,
+        out: *mut u32,
+        out_len: usize,
+        letter: u32,
+        x: u32,
+        y: u32,
+        count: *mut usize,
     ) -> u32;
 
     /// The blocks held at the last barrier of a log, one number each.

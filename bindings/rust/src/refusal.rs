@@ -8,6 +8,8 @@ use std::fmt;
 pub struct Refusal(u32);
 
 impl Refusal {
+    /// 1: a look that is no call that only looks ([`crate::Store::look`]).
+    pub const NO_CALL: Refusal = Refusal(1);
     /// 2: a geometry outside its limits.
     pub const OUTSIDE_LIMITS: Refusal = Refusal(2);
     /// 3: memory shorter than the geometry needs.
@@ -30,9 +32,9 @@ impl Refusal {
     pub const TABLE_FULL: Refusal = Refusal(11);
     /// 12: no record number is left.
     pub const NO_NUMBER: Refusal = Refusal(12);
-    /// 13: no free block: each is on a page or waiting for a barrier ([`crate::Memory::barrier`], [`crate::Memory::compress`]).
+    /// 13: no free block: each is on a page or waiting for a barrier ([`crate::Store::barrier`], [`crate::Store::compress`]).
     pub const NO_BLOCK: Refusal = Refusal(13);
-    /// 14: too few unused log words; [`crate::Memory::compress`] makes room.
+    /// 14: too few unused log words; [`crate::Store::compress`] makes room.
     pub const LOG_FULL: Refusal = Refusal(14);
 
     /// The number, as include/sogvect.h has it.
@@ -52,6 +54,7 @@ impl Refusal {
 impl fmt::Display for Refusal {
     fn fmt(&self, f: &mut fmt::Formatter<'_>) -> fmt::Result {
         let reason = match self.0 {
+            1 => "no such call",
             2 => "a geometry outside its limits",
             3 => "memory shorter than the geometry needs",
             4 => "tables that are not sound",

@@ -1,4 +1,5 @@
 //! A script in memory, served part by part.
+use crate::store::used;
 use crate::{raw, Memory, Refusal};
 
 /// The numbers of a script's run.
@@ -26,7 +27,9 @@ pub struct Part {
 /// `run` holds what the script has between two parts, all 0 before the first. It comes back to each part, as tables and log do, as the last part left
 /// it. Nothing is trusted: the numbers, the lengths and, once there is a store, its tables and log are checked.
 ///
-/// Refusals: 2, 3, 4.
+/// # Errors
+///
+/// Refused by 2, 3 or 4; see [`Refusal`].
 pub fn script_part(text: &[u8], at: usize, run: &mut [u32], memory: &mut Memory<'_>, replies: &mut [u8]) -> Result<Part, Refusal> {
     let mut part = Part { at, count: 0 };
     // SAFETY: the pointers and lengths are those of a shared slice, of five exclusive ones, and of two fields of a local.
@@ -89,7 +92,7 @@ impl Script {
 
     /// The replies to the next lines of a text, from `at` on, which moves behind them; nothing once the text is served.
     ///
-    /// A text that grows may be served as far as it is there, where it ends behind a line feed or is whole. A later text goes on with the same store.
+    /// A text that grows may be served as far as it is there, where it ends after a line feed or is whole. A later text goes on with the same store.
     pub fn part(&mut self, text: &[u8], at: &mut usize) -> Option<&[u8]> {
         if *at >= text.len() {
             return None;
@@ -98,6 +101,15 @@ impl Script {
         let part = script_part(text, *at, &mut self.run, &mut memory, &mut self.replies).expect("the memory is as the last part left it");
         *at = part.at;
         Some(&self.replies[..part.count])
+    }
+
+    /// The used bytes of the log of the script's store; none before the first accepted store line.
+    pub fn log(&self) -> &[u8] {
+        if self.run[0] == 0 {
+            &[]
+        } else {
+            used(&self.tables, &self.log)
+        }
     }
 }
 

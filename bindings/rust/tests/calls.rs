@@ -1,10 +1,10 @@
 //! Every call on valid memory: the listing (section 11 of the rules), longer scripts, and arguments that would show a wrong declaration.
 mod common;
-use common::{bare, every_call, numbers, refused, small, Call, Owned, MARK, MARKS, SMALL};
-use sogvect::{Block, Estimate, Geometry, Memory, Refusal, Written, DATA};
+use common::{bare, bare_letter, every_call, made, marked, numbers, refused, small, Tested, MARK, MARKS, SMALL};
+use sogvect::{raw, Block, Call, Estimate, Geometry, Kind, Record, Refusal, Space, Store, Written};
 
 const fn block(number: u32, birth: u32) -> Block {
-    Block { number, birth }
+    Block { number, birth: Record(birth) }
 }
 
 /// A write that frees nothing.
@@ -16,55 +16,55 @@ const fn given(number: u32, birth: u32) -> Written {
 #[test]
 fn listing() {
     let g = Geometry { arenas: 1, per: 4, pages: 2, records: 4, turn: 8, words: 10 };
-    let mut m = Owned::least(g);
-    let mut s = m.lend();
-    assert_eq!(s.make(g), Ok(()));
-    assert_eq!(s.begin(g), Ok(1));
-    assert_eq!(s.write(g, 1, 0, DATA), Ok(given(0, 1)));
-    assert_eq!(s.seal(g, 1), Ok(2));
-    assert_eq!(s.write(g, 2, 0, DATA), Ok(given(1, 2)));
-    assert_eq!(s.write(g, 2, 0, DATA), Ok(Written { block: block(2, 2), freed: Some(block(1, 2)) }));
-    assert_eq!(s.fork(g, 1), Ok(3));
-    assert_eq!(s.delete(g, 1), Err(Refusal::FORKED));
-    assert_eq!(s.erase(g, 3, 0), Ok(None));
-    assert_eq!(s.delete(g, 3), Ok(vec![]));
-    assert_eq!(s.delete(g, 1), Ok(vec![block(0, 1)]));
+    let mut m = marked(g);
+    assert_eq!(m.make(g), Ok(()));
+    let mut s = m.store(g);
+    assert_eq!(s.begin(), Ok(Record(1)));
+    assert_eq!(s.write(Record(1), 0, Kind::Data), Ok(given(0, 1)));
+    assert_eq!(s.seal(Record(1)), Ok(Record(2)));
+    assert_eq!(s.write(Record(2), 0, Kind::Data), Ok(given(1, 2)));
+    assert_eq!(s.write(Record(2), 0, Kind::Data), Ok(Written { block: block(2, 2), freed: Some(block(1, 2)) }));
+    assert_eq!(s.fork(Record(1)), Ok(Record(3)));
+    assert_eq!(s.delete(Record(1)), Err(Refusal::FORKED));
+    assert_eq!(s.erase(Record(3), 0), Ok(None));
+    assert_eq!(s.delete(Record(3)), Ok(vec![]));
+    assert_eq!(s.delete(Record(1)), Ok(vec![block(0, 1)]));
     assert_eq!(m.words(), [0x1, 0x4001, 0x8001, 0x4002, 0x2]);
-    let mut s = m.lend();
-    assert_eq!(s.compress(g), Ok(2));
+    let mut s = m.store(g);
+    assert_eq!(s.compress(), Ok(2));
     assert_eq!(m.words(), [0x8001, 0x3]);
-    let mut s = m.lend();
-    assert_eq!(s.write(g, 2, 1, DATA), Ok(given(3, 2)));
-    assert_eq!(s.free_list(g), Ok(vec![(0, 2)]));
-    assert_eq!(s.delete(g, 9), Err(Refusal::NO_RECORD));
-    assert_eq!(s.write(g, 2, 2, DATA), Err(Refusal::NO_PAGE));
-    assert_eq!(s.read(g, 2, 1), Ok(Some(block(3, 2))));
-    assert_eq!(s.erase(g, 2, 1), Ok(Some(block(3, 2))));
-    assert_eq!(s.read(g, 2, 1), Ok(None));
-    assert_eq!(s.barrier(g), Ok(()));
+    let mut s = m.store(g);
+    assert_eq!(s.write(Record(2), 1, Kind::Data), Ok(given(3, 2)));
+    assert_eq!(s.free_list(), Ok(vec![(0, 2)]));
+    assert_eq!(s.delete(Record(9)), Err(Refusal::NO_RECORD));
+    assert_eq!(s.write(Record(2), 2, Kind::Data), Err(Refusal::NO_PAGE));
+    assert_eq!(s.read(Record(2), 1), Ok(Some(block(3, 2))));
+    assert_eq!(s.erase(Record(2), 1), Ok(Some(block(3, 2))));
+    assert_eq!(s.read(Record(2), 1), Ok(None));
+    assert_eq!(s.barrier(), Ok(()));
 }
 
 /// A block has the birth that it was given with, whichever record names or frees it: record 3 frees a block of 2, which is gone.
 #[test]
 fn births() {
     let g = Geometry { arenas: 1, per: 8, pages: 3, records: 3, turn: 8, words: 18 };
-    let mut m = Owned::made(g);
-    let mut s = m.lend();
-    assert_eq!(s.begin(g), Ok(1));
-    assert_eq!(s.write(g, 1, 0, DATA), Ok(given(0, 1)));
-    assert_eq!(s.seal(g, 1), Ok(2));
-    assert_eq!(s.write(g, 2, 1, DATA), Ok(given(1, 2)));
-    assert_eq!(s.write(g, 2, 2, DATA), Ok(given(2, 2)));
-    assert_eq!(s.seal(g, 2), Ok(3));
-    assert_eq!(s.delete(g, 2), Ok(vec![]));
-    assert_eq!(s.read(g, 3, 0), Ok(Some(block(0, 1))));
-    assert_eq!(s.read(g, 3, 1), Ok(Some(block(1, 2))));
-    assert_eq!(s.write(g, 3, 1, DATA), Ok(Written { block: block(3, 3), freed: Some(block(1, 2)) }));
-    assert_eq!(s.erase(g, 3, 2), Ok(Some(block(2, 2))));
-    assert_eq!(s.write(g, 3, 2, DATA), Ok(given(4, 3)));
-    assert_eq!(s.erase(g, 3, 0), Ok(None));
-    assert_eq!(s.delete(g, 1), Ok(vec![block(0, 1)]));
-    assert_eq!(s.delete(g, 3), Ok(vec![block(3, 3), block(4, 3)]));
+    let mut m = made(g);
+    let mut s = m.store(g);
+    assert_eq!(s.begin(), Ok(Record(1)));
+    assert_eq!(s.write(Record(1), 0, Kind::Data), Ok(given(0, 1)));
+    assert_eq!(s.seal(Record(1)), Ok(Record(2)));
+    assert_eq!(s.write(Record(2), 1, Kind::Data), Ok(given(1, 2)));
+    assert_eq!(s.write(Record(2), 2, Kind::Data), Ok(given(2, 2)));
+    assert_eq!(s.seal(Record(2)), Ok(Record(3)));
+    assert_eq!(s.delete(Record(2)), Ok(vec![]));
+    assert_eq!(s.read(Record(3), 0), Ok(Some(block(0, 1))));
+    assert_eq!(s.read(Record(3), 1), Ok(Some(block(1, 2))));
+    assert_eq!(s.write(Record(3), 1, Kind::Data), Ok(Written { block: block(3, 3), freed: Some(block(1, 2)) }));
+    assert_eq!(s.erase(Record(3), 2), Ok(Some(block(2, 2))));
+    assert_eq!(s.write(Record(3), 2, Kind::Data), Ok(given(4, 3)));
+    assert_eq!(s.erase(Record(3), 0), Ok(None));
+    assert_eq!(s.delete(Record(1)), Ok(vec![block(0, 1)]));
+    assert_eq!(s.delete(Record(3)), Ok(vec![block(3, 3), block(4, 3)]));
     assert_eq!(block(2047, 999_999).to_string(), "2047:999999");
 }
 
@@ -74,17 +74,17 @@ fn parsed(line: &str) -> Option<Call> {
     let letter = parts.next()?;
     let n: Vec<u32> = parts.map(|p| p.parse().ok()).collect::<Option<_>>()?;
     Some(match (letter, n.len()) {
-        ("B", 0) => Call::B,
-        ("W", 3) => Call::W(n[0], n[1], n[2]),
-        ("E", 2) => Call::E(n[0], n[1]),
-        ("S", 1) => Call::S(n[0]),
-        ("F", 1) => Call::F(n[0]),
-        ("D", 1) => Call::D(n[0]),
-        ("R", 2) => Call::R(n[0], n[1]),
-        ("Y", 0) => Call::Y,
-        ("C", 0) => Call::C,
-        ("L", 0) => Call::L,
-        ("Q", 1) => Call::Q(n[0]),
+        ("B", 0) => Call::Begin,
+        ("W", 3) => Call::Write(n[0], n[1], n[2]),
+        ("E", 2) => Call::Erase(n[0], n[1]),
+        ("S", 1) => Call::Seal(n[0]),
+        ("F", 1) => Call::Fork(n[0]),
+        ("D", 1) => Call::Delete(n[0]),
+        ("R", 2) => Call::Read(n[0], n[1]),
+        ("Y", 0) => Call::Barrier,
+        ("C", 0) => Call::Compress,
+        ("L", 0) => Call::FreeList,
+        ("Q", 1) => Call::Estimate(n[0]),
         _ => return None,
     })
 }
@@ -103,10 +103,9 @@ fn spelled(reply: Result<Vec<u32>, Refusal>, are_blocks: bool) -> String {
     }
 }
 
-/// Runs a script on memory for any geometry and compares each reply, and the log behind each line where it is given. Lines that are no call are passed over.
+/// Runs a script on memory for any geometry and compares each reply, and the log after each line where it is given. Lines that are no call are passed over.
 fn script(text: &str, replies: &str, logs: Option<&str>) {
-    let (mut tables, mut log, mut out) = (vec![MARKS; 43_008], vec![MARK; 65_536], vec![MARKS; 4_160]);
-    let mut store = Memory { tables: &mut tables, log: &mut log, out: &mut out };
+    let mut space = Space { tables: vec![MARKS; 43_008], log: vec![MARK; 65_536], out: vec![MARKS; 4_160] };
     let mut g = None;
     let mut logs = logs.map(str::lines);
     let mut made = 0;
@@ -117,21 +116,21 @@ fn script(text: &str, replies: &str, logs: Option<&str>) {
         }
         if line.starts_with("store ") {
             let asked = geometry_of(line);
-            assert_eq!(spelled(store.make(asked).map(|()| vec![]), false), reply, "line {i}: {line}");
+            assert_eq!(spelled(space.make(asked).map(|()| vec![]), false), reply, "line {i}: {line}");
             g = if reply == "+" { Some(asked) } else { g };
         } else {
             let call = parsed(line).expect("a call");
+            assert_eq!(call.to_string(), line);
             let Some(g) = g else {
                 assert_eq!(reply, "- 4", "line {i}: {line}: there is no store yet");
                 continue;
             };
-            assert_eq!(spelled(numbers(&mut store, g, call), call.gives_blocks()), reply, "line {i}: {line}");
+            assert_eq!(spelled(numbers(&mut space.store(g), call), call.gives_blocks()), reply, "line {i}: {line}");
         }
         made += 1;
         if let Some(words) = words {
-            let used = store.log[..8 * store.tables[9] as usize].chunks_exact(8);
-            let found: Vec<String> = used.map(|w| format!("{:x}", u64::from_be_bytes(w.try_into().unwrap()))).collect();
-            assert_eq!(found.join(" "), words, "the log behind line {i}: {line}");
+            let found: Vec<String> = space.words().iter().map(|w| format!("{w:x}")).collect();
+            assert_eq!(found.join(" "), words, "the log after line {i}: {line}");
         }
     }
     assert!(made > 90, "only {made} calls were made");
@@ -163,24 +162,42 @@ scripts! {
 #[test]
 fn estimates() {
     let g = Geometry { arenas: 2, per: 8, pages: 4, records: 5, turn: 3, words: 34 };
-    let mut m = Owned::made(g);
-    let first = [Call::B, Call::W(1, 0, 0), Call::W(1, 1, 0), Call::W(1, 2, 0), Call::W(1, 3, 0), Call::S(1), Call::W(2, 0, 0), Call::W(2, 1, 0)];
-    let then = [Call::S(2), Call::W(3, 2, 0), Call::S(3), Call::D(2), Call::E(4, 1), Call::W(4, 2, 0), Call::W(4, 0, 0), Call::E(4, 3)];
+    let mut m = made(g);
+    let first = [
+        Call::Begin,
+        Call::Write(1, 0, 0),
+        Call::Write(1, 1, 0),
+        Call::Write(1, 2, 0),
+        Call::Write(1, 3, 0),
+        Call::Seal(1),
+        Call::Write(2, 0, 0),
+        Call::Write(2, 1, 0),
+    ];
+    let then = [
+        Call::Seal(2),
+        Call::Write(3, 2, 0),
+        Call::Seal(3),
+        Call::Delete(2),
+        Call::Erase(4, 1),
+        Call::Write(4, 2, 0),
+        Call::Write(4, 0, 0),
+        Call::Erase(4, 3),
+    ];
     for call in first.into_iter().chain(then) {
-        numbers(&mut m.lend(), g, call).unwrap_or_else(|e| panic!("{call:?}: {e}"));
+        numbers(&mut m.store(g), call).unwrap_or_else(|e| panic!("{call:?}: {e}"));
     }
     for (n, blocks, shards) in [(3, 3, 2), (4, 2, 0), (1, 3, 1)] {
         m.out.fill(MARKS);
         let before = m.clone();
-        assert_eq!(m.lend().estimate(g, n), Ok(Estimate { blocks, words: blocks, shards }), "record {n}");
+        assert_eq!(m.store(g).estimate(Record(n)), Ok(Estimate { blocks, words: blocks, shards }), "record {n}");
         assert_eq!((&m.tables, &m.log, &m.out[3..]), (&before.tables, &before.log, &before.out[3..]), "record {n}");
     }
     for n in [3, 1, 4] {
-        let said = m.lend().estimate(g, n).unwrap();
+        let said = m.store(g).estimate(Record(n)).unwrap();
         let used = m.words().len();
-        assert_eq!(m.lend().delete(g, n).unwrap().len(), said.blocks as usize, "record {n}");
+        assert_eq!(m.store(g).delete(Record(n)).unwrap().len(), said.blocks as usize, "record {n}");
         assert_eq!(m.words().len() - used, said.words as usize, "record {n}");
-        assert_eq!(m.lend().estimate(g, n), Err(Refusal::NO_RECORD), "record {n}");
+        assert_eq!(m.store(g).estimate(Record(n)), Err(Refusal::NO_RECORD), "record {n}");
     }
 }
 
@@ -196,7 +213,7 @@ fn six_numbers_in_order() {
         for j in 0..i {
             let mut n = [2, 3, 5, 6, 7, 20];
             n.swap(i, j);
-            let inside = long.clone().lend().make(six(n)).is_ok();
+            let inside = long.clone().make(six(n)).is_ok();
             for call in every_call(1, 0) {
                 refused(&mut long, six(n), call, if inside { 4 } else { 2 });
             }
@@ -206,7 +223,7 @@ fn six_numbers_in_order() {
         for call in every_call(1, 0) {
             refused(&mut m, six(n), call, 2);
         }
-        assert_eq!(m.lend().make(six(n)), Err(Refusal::OUTSIDE_LIMITS));
+        assert_eq!(m.make(six(n)), Err(Refusal::OUTSIDE_LIMITS));
     }
 }
 
@@ -216,73 +233,85 @@ fn own_numbers_whole() {
     let mut m = small();
     for high in [1 << 8, 1 << 16, 1 << 31] {
         for call in [
-            Call::W(4 + high, 2, 1),
-            Call::E(4 + high, 2),
-            Call::S(4 + high),
-            Call::F(1 + high),
-            Call::D(4 + high),
-            Call::R(1 + high, 0),
-            Call::Q(4 + high),
+            Call::Write(4 + high, 2, 1),
+            Call::Erase(4 + high, 2),
+            Call::Seal(4 + high),
+            Call::Fork(1 + high),
+            Call::Delete(4 + high),
+            Call::Read(1 + high, 0),
+            Call::Estimate(4 + high),
         ] {
             refused(&mut m, SMALL, call, 8);
         }
-        for call in [Call::W(4, 2 + high, 1), Call::E(4, 2 + high), Call::R(1, high)] {
+        for call in [Call::Write(4, 2 + high, 1), Call::Erase(4, 2 + high), Call::Read(1, high)] {
             refused(&mut m, SMALL, call, 5);
         }
-        refused(&mut m, SMALL, Call::W(4, 2, 1 + high), 6);
+        refused(&mut m, SMALL, Call::Write(4, 2, 1 + high), 6);
     }
-    refused(&mut m, SMALL, Call::W(2, 4, 1), 9);
-    refused(&mut m, SMALL, Call::R(3, 0), 8);
-    let mut s = m.lend();
+    refused(&mut m, SMALL, Call::Write(2, 4, 1), 9);
+    refused(&mut m, SMALL, Call::Read(3, 0), 8);
+    let mut s = m.store(SMALL);
     // block 4 waits
-    assert_eq!(s.write(SMALL, 4, 3, 1), Ok(given(5, 4)));
-    assert_eq!(s.read(SMALL, 4, 3), Ok(Some(block(5, 4))));
-    assert_eq!(s.read(SMALL, 4, 1), Ok(None));
-    assert_eq!(s.erase(SMALL, 4, 3), Ok(Some(block(5, 4))));
+    assert_eq!(s.write(Record(4), 3, Kind::Pivot), Ok(given(5, 4)));
+    assert_eq!(s.read(Record(4), 3), Ok(Some(block(5, 4))));
+    assert_eq!(s.read(Record(4), 1), Ok(None));
+    assert_eq!(s.erase(Record(4), 3), Ok(Some(block(5, 4))));
 }
 
 /// A freed block waits: it is not given and not listed until a barrier or a compression is done, and a refused barrier ends nothing.
 #[test]
 fn waiting() {
     let g = Geometry { arenas: 1, per: 3, pages: 2, records: 2, turn: 1, words: 8 };
-    let mut m = Owned::made(g);
-    let mut s = m.lend();
+    let mut m = made(g);
+    let mut s = m.store(g);
     let again = |number: u32, old: u32| Ok(Written { block: block(number, 1), freed: Some(block(old, 1)) });
-    assert_eq!(s.begin(g), Ok(1));
-    assert_eq!(s.write(g, 1, 0, DATA), Ok(given(0, 1)));
-    assert_eq!(s.write(g, 1, 0, DATA), again(1, 0));
-    assert_eq!(s.free_list(g), Ok(vec![(2, 1)]));
-    assert_eq!(s.write(g, 1, 0, DATA), again(2, 1));
-    assert_eq!(s.free_list(g), Ok(vec![]));
+    assert_eq!(s.begin(), Ok(Record(1)));
+    assert_eq!(s.write(Record(1), 0, Kind::Data), Ok(given(0, 1)));
+    assert_eq!(s.write(Record(1), 0, Kind::Data), again(1, 0));
+    assert_eq!(s.free_list(), Ok(vec![(2, 1)]));
+    assert_eq!(s.write(Record(1), 0, Kind::Data), again(2, 1));
+    assert_eq!(s.free_list(), Ok(vec![]));
     assert_eq!(m.tables[11], 2);
     // 13 with one block on a page and two that wait
-    refused(&mut m, g, Call::W(1, 0, 0), 13);
-    let mut s = m.lend();
-    assert_eq!(s.barrier(g), Ok(()));
-    assert_eq!(s.free_list(g), Ok(vec![(0, 2)]));
-    assert_eq!(s.write(g, 1, 0, DATA), again(0, 2));
+    refused(&mut m, g, Call::Write(1, 0, 0), 13);
+    let mut s = m.store(g);
+    assert_eq!(s.barrier(), Ok(()));
+    assert_eq!(s.free_list(), Ok(vec![(0, 2)]));
+    assert_eq!(s.write(Record(1), 0, Kind::Data), again(0, 2));
     // the log is full: the barrier is refused, and block 2 waits as before
-    refused(&mut m, g, Call::Y, 14);
+    refused(&mut m, g, Call::Barrier, 14);
     assert_eq!(m.tables[11], 1);
-    let mut s = m.lend();
-    assert_eq!(s.free_list(g), Ok(vec![(1, 1)]));
-    assert_eq!(s.compress(g), Ok(2));
-    assert_eq!(s.free_list(g), Ok(vec![(1, 2)]));
+    let mut s = m.store(g);
+    assert_eq!(s.free_list(), Ok(vec![(1, 1)]));
+    assert_eq!(s.compress(), Ok(2));
+    assert_eq!(s.free_list(), Ok(vec![(1, 2)]));
     assert_eq!(m.tables[11], 0);
 }
 
 /// The count is written whole, and nothing beside it; the result buffer beyond the result stays.
 #[test]
 fn count_and_buffer() {
-    for call in [Call::B, Call::W(4, 1, 0), Call::E(4, 2), Call::S(4), Call::F(2), Call::D(4), Call::R(4, 2), Call::Y, Call::C, Call::L, Call::Q(4)] {
+    for call in [
+        Call::Begin,
+        Call::Write(4, 1, 0),
+        Call::Erase(4, 2),
+        Call::Seal(4),
+        Call::Fork(2),
+        Call::Delete(4),
+        Call::Read(4, 2),
+        Call::Barrier,
+        Call::Compress,
+        Call::FreeList,
+        Call::Estimate(4),
+    ] {
         let (mut m, mut other) = (small(), small());
         m.out.fill(MARKS);
         let mut counts = [usize::MAX; 3];
         assert_eq!(bare(&mut m, SMALL, call, &mut counts[1]), 0, "{call:?}");
-        let given = numbers(&mut other.lend(), SMALL, call).unwrap();
+        let given = numbers(&mut other.store(SMALL), call).unwrap();
         assert_eq!(counts, [usize::MAX, given.len(), usize::MAX], "{call:?}");
         assert_eq!(m.out[..given.len()], given[..], "{call:?}");
-        assert!(m.out[given.len()..].iter().all(|x| *x == MARKS), "{call:?} wrote behind its result");
+        assert!(m.out[given.len()..].iter().all(|x| *x == MARKS), "{call:?} wrote after its result");
         assert_eq!((m.tables, m.log), (other.tables, other.log), "{call:?}");
     }
 }
@@ -290,12 +319,24 @@ fn count_and_buffer() {
 /// Memory beyond what the geometry needs stays as it is.
 #[test]
 fn beyond_stays() {
-    let mut m = Owned::least(SMALL);
+    let mut m = marked(SMALL);
     let ends = (m.tables.len(), m.log.len(), m.out.len());
     (m.tables.resize(ends.0 + 50, MARKS), m.log.resize(ends.1 + 50, MARK), m.out.resize(ends.2 + 50, MARKS));
-    m.lend().make(SMALL).unwrap();
-    for call in [Call::B, Call::W(1, 4, 2), Call::S(1), Call::W(2, 4, 2), Call::F(1), Call::D(3), Call::Q(1), Call::D(1), Call::Y, Call::C, Call::L] {
-        numbers(&mut m.lend(), SMALL, call).unwrap();
+    m.make(SMALL).unwrap();
+    for call in [
+        Call::Begin,
+        Call::Write(1, 4, 2),
+        Call::Seal(1),
+        Call::Write(2, 4, 2),
+        Call::Fork(1),
+        Call::Delete(3),
+        Call::Estimate(1),
+        Call::Delete(1),
+        Call::Barrier,
+        Call::Compress,
+        Call::FreeList,
+    ] {
+        numbers(&mut m.store(SMALL), call).unwrap();
     }
     assert!(m.tables[ends.0..].iter().chain(&m.out[ends.2..]).all(|x| *x == MARKS));
     assert!(m.log[ends.1..].iter().all(|x| *x == MARK));
@@ -306,22 +347,22 @@ fn beyond_stays() {
 fn refusals_by_state() {
     let mut m = small();
     for (call, number) in [
-        (Call::W(1, 0, 0), 9),
-        (Call::E(2, 0), 9),
-        (Call::S(1), 9),
-        (Call::F(4), 9),
-        (Call::D(1), 10),
-        (Call::Q(1), 10),
-        (Call::W(4, 9, 9), 5),
-        (Call::W(4, 0, 9), 6),
-        (Call::W(9, 0, 0), 8),
-        (Call::Q(9), 8),
+        (Call::Write(1, 0, 0), 9),
+        (Call::Erase(2, 0), 9),
+        (Call::Seal(1), 9),
+        (Call::Fork(4), 9),
+        (Call::Delete(1), 10),
+        (Call::Estimate(1), 10),
+        (Call::Write(4, 9, 9), 5),
+        (Call::Write(4, 0, 9), 6),
+        (Call::Write(9, 0, 0), 8),
+        (Call::Estimate(9), 8),
     ] {
         refused(&mut m, SMALL, call, number);
     }
-    assert_eq!(m.lend().begin(SMALL), Ok(6));
-    assert_eq!(m.lend().begin(SMALL), Ok(7));
-    for (call, number) in [(Call::B, 11), (Call::S(4), 11), (Call::F(2), 11), (Call::F(4), 9), (Call::S(8), 8)] {
+    assert_eq!(m.store(SMALL).begin(), Ok(Record(6)));
+    assert_eq!(m.store(SMALL).begin(), Ok(Record(7)));
+    for (call, number) in [(Call::Begin, 11), (Call::Seal(4), 11), (Call::Fork(2), 11), (Call::Fork(4), 9), (Call::Seal(8), 8)] {
         refused(&mut m, SMALL, call, number);
     }
 }
@@ -330,29 +371,131 @@ fn refusals_by_state() {
 #[test]
 fn refusals_at_the_end() {
     let g = Geometry { arenas: 1, per: 2, pages: 3, records: 2, turn: 1, words: 6 };
-    let mut m = Owned::made(g);
-    for call in [Call::B, Call::W(1, 0, 0), Call::W(1, 1, 0)] {
-        numbers(&mut m.lend(), g, call).unwrap();
+    let mut m = made(g);
+    for call in [Call::Begin, Call::Write(1, 0, 0), Call::Write(1, 1, 0)] {
+        numbers(&mut m.store(g), call).unwrap();
     }
-    refused(&mut m, g, Call::W(1, 2, 0), 13);
+    refused(&mut m, g, Call::Write(1, 2, 0), 13);
     for _ in 0..4 {
-        numbers(&mut m.lend(), g, Call::Y).unwrap();
+        numbers(&mut m.store(g), Call::Barrier).unwrap();
     }
-    refused(&mut m, g, Call::Y, 14);
-    refused(&mut m, g, Call::E(1, 0), 14);
-    refused(&mut m, g, Call::D(1), 14);
-    assert_eq!(m.lend().estimate(g, 1), Ok(Estimate { blocks: 2, words: 2, shards: 0 }));
-    assert_eq!(m.lend().compress(g), Ok(3));
-    assert_eq!(m.lend().erase(g, 1, 0), Ok(Some(block(0, 1))));
+    refused(&mut m, g, Call::Barrier, 14);
+    refused(&mut m, g, Call::Erase(1, 0), 14);
+    refused(&mut m, g, Call::Delete(1), 14);
+    assert_eq!(m.store(g).estimate(Record(1)), Ok(Estimate { blocks: 2, words: 2, shards: 0 }));
+    assert_eq!(m.store(g).compress(), Ok(3));
+    assert_eq!(m.store(g).erase(Record(1), 0), Ok(Some(block(0, 1))));
     m.tables[6] = 999_999;
-    refused(&mut m, g, Call::B, 12);
-    refused(&mut m, g, Call::S(1), 12);
+    refused(&mut m, g, Call::Begin, 12);
+    refused(&mut m, g, Call::Seal(1), 12);
+}
+
+/// A letter that no call has is refused by 1 whatever else is wrong, and changes nothing. Numbers that a call does not take are passed over.
+#[test]
+fn letters() {
+    let mut m = small();
+    let before = m.clone();
+    let calls = every_call(4, 2).map(|call| u32::from(call.letter()));
+    let outside = Geometry { arenas: 17, ..SMALL };
+    let mut empty = Space { tables: vec![], log: vec![], out: vec![] };
+    for letter in (0..1_000).chain([u32::MAX, u32::MAX - 0xff + 66, 66 << 8, 66 << 24]).filter(|letter| !calls.contains(letter)) {
+        let mut count = 77;
+        for g in [SMALL, outside] {
+            assert_eq!(bare_letter(&mut m, g, letter, [4, 2, 1], &mut count), 1, "{letter}");
+            assert_eq!(bare_letter(&mut empty, g, letter, [4, 2, 1], &mut count), 1, "{letter}");
+        }
+        assert_eq!((count, &m), (77, &before), "{letter}");
+    }
+    for call in every_call(4, 2) {
+        let (mut one, mut other, mut counts) = (small(), small(), [0; 2]);
+        let mut more = [u32::MAX; 3];
+        more[..call.takes()].copy_from_slice(&call.numbers()[..call.takes()]);
+        let letter = u32::from(call.letter());
+        assert_eq!(bare(&mut one, SMALL, call, &mut counts[0]), bare_letter(&mut other, SMALL, letter, more, &mut counts[1]), "{call}");
+        assert_eq!((one, counts[0]), (other, counts[1]), "{call}");
+    }
+}
+
+/// A look gives what the call gives, with tables and log that are only read; any other letter is refused by 1.
+#[test]
+fn looks() {
+    let mut m = small();
+    m.out.fill(MARKS);
+    for letter in (0..300).chain([u32::MAX]) {
+        for (x, y) in [(4, 2), (1, 0), (9, 9), (1 << 31, 0), (4, 1 << 31)] {
+            let (mut called, mut counts, mut out) = (m.clone(), [77; 2], m.out.clone());
+            let (g, tables, log): (Geometry, &[u32], &[u8]) = (SMALL, &m.tables, &m.log);
+            // SAFETY: two shared slices, a vector and a count.
+            let code = unsafe {
+                let (t, l, o) = (tables.len(), log.len(), out.len());
+                let out = out.as_mut_ptr();
+                raw::sogvect_look(
+                    g.arenas,
+                    g.per,
+                    g.pages,
+                    g.records,
+                    g.turn,
+                    g.words,
+                    tables.as_ptr(),
+                    t,
+                    log.as_ptr(),
+                    l,
+                    out,
+                    o,
+                    letter,
+                    x,
+                    y,
+                    &mut counts[0],
+                )
+            };
+            if b"RLQ".iter().any(|&look| u32::from(look) == letter) {
+                assert_eq!(code, bare_letter(&mut called, g, letter, [x, y, 7], &mut counts[1]), "{letter} {x} {y}");
+            } else {
+                assert_eq!(code, 1, "{letter}");
+            }
+            assert_eq!((&out, counts[0]), (&called.out, counts[1]), "{letter} {x} {y}");
+            assert_eq!((&m.tables, &m.log), (&called.tables, &called.log), "{letter} {x} {y}");
+        }
+    }
+}
+
+/// Threads look at one store at once, each with a result buffer of its own.
+#[test]
+fn looks_at_once() {
+    let mut m = small();
+    let calls = every_call(1, 0).into_iter().chain(every_call(4, 2));
+    let expected: Vec<_> = calls.map(|call| (call, m.clone().store(SMALL).call(call).map(<[u32]>::to_vec))).collect();
+    let store = &m.store(SMALL);
+    std::thread::scope(|scope| {
+        for _ in 0..4 {
+            scope.spawn(|| {
+                let mut out = vec![MARKS; SMALL.out_len()];
+                for (call, numbers) in &expected {
+                    let looks = matches!(call, Call::Read(..) | Call::FreeList | Call::Estimate(_));
+                    let numbers = if looks { numbers.as_deref().map_err(|refusal| *refusal) } else { Err(Refusal::NO_CALL) };
+                    assert_eq!(store.look(*call, &mut out), numbers, "{call}");
+                }
+            });
+        }
+    });
+}
+
+/// What any call gives is what its typed function gives.
+#[test]
+fn calls_and_functions() {
+    for call in every_call(4, 2).into_iter().chain(every_call(1, 0)).chain(every_call(5, 4)) {
+        let (mut one, mut other) = (small(), small());
+        assert_eq!(one.store(SMALL).call(call).map(<[u32]>::to_vec), numbers(&mut other.store(SMALL), call), "{call}");
+        assert_eq!(one, other, "{call}");
+    }
+    assert!(Store::make(Geometry { turn: 0, ..SMALL }, small().lend()).is_err());
 }
 
 /// Each refusal has its own sentence.
 #[test]
 fn sentences() {
     let all = [
+        Refusal::NO_CALL,
         Refusal::OUTSIDE_LIMITS,
         Refusal::TOO_SHORT,
         Refusal::NOT_SOUND,
@@ -367,10 +510,10 @@ fn sentences() {
         Refusal::NO_BLOCK,
         Refusal::LOG_FULL,
     ];
-    assert!(all.iter().map(|r| r.number()).eq(2..=14));
+    assert!(all.iter().map(|r| r.number()).eq(1..=14));
     for (i, r) in all.iter().enumerate() {
         assert!(!r.to_string().starts_with("refused"), "{}", r.number());
         assert!(all[..i].iter().all(|other| other.to_string() != r.to_string()), "{}", r.number());
     }
-    assert_eq!(small().lend().delete(SMALL, 1).unwrap_err().to_string(), "delete or estimate of a record with a fork on it");
+    assert_eq!(small().store(SMALL).delete(Record(1)).unwrap_err().to_string(), "delete or estimate of a record with a fork on it");
 }

@@ -1,6 +1,6 @@
 //! A plug pulled: the library's stores do the scripts of `tests/reference`, and their own logs are cut at each byte of the words appended since the last
 //! C, or since the beginning. Reading a cut must give the blocks held at the last whole barrier, told from the results alone, and none of those may have
-//! been given to a write since. On the way each reply, and behind each line each word of the log, must be that of the reference.
+//! been given to a write since. On the way each reply, and after each line each word of the log, must be that of the reference.
 #[path = "../../../tests/reference/src/cuts.rs"]
 mod cuts;
 #[path = "../../../tests/reference/src/generate.rs"]
@@ -15,9 +15,9 @@ mod store;
 
 mod common;
 
-use common::{numbers, MARK, MARKS};
+use common::{numbers, Tested, MARK, MARKS};
 use cuts::{Followed, Stretch};
-use sogvect::{log_read, Geometry, Memory, Refusal, SCRIPT_LOG, SCRIPT_OUT, SCRIPT_TABLES};
+use sogvect::{log_read, Geometry, Refusal, Space, SCRIPT_LOG, SCRIPT_OUT, SCRIPT_TABLES};
 use store::{Call, Reply};
 
 /// Scripts that the gate runs and whose logs are cut beside those made from seeds.
@@ -29,45 +29,42 @@ fn geometry(g: &store::Geometry) -> Geometry {
     Geometry { arenas, per, pages, records, turn, words }
 }
 
-/// The same call, by its letter.
-fn letter(c: Call) -> common::Call {
-    use common::Call::*;
+/// The same call of the library.
+fn asked(c: Call) -> sogvect::Call {
+    use sogvect::Call::*;
     match c {
-        Call::Begin => B,
-        Call::Write(n, page, kind) => W(n as u32, page as u32, kind as u32),
-        Call::Erase(n, page) => E(n as u32, page as u32),
-        Call::Seal(n) => S(n as u32),
-        Call::Fork(n) => F(n as u32),
-        Call::Delete(n) => D(n as u32),
-        Call::Read(n, page) => R(n as u32, page as u32),
-        Call::Barrier => Y,
-        Call::Compress => C,
-        Call::FreeList => L,
-        Call::Estimate(n) => Q(n as u32),
+        Call::Begin => Begin,
+        Call::Write(n, page, kind) => Write(n as u32, page as u32, kind as u32),
+        Call::Erase(n, page) => Erase(n as u32, page as u32),
+        Call::Seal(n) => Seal(n as u32),
+        Call::Fork(n) => Fork(n as u32),
+        Call::Delete(n) => Delete(n as u32),
+        Call::Read(n, page) => Read(n as u32, page as u32),
+        Call::Barrier => Barrier,
+        Call::Compress => Compress,
+        Call::FreeList => FreeList,
+        Call::Estimate(n) => Estimate(n as u32),
     }
 }
 
 /// A store of the library, and where its log has been.
 struct Plugged {
-    tables: Vec<u32>,
-    log: Vec<u8>,
-    out: Vec<u32>,
+    space: Space,
     followed: Followed,
     cuts: usize,
 }
 
 impl Plugged {
     fn new() -> Plugged {
-        let (tables, log, out) = (vec![MARKS; SCRIPT_TABLES], vec![MARK; SCRIPT_LOG], vec![MARKS; SCRIPT_OUT]);
-        Plugged { tables, log, out, followed: Followed::default(), cuts: 0 }
+        let space = Space { tables: vec![MARKS; SCRIPT_TABLES], log: vec![MARK; SCRIPT_LOG], out: vec![MARKS; SCRIPT_OUT] };
+        Plugged { space, followed: Followed::default(), cuts: 0 }
     }
 
     /// The reply of the library to a call, or to a store line.
     fn reply(&mut self, g: Geometry, call: Option<Call>) -> Reply {
-        let mut store = Memory { tables: &mut self.tables, log: &mut self.log, out: &mut self.out };
         let reply = match call {
-            None => store.make(g).map(|()| vec![]),
-            Some(c) => numbers(&mut store, g, letter(c)),
+            None => self.space.make(g).map(|()| vec![]),
+            Some(c) => numbers(&mut self.space.store(g), asked(c)),
         };
         reply.map(|given| given.into_iter().map(u64::from).collect()).map_err(Refusal::number)
     }
@@ -76,9 +73,8 @@ impl Plugged {
         let g = geometry(&reference.g);
         let reply = self.reply(g, call);
         assert_eq!(reply, *expected, "{call:?}");
-        let used = self.log[..8 * self.tables[9] as usize].chunks_exact(8);
-        let words: Vec<u64> = used.map(|w| u64::from_be_bytes(w.try_into().unwrap())).collect();
-        assert_eq!(words, reference.log, "the log behind {call:?}");
+        let words = self.space.words();
+        assert_eq!(words, reference.log, "the log after {call:?}");
         if let Some(ended) = self.followed.go_on(reference.g, call, &reply, &words) {
             self.cut(&ended);
         }
@@ -89,7 +85,7 @@ impl Plugged {
         let g = geometry(&s.g);
         let bytes: Vec<u8> = s.log.iter().flat_map(|w| w.to_be_bytes()).collect();
         for n in s.cuts() {
-            let held = log_read(g, &bytes[..n], &mut self.out).unwrap_or_else(|e| panic!("cut at byte {n} of {:x?}: {e}", s.log));
+            let held = log_read(g, &bytes[..n], &mut self.space.out).unwrap_or_else(|e| panic!("cut at byte {n} of {:x?}: {e}", s.log));
             assert!(held.iter().map(|&b| b as u64).eq(s.held(n).iter().copied()), "cut at byte {n} of {:x?}: {held:?}", s.log);
             self.cuts += 1;
         }

@@ -13,7 +13,7 @@ mod log;
 mod store;
 
 use layout::Memory;
-use sogvect::{raw, Geometry, Refusal};
+use sogvect::{Geometry, Store};
 use store::{Call, Reply};
 
 /// The proved library.
@@ -24,35 +24,21 @@ fn geometry(six: &[u64; 6]) -> Geometry {
     Geometry { arenas, per, pages, records, turn, words }
 }
 
-/// One call of the raw interface on three slices; the result's numbers are at the start of the last.
-macro_rules! raw_call {
-    ($name:ident, $g:expr, $t:expr, $log:expr, $out:expr $(, $argument:expr)*) => {{
-        let (g, t, log, out): (Geometry, &mut [u32], &mut [u8], &mut [u32]) = ($g, $t, $log, $out);
-        let mut count: usize = 0;
-        // SAFETY: the pointers and lengths are those of three exclusive slices, and of a local for the count.
-        let code = unsafe {
-            raw::$name(
-                g.arenas, g.per, g.pages, g.records, g.turn, g.words, t.as_mut_ptr(), t.len(), log.as_mut_ptr(), log.len(), out.as_mut_ptr(),
-                out.len(), $($argument as u32,)* &mut count,
-            )
-        };
-        if code == 0 { Ok(count) } else { Err(code) }
-    }};
-}
-
-fn called(g: Geometry, t: &mut [u32], log: &mut [u8], out: &mut [u32], c: Call) -> Result<usize, u32> {
+/// The same call of the library.
+fn asked(c: Call) -> sogvect::Call {
+    use sogvect::Call::*;
     match c {
-        Call::Begin => raw_call!(sogvect_begin, g, t, log, out),
-        Call::Write(n, page, kind) => raw_call!(sogvect_write, g, t, log, out, n, page, kind),
-        Call::Erase(n, page) => raw_call!(sogvect_erase, g, t, log, out, n, page),
-        Call::Seal(n) => raw_call!(sogvect_seal, g, t, log, out, n),
-        Call::Fork(n) => raw_call!(sogvect_fork, g, t, log, out, n),
-        Call::Delete(n) => raw_call!(sogvect_delete, g, t, log, out, n),
-        Call::Read(n, page) => raw_call!(sogvect_read, g, t, log, out, n, page),
-        Call::Barrier => raw_call!(sogvect_barrier, g, t, log, out),
-        Call::Compress => raw_call!(sogvect_compress, g, t, log, out),
-        Call::FreeList => raw_call!(sogvect_free_list, g, t, log, out),
-        Call::Estimate(n) => raw_call!(sogvect_estimate, g, t, log, out, n),
+        Call::Begin => Begin,
+        Call::Write(n, page, kind) => Write(n as u32, page as u32, kind as u32),
+        Call::Erase(n, page) => Erase(n as u32, page as u32),
+        Call::Seal(n) => Seal(n as u32),
+        Call::Fork(n) => Fork(n as u32),
+        Call::Delete(n) => Delete(n as u32),
+        Call::Read(n, page) => Read(n as u32, page as u32),
+        Call::Barrier => Barrier,
+        Call::Compress => Compress,
+        Call::FreeList => FreeList,
+        Call::Estimate(n) => Estimate(n as u32),
     }
 }
 
@@ -60,23 +46,24 @@ impl damaged::Answers for Library {
     fn make(&mut self, six: &[u64; 6], memory: &mut Memory) {
         let g = geometry(six);
         let mut out = vec![0; g.out_len()];
-        let mut lent = sogvect::Memory { tables: &mut memory.tables, log: &mut memory.log, out: &mut out };
-        assert_eq!(lent.make(g), Ok::<(), Refusal>(()));
+        let lent = sogvect::Memory { tables: &mut memory.tables, log: &mut memory.log, out: &mut out };
+        assert!(Store::make(g, lent).is_ok());
     }
 
     fn call(&mut self, six: &[u64; 6], memory: &mut Memory, lent: [usize; 3], c: Call) -> Reply {
         let before = memory.clone();
         let marks: Vec<u32> = (0..lent[2] as u32).map(|i| 1000 + i).collect();
         let mut out = marks.clone();
-        let reply = called(geometry(six), &mut memory.tables[..lent[0]], &mut memory.log[..lent[1]], &mut out, c);
+        let lent = sogvect::Memory { tables: &mut memory.tables[..lent[0]], log: &mut memory.log[..lent[1]], out: &mut out };
+        let reply = Store::on(geometry(six), lent).call(asked(c)).map(<[u32]>::len);
         match reply {
             Ok(count) => {
                 assert_eq!(out[count..], marks[count..], "the result buffer beyond the result");
                 Ok(out[..count].iter().map(|&n| n as u64).collect())
             }
-            Err(number) => {
+            Err(refusal) => {
                 assert!(*memory == before && out == marks, "a refusal altered what was lent");
-                Err(number)
+                Err(refusal.number())
             }
         }
     }

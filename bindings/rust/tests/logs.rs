@@ -1,7 +1,7 @@
 //! Reading, comparing and compressing logs: good ones, bad ones, empty ones and ones of odd lengths.
 mod common;
-use common::{numbers, small, Call, Owned, Random, MARK, MARKS, SMALL};
-use sogvect::{log_compact, log_compare, log_read, raw, Geometry, Refusal};
+use common::{marked, numbers, small, Random, Tested, MARK, MARKS, SMALL};
+use sogvect::{log_compact, log_compare, log_read, raw, Call, Geometry, Refusal};
 
 const BLOCK: u64 = 16_384;
 
@@ -13,7 +13,7 @@ fn read(log: &[u8]) -> Result<Vec<u32>, Refusal> {
     log_read(SMALL, log, &mut vec![0; SMALL.out_len()]).map(<[u32]>::to_vec)
 }
 
-/// What words give with a barrier behind them, so that they count.
+/// What words give with a barrier after them, so that they count.
 fn held(words: &[u64]) -> Result<Vec<u32>, Refusal> {
     read(&bytes(&[words, &[3]].concat()))
 }
@@ -29,7 +29,7 @@ fn good() {
     assert_eq!(held(&[BLOCK * 3 + 4, BLOCK * 3, BLOCK * 4 + 5, BLOCK * 2]), Ok(vec![3]));
 }
 
-/// What stands up to the last whole word equal to 3 counts; what is behind it is not judged and records nothing.
+/// What stands up to the last whole word equal to 3 counts; what is after it is not judged and records nothing.
 #[test]
 fn settled() {
     assert_eq!(read(&bytes(&[1])), Ok(vec![]));
@@ -118,23 +118,34 @@ fn compared() {
     assert_eq!(alike(&[1, 2], &[]), Ok(true));
 }
 
-/// A store's own log, with a barrier at its end, reads to its held blocks, before and behind a compression, and the two are alike.
+/// A store's own log, with a barrier at its end, reads to its held blocks, before and after a compression, and the two are alike.
 #[test]
 fn own_log() {
     let mut m = small();
     // block 4 is held at the last barrier that there is
     assert_eq!(read(m.used()), Ok(vec![0, 1, 2, 3, 4]));
-    numbers(&mut m.lend(), SMALL, Call::Y).unwrap();
+    numbers(&mut m.store(SMALL), Call::Barrier).unwrap();
     let old = m.used().to_vec();
+    assert_eq!(m.store(SMALL).log(), old);
     let mut out = vec![0; SMALL.out_len()];
-    let list = m.lend().free_list(SMALL).unwrap();
+    let list = m.store(SMALL).free_list().unwrap();
     let free: Vec<u32> = list.iter().flat_map(|(first, length)| *first..first + length).collect();
     let held: Vec<u32> = (0..6).filter(|b| !free.contains(b)).collect();
     assert_eq!(log_read(SMALL, &old, &mut out), Ok(&held[..]));
-    numbers(&mut m.lend(), SMALL, Call::C).unwrap();
+    numbers(&mut m.store(SMALL), Call::Compress).unwrap();
     assert_ne!(m.used(), old);
     assert_eq!(log_read(SMALL, m.used(), &mut out), Ok(&held[..]));
     assert_eq!(log_compare(SMALL, m.used(), &old), Ok(true));
+}
+
+/// Tables that are not sound may say anything of the log's length; no more is given than there is.
+#[test]
+fn damaged_log_length() {
+    let mut m = small();
+    m.tables[9] = u32::MAX;
+    assert_eq!(m.store(SMALL).log().len(), SMALL.log_len());
+    m.tables.truncate(9);
+    assert!(m.store(SMALL).log().is_empty());
 }
 
 /// The six numbers are checked, each in its place, and the result buffer's length.
@@ -173,7 +184,7 @@ fn geometry_and_buffer() {
     assert_eq!(log_read(other, &run, &mut out), Err(Refusal::NO_LOG));
 }
 
-/// What the bare functions write: the count and the answer whole and nothing beside them, the result and nothing behind it; a refusal writes nothing.
+/// What the bare functions write: the count and the answer whole and nothing beside them, the result and nothing after it; a refusal writes nothing.
 #[test]
 fn what_is_written() {
     let g = SMALL;
@@ -252,7 +263,7 @@ fn random_words() {
         let counted = words.iter().rposition(|&w| w == 3).map_or(0, |at| 8 * (at + 1));
         let log: Vec<u8> = bytes(&words).into_iter().chain((0..r.below(8)).map(|_| 0)).collect();
         let part = &log[..counted];
-        let mut m = Owned::least(SMALL);
+        let mut m = marked(SMALL);
         m.out.fill(MARKS);
         let given = log_read(SMALL, &log, &mut m.out).map(<[u32]>::to_vec);
         assert_eq!(given.as_ref().err(), log_compare(SMALL, part, part).as_ref().err(), "{words:x?}");

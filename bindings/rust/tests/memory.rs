@@ -1,7 +1,7 @@
 //! Memory that is short, damaged or random, and geometries outside their limits: refused by number, and nothing is changed.
 mod common;
-use common::{every_call, numbers, refused, small, Call, Owned, Random, SMALL};
-use sogvect::{Geometry, Refusal};
+use common::{every_call, marked, numbers, refused, small, Random, Tested, SMALL};
+use sogvect::{Call, Geometry, Record, Refusal, Space};
 
 /// Each piece of memory one element short is refused with 3, by every call and by the making; with that element it is not.
 #[test]
@@ -17,27 +17,27 @@ fn one_short() {
             refused(&mut m, SMALL, call, 3);
         }
         let before = m.clone();
-        assert_eq!(m.lend().make(SMALL), Err(Refusal::TOO_SHORT));
+        assert_eq!(m.make(SMALL), Err(Refusal::TOO_SHORT));
         assert_eq!(m, before);
     }
-    assert_eq!(small().lend().make(SMALL), Ok(()));
-    assert!(small().lend().begin(SMALL).is_ok());
+    assert_eq!(small().make(SMALL), Ok(()));
+    assert!(small().store(SMALL).begin().is_ok());
 }
 
 #[test]
 fn empty() {
-    let mut m = Owned { tables: vec![], log: vec![], out: vec![] };
+    let mut m = Space { tables: vec![], log: vec![], out: vec![] };
     for call in every_call(1, 0) {
         refused(&mut m, SMALL, call, 3);
     }
-    assert_eq!(m.lend().make(SMALL), Err(Refusal::TOO_SHORT));
+    assert_eq!(m.make(SMALL), Err(Refusal::TOO_SHORT));
 }
 
 /// Each number just inside its limits is accepted and just outside is refused with 2, on memory that is long enough for all.
 #[test]
 fn limits() {
     let inside = Geometry { arenas: 2, per: 3, pages: 5, records: 4, turn: 7, words: 20 };
-    let mut m = Owned { tables: vec![7; 43_008], log: vec![7; 65_536], out: vec![7; 4_160] };
+    let mut m = Space { tables: vec![7; 43_008], log: vec![7; 65_536], out: vec![7; 4_160] };
     let with = |change: fn(&mut Geometry, usize), x: usize| {
         let mut g = inside;
         change(&mut g, x);
@@ -58,21 +58,21 @@ fn limits() {
                 refused(&mut m, g, call, 2);
             }
             let before = m.clone();
-            assert_eq!(m.lend().make(g), Err(Refusal::OUTSIDE_LIMITS), "{g:?}");
+            assert_eq!(m.make(g), Err(Refusal::OUTSIDE_LIMITS), "{g:?}");
             assert_eq!(m, before);
         }
         for x in good {
             let mut g = with(change, x);
             g.words = if i == 1 { 2 * g.blocks() + 2 } else { g.words };
-            assert_eq!(m.lend().make(g), Ok(()), "{g:?}");
-            assert_eq!(m.lend().begin(g), Ok(1), "{g:?}");
+            assert_eq!(m.make(g), Ok(()), "{g:?}");
+            assert_eq!(m.store(g).begin(), Ok(Record(1)), "{g:?}");
         }
     }
     let product = Geometry { arenas: 3, per: 683, pages: 1, records: 1, turn: 1, words: 4_100 };
-    refused(&mut m, product, Call::L, 2);
+    refused(&mut m, product, Call::FreeList, 2);
     let largest = Geometry { arenas: 16, per: 128, pages: 256, records: 64, turn: 4_096, words: 8_192 };
-    assert_eq!(m.lend().make(largest), Ok(()));
-    assert_eq!(m.lend().free_list(largest).unwrap().len(), 16);
+    assert_eq!(m.make(largest), Ok(()));
+    assert_eq!(m.store(largest).free_list().unwrap().len(), 16);
 }
 
 /// Numbers of the small store's tables that the layout does not name.
@@ -94,17 +94,17 @@ fn spare(at: usize) -> bool {
 const WAITING: usize = 11;
 
 /// What every call answers on a copy of the memory. Refused ones change nothing, accepted ones leave a sound store.
-fn answers(m: &Owned) -> Vec<Result<Vec<u32>, Refusal>> {
-    let calls = every_call(4, 2).into_iter().chain([1, 2, 5].map(Call::F)).chain([1, 2, 5].map(Call::D)).chain([1, 2, 5].map(Call::Q));
-    let reads = [1, 2, 4, 5].into_iter().flat_map(|n| (0..5).map(move |page| Call::R(n, page)));
+fn answers(m: &Space) -> Vec<Result<Vec<u32>, Refusal>> {
+    let calls = every_call(4, 2).into_iter().chain([1, 2, 5].map(Call::Fork)).chain([1, 2, 5].map(Call::Delete)).chain([1, 2, 5].map(Call::Estimate));
+    let reads = [1, 2, 4, 5].into_iter().flat_map(|n| (0..5).map(move |page| Call::Read(n, page)));
     calls
         .chain(reads)
         .map(|call| {
             let mut copy = m.clone();
-            let answer = numbers(&mut copy.lend(), SMALL, call);
+            let answer = numbers(&mut copy.store(SMALL), call);
             match &answer {
                 Err(_) => assert_eq!(copy, *m, "{call:?} was refused and changed memory"),
-                Ok(_) => assert!(copy.lend().free_list(SMALL).is_ok(), "{call:?} left memory that is not sound"),
+                Ok(_) => assert!(copy.store(SMALL).free_list().is_ok(), "{call:?} left memory that is not sound"),
             }
             answer
         })
@@ -117,7 +117,7 @@ fn answers(m: &Owned) -> Vec<Result<Vec<u32>, Refusal>> {
 fn each_number_damaged() {
     let sound = small();
     let before = answers(&sound);
-    let list = small().lend().free_list(SMALL).unwrap();
+    let list = small().store(SMALL).free_list().unwrap();
     let (mut unsound, mut kept) = (0, 0);
     for at in 0..sound.tables.len() {
         let old = sound.tables[at];
@@ -131,12 +131,12 @@ fn each_number_damaged() {
             if spare(at) {
                 assert_eq!(after, before, "spare number {at} is {new}");
                 kept += 1;
-            } else if m.clone().lend().free_list(SMALL) == Err(Refusal::NOT_SOUND) {
+            } else if m.clone().store(SMALL).free_list() == Err(Refusal::NOT_SOUND) {
                 assert!(after.iter().all(|a| *a == Err(Refusal::NOT_SOUND)), "number {at} is {new}");
                 unsound += 1;
             } else {
                 assert!(!after.contains(&Err(Refusal::NOT_SOUND)), "number {at} is {new}");
-                assert_eq!(m.lend().free_list(SMALL).as_ref(), Ok(&list), "number {at} is {new}");
+                assert_eq!(m.store(SMALL).free_list().as_ref(), Ok(&list), "number {at} is {new}");
                 kept += 1;
             }
         }
@@ -144,7 +144,7 @@ fn each_number_damaged() {
     assert!(unsound > 300 && kept > 300, "{unsound} refused, {kept} taken");
 }
 
-/// Each used byte of the log, changed: 4, or a log that holds the same blocks. A byte behind the used ones changes no answer.
+/// Each used byte of the log, changed: 4, or a log that holds the same blocks. A byte after the used ones changes no answer.
 #[test]
 fn each_log_byte_damaged() {
     let sound = small();
@@ -168,7 +168,7 @@ fn each_log_byte_damaged() {
 fn random_memory() {
     for seed in 0..200 {
         let mut r = Random::new(seed);
-        let mut m = Owned::least(SMALL);
+        let mut m = marked(SMALL);
         let small_numbers = seed % 2 == 0;
         m.tables.fill_with(|| if small_numbers { r.below(4) as u32 } else { r.next() as u32 });
         m.log.fill_with(|| r.next() as u8);
@@ -178,9 +178,9 @@ fn random_memory() {
             refused(&mut m, SMALL, call, 4);
         }
         let (log, out) = (m.log.clone(), m.out.clone());
-        assert_eq!(m.lend().make(SMALL), Ok(()));
+        assert_eq!(m.make(SMALL), Ok(()));
         assert_eq!((&m.log, &m.out), (&log, &out));
-        assert_eq!(m.lend().free_list(SMALL), Ok(vec![(0, 3), (3, 3)]));
+        assert_eq!(m.store(SMALL).free_list(), Ok(vec![(0, 3), (3, 3)]));
     }
 }
 
@@ -200,13 +200,13 @@ fn random_damage() {
         }
         let call = every_call(1 + r.below(5) as u32, r.below(5) as u32)[r.below(11) as usize];
         let before = m.clone();
-        match numbers(&mut m.lend(), SMALL, call) {
+        match numbers(&mut m.store(SMALL), call) {
             Err(_) => {
                 assert_eq!(m, before, "{call:?}");
                 refusals += 1;
             }
             Ok(_) => {
-                assert!(m.lend().free_list(SMALL).is_ok(), "{call:?}");
+                assert!(m.store(SMALL).free_list().is_ok(), "{call:?}");
                 accepted += 1;
             }
         }

@@ -112,6 +112,14 @@ fn begun() -> Lent {
 }
 
 #[test]
+fn a_script_has_a_log() {
+    let (mut script, mut at) = (Script::new(), 0);
+    assert!(script.log().is_empty());
+    while script.part(BEGINNING, &mut at).is_some() {}
+    assert_eq!(script.log(), [0, 0, 0, 0, 0, 0, 0, 1]);
+}
+
+#[test]
 fn a_second_part_goes_on() {
     let mut lent = begun();
     assert_eq!(lent.part(b"R 1 0\nL", 0), Ok(Part { at: 8, count: 12 }));
@@ -128,7 +136,7 @@ fn the_least_buffer_has_one_line_a_part() {
     assert_eq!(&lent.replies[..6], b"+ 0:1\n");
 }
 
-/// Births of one to six digits: the next record has the number behind the last one given.
+/// Births of one to six digits: the next record has the number after the last one given.
 #[test]
 fn births_of_any_length() {
     for n in [2, 9, 10, 99, 100, 999, 1000, 9_999, 10_000, 99_999, 100_000, 999_999] {

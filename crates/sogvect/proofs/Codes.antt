@@ -19,7 +19,9 @@ use Rattle.model.specs.Layout.{stateOf}
 use Rattle.model.specs.Memory.{Memory, short?, allConditions, reply, makeReply}
 use Rattle.model.proofs.Demands.{all-ordered}
 use Rattle.serving.specs.Host.{Lent, hostConditions, hostPart, hostReply}
-use Rattle.sogvect.specs.Coded.{codeOf, verdictCode}
+use Rattle.sogvect.specs.declared.calls.Asked.{Asked}
+use Rattle.sogvect.specs.declared.calls.Asked.the-variants.{For, Nothing}
+use Rattle.sogvect.specs.Coded.{codeOf, askedReply, verdictCode}
 
 module _ (cs : List Condition) (l : List ℕ) (ordered : Ordered 1 cs) where
   done : (R : Reply) → decide cs l ≡ R → codeOf R ≡ 0 → decide cs l ≡ accepted l
@@ -34,10 +36,35 @@ module _ (cs : List Condition) (l : List ℕ) (ordered : Ordered 1 cs) where
   pub code-0-iff : (codeOf (decide cs l) ≡ 0) ↔ (decide cs l ≡ accepted l)
   code-0-iff = (done (decide cs l) refl, coded-0)
 
--- every letter
+-- every call
 pub done-iff : (g : Geometry) (M : Memory) (c : Call) → (codeOf (reply g M c) ≡ 0) ↔ (reply g M c ≡ accepted (result g (stateOf g (M .tables)) c))
 unfolding reply
 done-iff g M c = code-0-iff (allConditions g M c) (result g (stateOf g (M .tables)) c) (all-ordered g M c)
+
+refused-not-1 : (g : Geometry) (M : Memory) (c : Call) (n : ℕ) → n ≡ 1 → reply g M c ≡ refused n → ⊥
+unfolding reply
+refused-not-1 g M c n z e =
+    let cs = allConditions g M c in
+    let holds = decide-refused cs (result g (stateOf g (M .tables)) c) 1 n (all-ordered g M c) e .0 in
+    none-in 1 n (omega (arith, ap place z)) cs (all-ordered g M c) holds
+
+isFor : Asked → ℕ
+isFor (For c) = 1
+isFor Nothing = 0
+
+asks-something : (c : Call) → For c ≡ Nothing → ⊥
+unfolding isFor
+asks-something c e = omega (arith, ap isFor e)
+
+-- a letter and three numbers: the code 1 means that no call has the letter, and nothing else does
+pub no-call-iff : (g : Geometry) (M : Memory) (k : Asked) → (codeOf (askedReply g M k) ≡ 1) ↔ (k ≡ Nothing)
+unfolding askedReply codeOf
+no-call-iff g M (For c) = (λ e. absurd (never (reply g M c) refl e), λ e. absurd (asks-something c e))
+  where
+    never : (R : Reply) → reply g M c ≡ R → codeOf R ≡ 1 → ⊥
+    never (accepted l) e z = omega (arith, z)
+    never (refused n) e z = refused-not-1 g M c n z e
+no-call-iff g M Nothing = (λ e. refl, λ e. refl)
 
 -- a making
 pub make-iff : (g : Geometry) (M : Memory) → (codeOf (makeReply g M) ≡ 0) ↔ (makeReply g M ≡ accepted [])

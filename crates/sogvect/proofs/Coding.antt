@@ -21,15 +21,19 @@ use Rattle.log.specs.declared.tool.Compaction.the-variants as compaction
 use Rattle.log.specs.declared.tool.Comparison.{Comparison}
 use Rattle.log.specs.declared.tool.Comparison.the-variants as comparison
 use Rattle.log.proofs.Tools.{pass-length}
-use Rattle.model.specs.Memory.{Memory, reply, after}
+use Rattle.model.specs.Memory.{Memory, reply, lent}
 use Rattle.model.specs.declared.Call.{Call}
 use Rattle.model.proofs.ResultSize.{accepted-short}
+use Rattle.store.specs.Called.{Called}
 use Rattle.store.proofs.Results.{number-of}
 use Rattle.store.proofs.Lengths.{out-length}
 use Rattle.serving.specs.Host.{Lent, hostReply, hostedReply, Hosts}
 use Rattle.serving.specs.declared.host.Hosted.{Hosted}
 use Rattle.serving.specs.declared.host.Hosted.the-variants as hosted
-use Rattle.sogvect.specs.Coded.{codeOf, countAfter, answerCode, answerCount, verdictCode, alikeAfter, wordsAfter, numberAfter, Scripted}
+use Rattle.sogvect.specs.declared.calls.Asked.{Asked}
+use Rattle.sogvect.specs.declared.calls.Asked.the-variants.{For, Nothing}
+use Rattle.sogvect.specs.Coded.{codeOf, countAfter, askedReply, askedAfter, Answered, answerCode, answerCount}
+use Rattle.sogvect.specs.Coded.{verdictCode, alikeAfter, wordsAfter, numberAfter, Scripted}
 
 -- ── the arms of `coded` and `judge` ──
 
@@ -85,15 +89,19 @@ told a out R old r n e short p = (p .0 ∙ code-is a out R e, p .1 ∙ count-is 
 
 -- ── a call ──
 
+-- a letter that no call has
+pub no-call : (g : Geometry) (M : Memory) (k : Asked) (old : ℕ) → k ≡ Nothing → Answered g M k old 1 old M
+unfolding askedReply askedAfter codeOf countAfter
+no-call g M k old e = rw e (refl, (refl, (refl, (refl, refl))))
+
 module _ (g : Geometry) (M : Memory) (c : Call) (a : Answer) (t log out : List ℕ) where
-  -- what the store's function of a letter promises is what the exported one promises
-  pub called : (old r n : ℕ) → (replyOf a out ≡ reply g M c) × ((t ≡ after g M c .tables) × ((log ≡ after g M c .log) × (out ≡ after g M c .out))) →
-      Coded a old r n → (r ≡ codeOf (reply g M c)) × ((n ≡ countAfter (reply g M c) old) ×
-      ((t ≡ after g M c .tables) × ((log ≡ after g M c .log) × (out ≡ after g M c .out))))
-  called old r n p q =
+  -- what the store's function promises is what the exported one promises
+  pub called : (k : Asked) (old r n : ℕ) → k ≡ For c → Called g M c a (lent t log out) → Coded a old r n → Answered g M k old r n (lent t log out)
+  unfolding askedReply askedAfter
+  called k old r n e p q =
       let h : length out ≡ length (M .out) = ap length (p .1 .1 .1) ∙ out-length g M c in
       let s = told a out (reply g M c) old r n (p .0) (λ l e. omega (arith, accepted-short g M c l e)) q in
-      (s .0, (s .1, p .1))
+      rw e (s .0, (s .1, p .1))
 
 -- ── a reading ──
 

@@ -1,3 +1,5 @@
--- Laws of codes and counts.
+-- Laws of letters, codes and counts.
+pub mod Letters
 pub mod Coding
 pub mod Codes
+pub mod Looking

@@ -10,9 +10,10 @@ use Rattle.answer.specs.declared.Answer.the-variants.{Done, Refused}
 use Rattle.answer.specs.Reply.{Reply, accepted, refused}
 use Rattle.geometry.specs.declared.Geometry.{Geometry}
 use Rattle.log.specs.Tool.{Compared, judged, turnedAway}
-use Rattle.model.specs.declared.Call.{Call}
 use Rattle.model.specs.Memory.{Memory, reply, after}
 use Rattle.serving.specs.Host.{Lent, hostReply, hostLeft}
+use Rattle.sogvect.specs.declared.calls.Asked.{Asked}
+use Rattle.sogvect.specs.declared.calls.Asked.the-variants.{For, Nothing}
 
 -- ── a call ──
 
@@ -24,13 +25,23 @@ unfoldable pub countAfter : Reply → ℕ → ℕ
 countAfter (accepted l) old = length l
 countAfter (refused n) old = old
 
--- the promise of every letter, told once: the call c on lent memory `before`, with the six numbers g, was answered by the code r; the count,
--- which was `old`, is n; and the memory is `left`
-abbrev pub Answered : Geometry → Memory → Call → ℕ → ℕ → ℕ → Memory → Type 0
-Answered g before c old r n left =
-    (r ≡ codeOf (reply g before c))
-    × ((n ≡ countAfter (reply g before c) old)
-    × ((left .tables ≡ after g before c .tables) × ((left .log ≡ after g before c .log) × (left .out ≡ after g before c .out))))
+-- the reply to what a letter asks for, and what it leaves; a letter that no call has is refused by 1 before anything else is looked at
+unfoldable pub askedReply : Geometry → Memory → Asked → Reply
+askedReply g M (For c) = reply g M c
+askedReply g M Nothing = refused 1
+
+unfoldable pub askedAfter : Geometry → Memory → Asked → Memory
+askedAfter g M (For c) = after g M c
+askedAfter g M Nothing = M
+
+-- the promise of a call, told once: what is asked, on lent memory `before` with the six numbers g, was answered by the code r; the count, which was
+-- `old`, is n; and the memory is `left`
+abbrev pub Answered : Geometry → Memory → Asked → ℕ → ℕ → ℕ → Memory → Type 0
+Answered g before a old r n left =
+    (r ≡ codeOf (askedReply g before a))
+    × ((n ≡ countAfter (askedReply g before a) old)
+    × ((left .tables ≡ askedAfter g before a .tables)
+    × ((left .log ≡ askedAfter g before a .log) × (left .out ≡ askedAfter g before a .out))))
 
 -- the same of an answer, with no buffer
 unfoldable pub answerCode : Answer → ℕ

@@ -6,7 +6,8 @@ ghost use Rattle.log.specs.Tool.{readReply, readOut, verdictOf, compareVerdict,
 ghost use Rattle.model.specs.Memory.{makeReply, makeAfter, lent};
 ghost use Rattle.sogvect.specs.Coded.{codeOf, countAfter, answerCode, answerCount, verdictCode, alikeAfter, wordsAfter};
 
-pub mod letters;
+pub mod calls;
+pub mod looks;
 pub mod scripts;
 
 use answer::Answer;

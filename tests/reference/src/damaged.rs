@@ -85,7 +85,11 @@ struct Subject {
 }
 
 fn digit(b: u8) -> u64 {
-    if b == b'?' { u32::MAX as u64 } else { (b - b'0') as u64 }
+    if b == b'?' {
+        u32::MAX as u64
+    } else {
+        (b - b'0') as u64
+    }
 }
 
 fn asks_of(text: &str) -> Vec<Call> {
@@ -264,7 +268,13 @@ impl Subject {
             }
             for at in (0..self.records()).flat_map(|i| [BEFORE + i, BASE + i]) {
                 let to = m.tables[at] as usize;
-                m.tables[at] = if to == s + 1 { t + 1 } else if to == t + 1 { s + 1 } else { to } as u32;
+                m.tables[at] = if to == s + 1 {
+                    t + 1
+                } else if to == t + 1 {
+                    s + 1
+                } else {
+                    to
+                } as u32;
             }
             self.ask_all(report, &m);
         }

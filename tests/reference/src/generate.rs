@@ -223,7 +223,11 @@ impl Course {
 
     fn fill(&self, d: &mut Dice, n: u64, at: u64) -> Call {
         let page = at % (self.g[2] + 1);
-        if page < self.g[2] { Call::Write(n, page, d.below(3)) } else { Call::Seal(n) }
+        if page < self.g[2] {
+            Call::Write(n, page, d.below(3))
+        } else {
+            Call::Seal(n)
+        }
     }
 
     fn fork(&self, d: &mut Dice, n: u64) -> Call {
@@ -270,7 +274,13 @@ pub fn script(seed: u64) -> Vec<u8> {
     let mut course = Course::new(&mut d, if is_large { large } else { geometry });
     let mut lines = vec![line_of("store", &course.g).into_bytes()];
     let mut mood = Mood::Grow;
-    let count = if is_large { 2_000 + d.below(2_000) } else if d.below(20) == 0 { 12_000 } else { 40 + d.below(1500) };
+    let count = if is_large {
+        2_000 + d.below(2_000)
+    } else if d.below(20) == 0 {
+        12_000
+    } else {
+        40 + d.below(1500)
+    };
     for at in 0..count {
         if d.below(if is_large { 300 } else { 40 }) == 0 {
             mood = MOODS[d.below(MOODS.len() as u64) as usize];

@@ -372,7 +372,11 @@ fn list_after(tables: &Tables, store: &Store, c: Call, n: u64) -> Vec<u64> {
 }
 
 fn link_to(places: &Places, n: u64) -> u32 {
-    if n == 0 { 0 } else { places[&n] as u32 + 1 }
+    if n == 0 {
+        0
+    } else {
+        places[&n] as u32 + 1
+    }
 }
 
 /// Here and below everything that has a meaning is written, everything else stays.
@@ -403,7 +407,13 @@ fn lay_records(store: &Store, places: &Places, t: &mut [u32]) {
         let at = line.records.iter().position(|&x| x == n).unwrap();
         // An open record's mark is any number above 0.
         let kept = t[NUMBER + slot] as u64 == n && t[OPEN + slot] > 0;
-        t[OPEN + slot] = if !record.open { 0 } else if kept { t[OPEN + slot] } else { 1 };
+        t[OPEN + slot] = if !record.open {
+            0
+        } else if kept {
+            t[OPEN + slot]
+        } else {
+            1
+        };
         t[NUMBER + slot] = n as u32;
         t[BEFORE + slot] = if at == 0 { 0 } else { link_to(places, line.records[at - 1]) };
         t[BASE + slot] = link_to(places, line.base);

@@ -119,7 +119,11 @@ impl Store {
     pub fn pred(&self, r: u64) -> u64 {
         let line = &self.lines[self.line_of(r)];
         let at = line.records.iter().position(|&x| x == r).unwrap();
-        if at == 0 { line.base } else { line.records[at - 1] }
+        if at == 0 {
+            line.base
+        } else {
+            line.records[at - 1]
+        }
     }
 
     fn follower(&self, r: u64) -> Option<u64> {
@@ -192,10 +196,12 @@ impl Store {
     /// Would emptying this page free its block? The crude way: no other page of any record has it.
     fn would_free(&self, r: u64, page: u64) -> Option<u64> {
         let b = self.records[&r].pages[page as usize]?;
-        let others = self.records.iter().any(|(&n, rec)| {
-            rec.pages.iter().enumerate().any(|(x, &p)| p == Some(b) && (n != r || x as u64 != page))
-        });
-        if others { None } else { Some(b) }
+        let others = self.records.iter().any(|(&n, rec)| rec.pages.iter().enumerate().any(|(x, &p)| p == Some(b) && (n != r || x as u64 != page)));
+        if others {
+            None
+        } else {
+            Some(b)
+        }
     }
 
     /// The block has left the page; it is freed, or stands on the deadlist of r, or another line keeps it. Gives a freed block and its birth.

@@ -35,25 +35,24 @@ impl Lent {
         let [arenas, per, pages, records, turn, words] = self.six;
         let (t, l, o) = (self.tables.len(), self.log.len(), self.out.len());
         let (tables, log, out) = (self.tables.as_mut_ptr(), self.log.as_mut_ptr(), self.out.as_mut_ptr());
+        let (letter, [x, y, z]) = match c {
+            Call::Begin => (b'B', [0; 3]),
+            Call::Write(r, page, kind) => (b'W', [r, page, kind]),
+            Call::Erase(r, page) => (b'E', [r, page, 0]),
+            Call::Seal(r) => (b'S', [r, 0, 0]),
+            Call::Fork(r) => (b'F', [r, 0, 0]),
+            Call::Delete(r) => (b'D', [r, 0, 0]),
+            Call::Read(r, page) => (b'R', [r, page, 0]),
+            Call::Barrier => (b'Y', [0; 3]),
+            Call::Compress => (b'C', [0; 3]),
+            Call::FreeList => (b'L', [0; 3]),
+            Call::Estimate(r) => (b'Q', [r, 0, 0]),
+        };
+        let [x, y, z] = [x, y, z].map(|n| n as u32);
         let mut count = 0;
-        macro_rules! call {
-            ($name:ident($($n:expr),*)) => {
-                // SAFETY: each pointer comes with the length of its vector, and no two overlap.
-                unsafe { $name(arenas, per, pages, records, turn, words, tables, t, log, l, out, o, $($n as u32,)* &mut count) }
-            };
-        }
-        let refusal = match c {
-            Call::Begin => call!(sogvect_begin()),
-            Call::Write(r, page, kind) => call!(sogvect_write(r, page, kind)),
-            Call::Erase(r, page) => call!(sogvect_erase(r, page)),
-            Call::Seal(r) => call!(sogvect_seal(r)),
-            Call::Fork(r) => call!(sogvect_fork(r)),
-            Call::Delete(r) => call!(sogvect_delete(r)),
-            Call::Read(r, page) => call!(sogvect_read(r, page)),
-            Call::Barrier => call!(sogvect_barrier()),
-            Call::Compress => call!(sogvect_compress()),
-            Call::FreeList => call!(sogvect_free_list()),
-            Call::Estimate(r) => call!(sogvect_estimate(r)),
+        // SAFETY: each pointer comes with the length of its vector, and no two overlap.
+        let refusal = unsafe {
+            sogvect_call(arenas, per, pages, records, turn, words, tables, t, log, l, out, o, u32::from(letter), x, y, z, &mut count)
         };
         if refusal == 0 { Ok(count) } else { Err(refusal) }
     }

@@ -1,0 +1,296 @@
+//! A store on lent memory, and its calls.
+use crate::{raw, Block, Call, Geometry, Record, Refusal};
+
+/// The memory that a store lives in. Longer memory is taken; what lies beyond the least lengths is never changed.
+///
+/// Tables and log have to come back to each call as the last one left them. The result buffer holds nothing between calls.
+#[derive(Debug)]
+pub struct Memory<'a> {
+    /// The store's state, at least [`Geometry::tables_len`] numbers.
+    pub tables: &'a mut [u32],
+    /// The store's log, at least [`Geometry::log_len`] bytes.
+    pub log: &'a mut [u8],
+    /// The result buffer, at least [`Geometry::out_len`] numbers.
+    pub out: &'a mut [u32],
+}
+
+/// Memory of its own, for a store that lives nowhere else.
+#[derive(Clone, Debug, PartialEq, Eq)]
+pub struct Space {
+    /// As [`Memory::tables`].
+    pub tables: Vec<u32>,
+    /// As [`Memory::log`].
+    pub log: Vec<u8>,
+    /// As [`Memory::out`].
+    pub out: Vec<u32>,
+}
+
+impl Space {
+    /// Memory of exactly the least lengths, all 0.
+    pub fn new(g: Geometry) -> Space {
+        Space { tables: vec![0; g.tables_len()], log: vec![0; g.log_len()], out: vec![0; g.out_len()] }
+    }
+
+    /// The memory, lent to a store.
+    pub fn lend(&mut self) -> Memory<'_> {
+        Memory { tables: &mut self.tables, log: &mut self.log, out: &mut self.out }
+    }
+}
+
+/// The kind of a write: each looks for a block in another arena first.
+#[derive(Clone, Copy, Debug, PartialEq, Eq, Hash)]
+pub enum Kind {
+    /// Data.
+    Data = 0,
+    /// A pivot; it looks for a block one arena further.
+    Pivot = 1,
+    /// A leaf; it looks for a block two arenas further.
+    Leaf = 2,
+}
+
+/// What a write gave and freed.
+#[derive(Clone, Copy, Debug, PartialEq, Eq, Hash)]
+pub struct Written {
+    /// The block that is on the page now. Its birth is the record.
+    pub block: Block,
+    /// The block that was there before, if it was freed.
+    pub freed: Option<Block>,
+}
+
+/// What a delete would do.
+#[derive(Clone, Copy, Debug, PartialEq, Eq, Hash)]
+pub struct Estimate {
+    /// How many blocks it would free.
+    pub blocks: u32,
+    /// How many log words it would write. With fewer unused ones it is refused by [`Refusal::LOG_FULL`].
+    pub words: u32,
+    /// How many non-empty shards with a birth above the record's pred the record that follows it in its line has; 0 where none follows
+    /// (docs/RULES.md, 1.5, 1.8 and 3.12).
+    pub shards: u32,
+}
+
+/// A store: the six numbers that it was made from, and the memory that it lives in.
+///
+/// Nothing is trusted: each call checks numbers, lengths, tables and log in full. A refused call changes nothing.
+#[derive(Debug)]
+pub struct Store<'a> {
+    /// The six numbers.
+    pub geometry: Geometry,
+    /// The memory.
+    pub memory: Memory<'a>,
+}
+
+impl<'a> Store<'a> {
+    /// Makes a fresh store, whatever the memory held before.
+    ///
+    /// # Errors
+    ///
+    /// Refused by 2 or 3; see [`Refusal`].
+    pub fn make(geometry: Geometry, memory: Memory<'a>) -> Result<Store<'a>, Refusal> {
+        let (g, m) = (geometry, memory);
+        // SAFETY: the pointers and lengths are those of three slices that are lent once; the function writes the first of them alone.
+        let code = unsafe {
+            raw::sogvect_make(
+                g.arenas,
+                g.per,
+                g.pages,
+                g.records,
+                g.turn,
+                g.words,
+                m.tables.as_mut_ptr(),
+                m.tables.len(),
+                m.log.as_ptr(),
+                m.log.len(),
+                m.out.as_ptr(),
+                m.out.len(),
+            )
+        };
+        Refusal::check(code).map(|()| Store { geometry: g, memory: m })
+    }
+
+    /// The store that the memory holds; its calls say whether there is one of these six numbers.
+    pub fn on(geometry: Geometry, memory: Memory<'a>) -> Store<'a> {
+        Store { geometry, memory }
+    }
+
+    /// The used bytes of the store's log, as its tables say: what [`crate::log_read`] is to be given.
+    pub fn log(&self) -> &[u8] {
+        used(self.memory.tables, self.memory.log)
+    }
+
+    /// Makes a call, and gives the result's numbers, which stand at the start of the result buffer. A block is two numbers, the block and its birth.
+    ///
+    /// # Errors
+    ///
+    /// Refused by the numbers that the function of the call names; see [`Refusal`].
+    pub fn call(&mut self, call: Call) -> Result<&[u32], Refusal> {
+        let (g, m) = (self.geometry, &mut self.memory);
+        let [x, y, z] = call.numbers();
+        let mut count: usize = 0;
+        // SAFETY: the pointers and lengths are those of three exclusive slices, and of a local for the count, so each is valid and none overlaps another.
+        // The function asks for nothing else: it is proved to stay inside the lengths whatever the numbers and the content are.
+        let code = unsafe {
+            raw::sogvect_call(
+                g.arenas,
+                g.per,
+                g.pages,
+                g.records,
+                g.turn,
+                g.words,
+                m.tables.as_mut_ptr(),
+                m.tables.len(),
+                m.log.as_mut_ptr(),
+                m.log.len(),
+                m.out.as_mut_ptr(),
+                m.out.len(),
+                u32::from(call.letter()),
+                x,
+                y,
+                z,
+                &mut count,
+            )
+        };
+        Refusal::check(code).map(|()| &m.out[..count])
+    }
+
+    /// Makes a call that only looks ([`Call::Read`], [`Call::FreeList`], [`Call::Estimate`]), with a result buffer of the caller's, at least
+    /// [`Geometry::out_len`] numbers. Tables and log are only read, so several threads may look at once.
+    ///
+    /// # Errors
+    ///
+    /// Refused by [`Refusal::NO_CALL`] for any other call, else by the numbers that the function of the call names; see [`Refusal`].
+    pub fn look<'o>(&self, call: Call, out: &'o mut [u32]) -> Result<&'o [u32], Refusal> {
+        let (g, tables, log): (Geometry, &[u32], &[u8]) = (self.geometry, self.memory.tables, self.memory.log);
+        let [x, y, _] = call.numbers();
+        let mut count: usize = 0;
+        // SAFETY: the pointers and lengths are those of two shared slices, of an exclusive one, and of a local for the count.
+        let code = unsafe {
+            raw::sogvect_look(
+                g.arenas,
+                g.per,
+                g.pages,
+                g.records,
+                g.turn,
+                g.words,
+                tables.as_ptr(),
+                tables.len(),
+                log.as_ptr(),
+                log.len(),
+                out.as_mut_ptr(),
+                out.len(),
+                u32::from(call.letter()),
+                x,
+                y,
+                &mut count,
+            )
+        };
+        Refusal::check(code).map(|()| &out[..count])
+    }
+
+    /// Begins a line: an open record with every page empty. Gives the record.
+    ///
+    /// # Errors
+    ///
+    /// Refused by 2, 3, 4, 11 or 12; see [`Refusal`].
+    pub fn begin(&mut self) -> Result<Record, Refusal> {
+        Ok(Record(self.call(Call::Begin)?[0]))
+    }
+
+    /// Puts a free block on a page of an open record.
+    ///
+    /// # Errors
+    ///
+    /// Refused by 2, 3, 4, 5, 8, 9, 13 or 14; see [`Refusal`].
+    pub fn write(&mut self, record: Record, page: u32, kind: Kind) -> Result<Written, Refusal> {
+        let numbers = self.call(Call::Write(record.0, page, kind as u32))?;
+        Ok(Written { block: Block::of(&numbers[..2]), freed: numbers.get(2..4).map(Block::of) })
+    }
+
+    /// Empties a page of an open record. Gives the block that was there, if it was freed.
+    ///
+    /// # Errors
+    ///
+    /// Refused by 2, 3, 4, 5, 8, 9 or 14; see [`Refusal`].
+    pub fn erase(&mut self, record: Record, page: u32) -> Result<Option<Block>, Refusal> {
+        Ok(self.call(Call::Erase(record.0, page))?.get(..2).map(Block::of))
+    }
+
+    /// Seals an open record; an open one with the same pages follows it in its line. Gives the new record.
+    ///
+    /// # Errors
+    ///
+    /// Refused by 2, 3, 4, 8, 9, 11 or 12; see [`Refusal`].
+    pub fn seal(&mut self, record: Record) -> Result<Record, Refusal> {
+        Ok(Record(self.call(Call::Seal(record.0))?[0]))
+    }
+
+    /// Forks a sealed record: a new line, whose open record has its pages. Gives the new record.
+    ///
+    /// # Errors
+    ///
+    /// Refused by 2, 3, 4, 8, 9, 11 or 12; see [`Refusal`].
+    pub fn fork(&mut self, record: Record) -> Result<Record, Refusal> {
+        Ok(Record(self.call(Call::Fork(record.0))?[0]))
+    }
+
+    /// Deletes a record, open or sealed. Gives the freed blocks, in the order in which they were freed.
+    ///
+    /// # Errors
+    ///
+    /// Refused by 2, 3, 4, 8, 10 or 14; see [`Refusal`].
+    pub fn delete(&mut self, record: Record) -> Result<Vec<Block>, Refusal> {
+        Ok(self.call(Call::Delete(record.0))?.chunks_exact(2).map(Block::of).collect())
+    }
+
+    /// Gives the block on a page of a record, if there is one.
+    ///
+    /// # Errors
+    ///
+    /// Refused by 2, 3, 4, 5 or 8; see [`Refusal`].
+    pub fn read(&mut self, record: Record, page: u32) -> Result<Option<Block>, Refusal> {
+        Ok(self.call(Call::Read(record.0, page))?.get(..2).map(Block::of))
+    }
+
+    /// Adds a barrier to the log; once it is done, no block waits.
+    ///
+    /// # Errors
+    ///
+    /// Refused by 2, 3, 4 or 14; see [`Refusal`].
+    pub fn barrier(&mut self) -> Result<(), Refusal> {
+        self.call(Call::Barrier).map(|_| ())
+    }
+
+    /// Writes the log anew, as short as it can be and with a barrier at its end; once it is done, no block waits. Gives the number of its words.
+    ///
+    /// # Errors
+    ///
+    /// Refused by 2, 3 or 4; see [`Refusal`].
+    pub fn compress(&mut self) -> Result<u32, Refusal> {
+        Ok(self.call(Call::Compress)?[0])
+    }
+
+    /// Gives the free blocks but for those that wait, as runs, rising: the first block and the length. No run crosses an arena's edge.
+    ///
+    /// # Errors
+    ///
+    /// Refused by 2, 3 or 4; see [`Refusal`].
+    pub fn free_list(&mut self) -> Result<Vec<(u32, u32)>, Refusal> {
+        Ok(self.call(Call::FreeList)?.chunks_exact(2).map(|run| (run[0], run[1])).collect())
+    }
+
+    /// Says what [`Store::delete`] of a record would do, and changes nothing. A delete straight after it, if done, frees exactly so many blocks.
+    ///
+    /// # Errors
+    ///
+    /// Refused by 2, 3, 4, 8 or 10; see [`Refusal`].
+    pub fn estimate(&mut self, record: Record) -> Result<Estimate, Refusal> {
+        let numbers = self.call(Call::Estimate(record.0))?;
+        Ok(Estimate { blocks: numbers[0], words: numbers[1], shards: numbers[2] })
+    }
+}
+
+/// The used bytes of a log, as the tables say, but no more than there are.
+pub(crate) fn used<'l>(tables: &[u32], log: &'l [u8]) -> &'l [u8] {
+    let words = tables.get(9).map_or(0, |&words| words as usize);
+    &log[..words.saturating_mul(8).min(log.len())]
+}
