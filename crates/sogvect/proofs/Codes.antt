@@ -3,6 +3,7 @@ use mathlib.Core.Path.{_≡_, refl, sym, ap, _∙_}
 use mathlib.Core.Logic.{_↔_}
 use mathlib.Core.Bool.{Bool, not}
 use mathlib.Core.List.{List, [], _∷_}
+use mathlib.Core.Option.{Option, none, some}
 use Prim.Native.Nat.{ℕ}
 use lib.ListN.{length}
 use native.Mathlib.Omega.{arith}
@@ -19,8 +20,6 @@ use Rattle.model.specs.Layout.{stateOf}
 use Rattle.model.specs.Memory.{Memory, short?, allConditions, reply, makeReply}
 use Rattle.model.proofs.Demands.{all-ordered}
 use Rattle.serving.specs.Host.{Lent, hostConditions, hostPart, hostReply}
-use Rattle.sogvect.specs.declared.calls.Asked.{Asked}
-use Rattle.sogvect.specs.declared.calls.Asked.the-variants.{For, Nothing}
 use Rattle.sogvect.specs.Coded.{codeOf, askedReply, verdictCode}
 
 module _ (cs : List Condition) (l : List ℕ) (ordered : Ordered 1 cs) where
@@ -48,23 +47,18 @@ refused-not-1 g M c n z e =
     let holds = decide-refused cs (result g (stateOf g (M .tables)) c) 1 n (all-ordered g M c) e .0 in
     none-in 1 n (omega (arith, ap place z)) cs (all-ordered g M c) holds
 
-isFor : Asked → ℕ
-isFor (For c) = 1
-isFor Nothing = 0
+asks-something : {c : Call} → some c ≡ none → ⊥
+asks-something e = let z : _≡_ {A = ℕ} 0 1 = cc in omega arith
 
-asks-something : (c : Call) → For c ≡ Nothing → ⊥
-unfolding isFor
-asks-something c e = omega (arith, ap isFor e)
-
--- a letter and three numbers: the code 1 means that no call has the letter, and nothing else does
-pub no-call-iff : (g : Geometry) (M : Memory) (k : Asked) → (codeOf (askedReply g M k) ≡ 1) ↔ (k ≡ Nothing)
+-- what is asked: the code 1 means that it is no call, and nothing else does
+pub no-call-iff : (g : Geometry) (M : Memory) (k : Option Call) → (codeOf (askedReply g M k) ≡ 1) ↔ (k ≡ none)
 unfolding askedReply codeOf
-no-call-iff g M (For c) = (λ e. absurd (never (reply g M c) refl e), λ e. absurd (asks-something c e))
+no-call-iff g M (some c) = (λ e. absurd (never (reply g M c) refl e), λ e. absurd (asks-something e))
   where
     never : (R : Reply) → reply g M c ≡ R → codeOf R ≡ 1 → ⊥
     never (accepted l) e z = omega (arith, z)
     never (refused n) e z = refused-not-1 g M c n z e
-no-call-iff g M Nothing = (λ e. refl, λ e. refl)
+no-call-iff g M none = (λ e. refl, λ e. refl)
 
 -- a making
 pub make-iff : (g : Geometry) (M : Memory) → (codeOf (makeReply g M) ≡ 0) ↔ (makeReply g M ≡ accepted [])

@@ -1,6 +1,7 @@
 -- The code and the count of an answer are those of the reply that it stands for: one law for any reply whose result is shorter than the buffer.
 use mathlib.Core.Path.{_≡_, refl, sym, ap, _∙_}
 use mathlib.Core.List.{List}
+use mathlib.Core.Option.{Option, none, some}
 use Prim.Native.Nat.{ℕ, _+_, _*_, _<_}
 use native.Mathlib.Omega.{arith}
 use lib.ListN.{length, take}
@@ -30,8 +31,6 @@ use Rattle.store.proofs.Lengths.{out-length}
 use Rattle.serving.specs.Host.{Lent, hostReply, hostedReply, Hosts}
 use Rattle.serving.specs.declared.host.Hosted.{Hosted}
 use Rattle.serving.specs.declared.host.Hosted.the-variants as hosted
-use Rattle.sogvect.specs.declared.calls.Asked.{Asked}
-use Rattle.sogvect.specs.declared.calls.Asked.the-variants.{For, Nothing}
 use Rattle.sogvect.specs.Coded.{codeOf, countAfter, askedReply, askedAfter, Answered, answerCode, answerCount}
 use Rattle.sogvect.specs.Coded.{verdictCode, alikeAfter, wordsAfter, numberAfter, Scripted}
 
@@ -89,14 +88,14 @@ told a out R old r n e short p = (p .0 ∙ code-is a out R e, p .1 ∙ count-is 
 
 -- ── a call ──
 
--- a letter that no call has
-pub no-call : (g : Geometry) (M : Memory) (k : Asked) (old : ℕ) → k ≡ Nothing → Answered g M k old 1 old M
+-- what is no call
+pub no-call : (g : Geometry) (M : Memory) (k : Option Call) (old : ℕ) → k ≡ none → Answered g M k old 1 old M
 unfolding askedReply askedAfter codeOf countAfter
 no-call g M k old e = rw e (refl, (refl, (refl, (refl, refl))))
 
 module _ (g : Geometry) (M : Memory) (c : Call) (a : Answer) (t log out : List ℕ) where
   -- what the store's function promises is what the exported one promises
-  pub called : (k : Asked) (old r n : ℕ) → k ≡ For c → Called g M c a (lent t log out) → Coded a old r n → Answered g M k old r n (lent t log out)
+  pub called : (k : Option Call) (old r n : ℕ) → k ≡ some c → Called g M c a (lent t log out) → Coded a old r n → Answered g M k old r n (lent t log out)
   unfolding askedReply askedAfter
   called k old r n e p q =
       let h : length out ≡ length (M .out) = ap length (p .1 .1 .1) ∙ out-length g M c in

@@ -1,57 +1,148 @@
--- A letter that is none of some asks for nothing; and the letters are those of scripts.
-use mathlib.Core.Path.{_≡_, refl, sym, ap}
-use mathlib.Core.Bool.{Bool, true, cond, _&&_}
+-- The letters of the library are those of scripts: a letter has one call, of one number of numbers.
+use mathlib.Core.Path.{_≡_, refl, sym, ap, _∙_}
+use mathlib.Core.Logic.{_⊎_}
+use mathlib.Core.Bool.{Bool, true, false, _&&_}
 use mathlib.Core.List.{List, [], _∷_}
-use Prim.Native.Nat.{ℕ}
-use lib.Dec.{ltb}
+use mathlib.Core.Option.{Option, none, some}
+use Prim.Native.Nat.{ℕ, _<_, _≤_}
+use lib.Dec.{eqb, ltb}
+use lib.ListN.{length, take}
 use native.Mathlib.Omega.{arith}
 use borrow.Author.Tests.{ne-eqb, ltb-true}
+use denote.Enum.Declared.{tagOf}
+use Rattle.answer.proofs.Cases.{cases, either, same?}
 use Rattle.geometry.proofs.Made.{and-true}
-use Rattle.script.specs.Parse.{countOf, callOf}
-use Rattle.script.proofs.Letters as script
-use Rattle.sogvect.specs.declared.calls.Asked.{Asked}
-use Rattle.sogvect.specs.declared.calls.Asked.the-variants.{For, Nothing}
-use Rattle.sogvect.specs.Letters.{Letter, letters, askedOf, askedBy}
+use Rattle.model.specs.declared.Call.{Call}
+use Rattle.script.specs.declared.parse.Parsed.{Parsed}
+use Rattle.script.specs.declared.parse.Parsed.the-variants.{Asks}
+use Rattle.script.proofs.parse.Parsed.{the-type}
+use Rattle.script.specs.Letters.{Form, table, made, callIn, callOf}
+use Rattle.script.specs.Parse.{saysOf}
+use Rattle.script.proofs.Letters.{takes, made-other, numbers-few}
+use Rattle.sogvect.specs.Letters.{orElse, askedBy, AsScripts}
 
--- what the last arm of a match knows: P, and that b is none of the letters, one after another
-unfoldable pub Past : Type 0 → List Letter → ℕ → Type 0
-Past P [] b = P
-Past P (l ∷ ls) b = Past (P × (b ≡ l .0 → ⊥)) ls b
+none-not : {c : Call} → none ≡ some c → ⊥
+none-not p = let z : _≡_ {A = ℕ} 0 1 = cc in omega arith
 
-past : (P : Type 0) (ls : List Letter) (b x y z : ℕ) → Past P ls b → P × (askedOf ls b x y z ≡ Nothing)
-unfolding Past askedOf
-past P [] b x y z h = (h, refl)
-past P (l ∷ ls) b x y z h =
-    let q = past (P × (b ≡ l .0 → ⊥)) ls b x y z h in
-    (q .0 .0, rw (ne-eqb b (l .0) (q .0 .1)) (q .1))
+-- ── a letter that is no byte ──
 
-pub asks-nothing : (ls : List Letter) (b x y z : ℕ) → Past (Unit {0}) ls b → Nothing ≡ askedOf ls b x y z
-asks-nothing ls b x y z h = sym (past (Unit {0}) ls b x y z h .1)
+abbrev bytes? : List (ℕ × Form) → Bool
+bytes? [] = true
+bytes? (r ∷ rs) = ltb (r .0) 256 && bytes? rs
 
--- ── scripts ──
+wide-none : (rs : List (ℕ × Form)) (b : ℕ) (ns : List ℕ) → bytes? rs ≡ true → 255 < b → callIn rs b ns ≡ none
+unfolding callIn
+wide-none [] b ns t h = refl
+wide-none (r ∷ rs) b ns t h =
+    let s = and-true (ltb (r .0) 256) (bytes? rs) t in
+    let apart : b ≡ r .0 → ⊥ = λ e. omega (arith, e, ltb-true (r .0) 256 (s .0)) in
+    rw (ne-eqb b (r .0) apart) (wide-none rs b ns (s .1) h)
 
--- each is a letter of a script's call
-unfoldable known? : List Letter → Bool
-known? [] = true
-known? (l ∷ ls) = ltb (countOf (l .0)) 4 && known? ls
+pub asks-none : (b x y z : ℕ) → 255 < b → Parsed.No ≡ saysOf (askedBy b x y z)
+unfolding askedBy callOf
+asks-none b x y z h =
+    rw (wide-none table b [] refl h, wide-none table b (x ∷ []) refl h, wide-none table b (x ∷ y ∷ []) refl h, wide-none table b (x ∷ y ∷ z ∷ []) refl h)
 
-unknown : (ls : List Letter) (b x y z : ℕ) → known? ls ≡ true → countOf b ≡ 4 → askedOf ls b x y z ≡ Nothing
-unfolding known? askedOf
-unknown [] b x y z k four = refl
-unknown (l ∷ ls) b x y z k four =
-    let t = and-true (ltb (countOf (l .0)) 4) (known? ls) k in
-    let apart : b ≡ l .0 → ⊥ = λ e. omega (arith, four, ap countOf e, ltb-true (countOf (l .0)) 4 (t .0)) in
-    rw (ne-eqb b (l .0) apart) (unknown ls b x y z (t .1) four)
+-- ── one number of numbers ──
 
--- THE LETTERS ARE THOSE OF SCRIPTS: a line of a letter and its numbers, and the library with the same letter and numbers, ask for the same call; and a byte
--- that begins no call in a script asks for nothing
-abbrev AsScripts : ℕ → ℕ → ℕ → ℕ → Type 0
-AsScripts x y z b = askedBy b x y z ≡ cond (ltb 3 (countOf b)) Nothing (For (callOf b x y z))
+some-length : (f : Form) (ns : List ℕ) (c : Call) → made f ns ≡ some c → length ns ≡ takes f
+some-length f ns c e = cases (same? (length ns) (takes f)) (λ h. h) (λ h. absurd (none-not (sym (made-other f ns h) ∙ e)))
 
-other : (x y z b : ℕ) → countOf b ≡ 4 → AsScripts x y z b
-unfolding known? letters countOf
-other x y z b four = rw four (unknown letters b x y z refl four)
+one-length : (rs : List (ℕ × Form)) (b : ℕ) (ns ms : List ℕ) (c d : Call) → callIn rs b ns ≡ some c → callIn rs b ms ≡ some d → length ns ≡ length ms
+unfolding callIn
+one-length [] b ns ms c d p q = absurd (none-not p)
+one-length (r ∷ rs) b ns ms c d p q =
+    cases (either (eqb b (r .0)))
+    (λ t. some-length (r .1) ns c (rw t at p) ∙ sym (some-length (r .1) ms d (rw t at q)))
+    (λ f. one-length rs b ns ms c d (rw f at p) (rw f at q))
 
-pub as-scripts : (b x y z : ℕ) → AsScripts x y z b
-unfolding letters askedOf countOf callOf
-as-scripts b x y z = script.letters (AsScripts x y z) refl refl refl refl refl refl refl refl refl refl refl (other x y z) b
+module _ (b x y z : ℕ) (c : Call) where
+  -- no call of other numbers
+  others-none : (ns ms : List ℕ) → callOf b ns ≡ some c → (length ns ≡ length ms → ⊥) → (k : Option Call) → callOf b ms ≡ k → callOf b ms ≡ none
+  unfolding callOf
+  others-none ns ms e h none q = q
+  others-none ns ms e h (some d) q = absurd (h (one-length table b ns ms c d e q))
+
+  says : (ns : List ℕ) → callOf b ns ≡ some c → take (length ns) (x ∷ y ∷ z ∷ []) ≡ ns → askedBy b x y z ≡ some c
+  unfolding askedBy
+  says [] e t = rw e
+  says (p ∷ []) e t =
+      let k : callOf b (x ∷ []) ≡ some c = rw t e in
+      rw (others-none (p ∷ []) [] e (λ h. let n : ⊥ = omega (arith, h) in n) _ refl, k)
+  says (p ∷ q ∷ []) e t =
+      let k : callOf b (x ∷ y ∷ []) ≡ some c = rw t e in
+      rw (others-none (p ∷ q ∷ []) [] e (λ h. let n : ⊥ = omega (arith, h) in n) _ refl, others-none (p ∷ q ∷ []) (x ∷ []) e (λ h. let n : ⊥ = omega (arith, h) in n) _ refl, k)
+  says (p ∷ q ∷ r ∷ []) e t =
+      let k : callOf b (x ∷ y ∷ z ∷ []) ≡ some c = rw t e in
+      rw (
+        others-none (p ∷ q ∷ r ∷ []) [] e (λ h. let n : ⊥ = omega (arith, h) in n) _ refl,
+        others-none (p ∷ q ∷ r ∷ []) (x ∷ []) e (λ h. let n : ⊥ = omega (arith, h) in n) _ refl,
+        others-none (p ∷ q ∷ r ∷ []) (x ∷ y ∷ []) e (λ h. let n : ⊥ = omega (arith, h) in n) _ refl,
+        k,
+      )
+  says (p ∷ q ∷ r ∷ s ∷ ns) e t = absurd (let n : ⊥ = omega (arith, numbers-few b (p ∷ q ∷ r ∷ s ∷ ns) c e) in n)
+
+  said : askedBy b x y z ≡ some c → (n : ℕ) × (callOf b (take n (x ∷ y ∷ z ∷ [])) ≡ some c)
+  unfolding askedBy
+  said = by-0 (callOf b []) refl
+    where
+      by-2 : (k : Option Call) → callOf b (x ∷ y ∷ []) ≡ k → orElse k (callOf b (x ∷ y ∷ z ∷ [])) ≡ some c → (n : ℕ) × (callOf b (take n (x ∷ y ∷ z ∷ [])) ≡ some c)
+      by-2 (some d) q e = (2, q ∙ e)
+      by-2 none q e = (3, e)
+
+      by-1 : (k : Option Call) → callOf b (x ∷ []) ≡ k → orElse k (orElse (callOf b (x ∷ y ∷ [])) (callOf b (x ∷ y ∷ z ∷ []))) ≡ some c → (n : ℕ) × (callOf b (take n (x ∷ y ∷ z ∷ [])) ≡ some c)
+      by-1 (some d) q e = (1, q ∙ e)
+      by-1 none q e = by-2 (callOf b (x ∷ y ∷ [])) refl e
+
+      by-0 : (k : Option Call) → callOf b [] ≡ k → orElse k (orElse (callOf b (x ∷ [])) (orElse (callOf b (x ∷ y ∷ [])) (callOf b (x ∷ y ∷ z ∷ [])))) ≡ some c → (n : ℕ) × (callOf b (take n (x ∷ y ∷ z ∷ [])) ≡ some c)
+      by-0 (some d) q e = (0, q ∙ e)
+      by-0 none q e = by-1 (callOf b (x ∷ [])) refl e
+
+  pub as-scripts : AsScripts b x y z c
+  as-scripts = record { says = says; said = said }
+
+-- ── what was asked first ──
+
+-- said neither `store` nor a call to ask for, by the place in the order of `Parsed`
+abbrev pub Other : Parsed → Type 0
+Other p = (tagOf the-type p ≡ 0) ⊎ (tagOf the-type p ≡ 2)
+
+-- what was asked, by what was said
+pub is-call : (p : Parsed) (k : Option Call) (c : Call) → p ≡ saysOf k → p ≡ Asks c → k ≡ some c
+is-call p none c e found = absurd (let z : _≡_ {A = ℕ} 0 1 = cc in let n : ⊥ = omega arith in n)
+is-call p (some d) c e found = let same : d ≡ c = cc in ap some same
+
+pub is-none : (p : Parsed) (k : Option Call) → p ≡ saysOf k → Other p → k ≡ none
+is-none p none e h = refl
+is-none p (some c) e h =
+    let t : tagOf the-type p ≡ 1 = ap (tagOf the-type) e in
+    cases h (λ q. absurd (let n : ⊥ = omega (arith, q, t) in n)) (λ q. absurd (let n : ⊥ = omega (arith, q, t) in n))
+
+-- a call was found, and what comes after it is passed over; or none was
+found-here : (p : Parsed) (c : Call) (k d : Option Call) → p ≡ saysOf k → p ≡ Asks c → p ≡ saysOf (orElse k d)
+found-here p c k d e found = let s = is-call p k c e found in rw s (found)
+
+passed : (p : Parsed) (k d : Option Call) → p ≡ saysOf k → Other p → orElse k d ≡ d
+passed p k d e h = rw (is-none p k e h)
+
+-- the returns of `asked_by`, of the byte m that the letter b is
+module _ (b m x y z : ℕ) (is : m ≡ b) where
+  pub bare-asked : (p : Parsed) (c : Call) → p ≡ saysOf (callOf m []) → p ≡ Asks c → p ≡ saysOf (askedBy b x y z)
+  unfolding askedBy
+  bare-asked p c e found = rw (← is) (found-here p c (callOf m []) _ e found)
+
+  module _ (p : Parsed) (e : p ≡ saysOf (callOf m [])) (other : Other p) where
+    pub one-asked : (q : Parsed) (c : Call) → q ≡ saysOf (callOf m (x ∷ [])) → q ≡ Asks c → q ≡ saysOf (askedBy b x y z)
+    unfolding askedBy
+    one-asked q c f found = rw (← is, passed p (callOf m []) _ e other) (found-here q c (callOf m (x ∷ [])) _ f found)
+
+    module _ (q : Parsed) (f : q ≡ saysOf (callOf m (x ∷ []))) (apart : Other q) where
+      pub two-asked : (r : Parsed) (c : Call) → r ≡ saysOf (callOf m (x ∷ y ∷ [])) → r ≡ Asks c → r ≡ saysOf (askedBy b x y z)
+      unfolding askedBy
+      two-asked r c h found =
+          rw (← is, passed p (callOf m []) _ e other, passed q (callOf m (x ∷ [])) _ f apart) (found-here r c (callOf m (x ∷ y ∷ [])) _ h found)
+
+      pub three-asked : (r s : Parsed) → r ≡ saysOf (callOf m (x ∷ y ∷ [])) → Other r → s ≡ saysOf (callOf m (x ∷ y ∷ z ∷ [])) → s ≡ saysOf (askedBy b x y z)
+      unfolding askedBy
+      three-asked r s h last k =
+          rw (← is, passed p (callOf m []) _ e other, passed q (callOf m (x ∷ [])) _ f apart, passed r (callOf m (x ∷ y ∷ [])) _ h last) k

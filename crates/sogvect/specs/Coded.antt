@@ -3,6 +3,7 @@
 use mathlib.Core.Path.{_≡_}
 use mathlib.Core.Bool.{cond}
 use mathlib.Core.List.{List}
+use mathlib.Core.Option.{Option, none, some}
 use Prim.Native.Nat.{ℕ}
 use lib.ListN.{length, getD}
 use Rattle.answer.specs.declared.Answer.{Answer}
@@ -12,8 +13,7 @@ use Rattle.geometry.specs.declared.Geometry.{Geometry}
 use Rattle.log.specs.Tool.{Compared, judged, turnedAway}
 use Rattle.model.specs.Memory.{Memory, reply, after}
 use Rattle.serving.specs.Host.{Lent, hostReply, hostLeft}
-use Rattle.sogvect.specs.declared.calls.Asked.{Asked}
-use Rattle.sogvect.specs.declared.calls.Asked.the-variants.{For, Nothing}
+use Rattle.model.specs.declared.Call.{Call}
 
 -- ── a call ──
 
@@ -25,18 +25,18 @@ unfoldable pub countAfter : Reply → ℕ → ℕ
 countAfter (accepted l) old = length l
 countAfter (refused n) old = old
 
--- the reply to what a letter asks for, and what it leaves; a letter that no call has is refused by 1 before anything else is looked at
-unfoldable pub askedReply : Geometry → Memory → Asked → Reply
-askedReply g M (For c) = reply g M c
-askedReply g M Nothing = refused 1
+-- the reply to what is asked, and what it leaves; what is no call is refused by 1 before anything else is looked at
+unfoldable pub askedReply : Geometry → Memory → Option Call → Reply
+askedReply g M (some c) = reply g M c
+askedReply g M none = refused 1
 
-unfoldable pub askedAfter : Geometry → Memory → Asked → Memory
-askedAfter g M (For c) = after g M c
-askedAfter g M Nothing = M
+unfoldable pub askedAfter : Geometry → Memory → Option Call → Memory
+askedAfter g M (some c) = after g M c
+askedAfter g M none = M
 
 -- the promise of a call, told once: what is asked, on lent memory `before` with the six numbers g, was answered by the code r; the count, which was
 -- `old`, is n; and the memory is `left`
-abbrev pub Answered : Geometry → Memory → Asked → ℕ → ℕ → ℕ → Memory → Type 0
+abbrev pub Answered : Geometry → Memory → Option Call → ℕ → ℕ → ℕ → Memory → Type 0
 Answered g before a old r n left =
     (r ≡ codeOf (askedReply g before a))
     × ((n ≡ countAfter (askedReply g before a) old)

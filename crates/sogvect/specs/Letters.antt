@@ -1,37 +1,43 @@
--- Which call a letter and three numbers ask for. The letters are those of scripts, each as its byte.
-use mathlib.Core.Bool.{cond}
+-- Which call a letter and three numbers ask for. The letters are those of scripts, each as its byte, and so is how many numbers a call takes.
+use mathlib.Core.Path.{_≡_}
+use mathlib.Core.Bool.{Bool, true, false, cond}
 use mathlib.Core.List.{List, [], _∷_}
+use mathlib.Core.Option.{Option, none, some}
 use Prim.Native.Nat.{ℕ}
-use lib.Dec.{eqb}
+use lib.ListN.{length, take}
 use Rattle.model.specs.declared.Call.{Call}
-use Rattle.model.specs.declared.Call.the-variants.{Begin, Write, Erase, Seal, Fork, Delete, Read, Barrier, Compress, FreeList, Estimate}
-use Rattle.sogvect.specs.declared.calls.Asked.{Asked}
-use Rattle.sogvect.specs.declared.calls.Asked.the-variants.{For, Nothing}
+use Rattle.model.specs.Calls.{Account, looking, opening, freeing, placing, marking, renewing, account}
+use Rattle.script.specs.Letters.{callOf}
 
--- a letter, and its call of three numbers
-abbrev pub Letter : Type 0
-Letter = ℕ × (ℕ → ℕ → ℕ → Call)
+-- the first of two that is a call
+abbrev pub orElse : Option Call → Option Call → Option Call
+orElse (some c) d = some c
+orElse none d = d
 
--- B W E S F D R Y C L Q. A call passes over the numbers that it does not take.
-unfoldable pub letters : List Letter
-letters =
-    (66, λ x y z. Begin)
-    ∷ (87, λ x y z. Write x y z)
-    ∷ (69, λ x y z. Erase x y)
-    ∷ (83, λ x y z. Seal x)
-    ∷ (70, λ x y z. Fork x)
-    ∷ (68, λ x y z. Delete x)
-    ∷ (82, λ x y z. Read x y)
-    ∷ (89, λ x y z. Barrier)
-    ∷ (67, λ x y z. Compress)
-    ∷ (76, λ x y z. FreeList)
-    ∷ (81, λ x y z. Estimate x)
-    ∷ []
+-- the call of the letter b and as many of three numbers as it takes; it passes over the others
+unfoldable pub askedBy : ℕ → ℕ → ℕ → ℕ → Option Call
+askedBy b x y z =
+    orElse
+    (callOf b [])
+    (orElse (callOf b (x ∷ [])) (orElse (callOf b (x ∷ y ∷ [])) (callOf b (x ∷ y ∷ z ∷ []))))
 
--- what a letter among some asks for; one that is not among them asks for nothing
-unfoldable pub askedOf : List Letter → ℕ → ℕ → ℕ → ℕ → Asked
-askedOf [] b x y z = Nothing
-askedOf (l ∷ ls) b x y z = cond (eqb b (l .0)) (For (l .1 x y z)) (askedOf ls b x y z)
+-- THE LETTERS ARE THOSE OF SCRIPTS: what a line's letter and numbers say, the library is asked for by the same letter and numbers, whatever follows them;
+-- and it is asked for nothing that no line says.
+pub record AsScripts (b x y z : ℕ) (c : Call) : Type 0 where
+  pub says : (ns : List ℕ) → callOf b ns ≡ some c → take (length ns) (x ∷ y ∷ z ∷ []) ≡ ns → askedBy b x y z ≡ some c
+  pub said : askedBy b x y z ≡ some c → (n : ℕ) × (callOf b (take n (x ∷ y ∷ z ∷ [])) ≡ some c)
 
-abbrev pub askedBy : ℕ → ℕ → ℕ → ℕ → Asked
-askedBy b x y z = askedOf letters b x y z
+-- ── the calls that only look ──
+
+abbrev pub looks : Account → Bool
+looks (looking s cs res) = true
+looks (opening cs a) = false
+looks (freeing cs a) = false
+looks (placing r x k) = false
+looks marking = false
+looks renewing = false
+
+-- of what is asked, a call that only looks
+abbrev pub onlyLooks : Option Call → Option Call
+onlyLooks (some c) = cond (looks (account c)) (some c) none
+onlyLooks none = none

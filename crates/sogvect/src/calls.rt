@@ -2,42 +2,44 @@
 ghost use mathlib.Core.Path.{_≡_};
 ghost use Rattle.geometry.specs.Limits.{geometryOf};
 ghost use Rattle.model.specs.Memory.{lent};
+ghost use Rattle.script.specs.Parse.{saysOf};
 ghost use Rattle.sogvect.specs.Coded.{Answered};
 ghost use Rattle.sogvect.specs.Letters.{askedBy};
 use crate::coded;
-use model::Call;
+use script::parse::Parsed;
+use script::parse::bare_of;
+use script::parse::one_of;
+use script::parse::three_of;
+use script::parse::two_of;
 use store::call::call;
-
-// What a letter and three numbers ask for.
-pub enum Asked {
-    For(Call),
-    Nothing,
-}
 
 // The answer to a letter that no call has.
 pub const NO_CALL: u32 = 1;
 
-// The call of a letter and three numbers; a call passes over the numbers that it does not take.
-fn asked_by(letter: u32, x: u32, y: u32, z: u32) -> Asked
-    ensures { λ r. ⌜ r ≡ askedBy letter x y z ⌝ }
+// The call of a letter and of as many of three numbers as it takes.
+pub fn asked_by(letter: u32, x: u32, y: u32, z: u32) -> Parsed
+    ensures { λ r. ⌜ r ≡ saysOf (askedBy letter x y z) ⌝ }
 {
-    match letter {
-        66 => Asked::For(Call::Begin),
-        87 => Asked::For(Call::Write(x, y, z)),
-        69 => Asked::For(Call::Erase(x, y)),
-        83 => Asked::For(Call::Seal(x)),
-        70 => Asked::For(Call::Fork(x)),
-        68 => Asked::For(Call::Delete(x)),
-        82 => Asked::For(Call::Read(x, y)),
-        89 => Asked::For(Call::Barrier),
-        67 => Asked::For(Call::Compress),
-        76 => Asked::For(Call::FreeList),
-        81 => Asked::For(Call::Estimate(x)),
-        _ => Asked::Nothing,
+    if 255 < letter {
+        return Parsed::No;
     }
+    let b = (letter % 256) as u8;
+    let bare = bare_of(b);
+    if let Parsed::Asks(_) = bare {
+        return bare;
+    }
+    let one = one_of(b, x);
+    if let Parsed::Asks(_) = one {
+        return one;
+    }
+    let two = two_of(b, x, y);
+    if let Parsed::Asks(_) = two {
+        return two;
+    }
+    three_of(b, x, y, z)
 }
 
-// The call of a letter and three numbers on lent memory, as the table in specs/Letters.antt has it.
+// The call of a letter and three numbers on lent memory.
 #[no_mangle]
 pub extern "C" fn sogvect_call(
     arenas: usize,
@@ -60,7 +62,7 @@ pub extern "C" fn sogvect_call(
         (now (count .entry)) r (now (count .exit)) (lent (now (tables .exit)) (now (log .exit)) (now (out .exit))) ⌝ }
 {
     let asked = asked_by(letter, x, y, z);
-    let Asked::For(c) = asked else {
+    let Parsed::Asks(c) = asked else {
         return NO_CALL;
     };
     let a = call(

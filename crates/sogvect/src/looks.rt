@@ -1,5 +1,6 @@
 // The calls that only look, on tables and a log that are lent to be read: nothing of them is written, and others may read them meanwhile.
 ghost use mathlib.Core.Path.{_≡_};
+ghost use mathlib.Core.Option.{some};
 ghost use Rattle.answer.specs.Reply.{replyOf};
 ghost use Rattle.geometry.specs.Limits.{geometryOf};
 ghost use Rattle.model.specs.Memory.{lent};
@@ -7,16 +8,19 @@ ghost use Rattle.store.specs.Called.{Called};
 ghost use Rattle.tables.specs.Ready.{Ready, OutLong};
 ghost use Rattle.tables.specs.Outcome.{replied, outLeft};
 ghost use Rattle.sogvect.specs.Coded.{Answered};
-ghost use Rattle.sogvect.specs.Letters.{askedOf};
-ghost use Rattle.sogvect.specs.Looks.{lookLetters, lookCall, seenAsks};
+ghost use Rattle.sogvect.specs.Letters.{askedBy, onlyLooks};
+ghost use Rattle.sogvect.specs.Looks.{lookCall, seenCall};
 use crate::calls::NO_CALL;
+use crate::calls::asked_by;
 use crate::coded;
 use answer::Answer;
 use deleting::estimate::estimate;
 use geometry::Geometry;
 use geometry::Making;
 use logging::free_list;
+use model::Call;
 use paging::read::read;
+use script::parse::Parsed;
 use soundness::is_sound;
 use soundness::lengths::is_short;
 use tables::find::slot_of;
@@ -28,20 +32,20 @@ pub enum Look {
     Estimate(u32),
 }
 
-// What a letter and two numbers ask for.
+// What a call is, as a look.
 pub enum Seen {
     For(Look),
     Nothing,
 }
 
-// The look of a letter and two numbers.
-fn seen_by(letter: u32, x: u32, y: u32) -> Seen
-    ensures { λ r. ⌜ seenAsks r ≡ askedOf lookLetters letter x y 0 ⌝ }
+// The look that a call is, if it only looks.
+fn look_of(c: Call) -> Seen
+    ensures { λ r. ⌜ seenCall r ≡ onlyLooks (some c) ⌝ }
 {
-    match letter {
-        82 => Seen::For(Look::Read(x, y)),
-        76 => Seen::For(Look::FreeList),
-        81 => Seen::For(Look::Estimate(x)),
+    match c {
+        Call::Read(n, page) => Seen::For(Look::Read(n, page)),
+        Call::FreeList => Seen::For(Look::FreeList),
+        Call::Estimate(n) => Seen::For(Look::Estimate(n)),
         _ => Seen::Nothing,
     }
 }
@@ -95,7 +99,7 @@ fn look_at(
     looked(g, tables, out, c)
 }
 
-// The look of a letter and two numbers: R, L or Q. Any other letter is refused by 1.
+// The look of a letter and two numbers, R, L or Q; a letter of no call, or of a call that does more than look, is refused by 1.
 #[no_mangle]
 pub extern "C" fn sogvect_look(
     arenas: usize,
@@ -113,11 +117,15 @@ pub extern "C" fn sogvect_look(
     count: &mut usize,
 ) -> u32
     ensures { λ r. ⌜ Answered (geometryOf arenas per pages records turn words)
-        (lent (now (tables .entry)) (now (log .entry)) (now (out .entry))) (askedOf lookLetters letter x y 0)
+        (lent (now (tables .entry)) (now (log .entry)) (now (out .entry))) (onlyLooks (askedBy letter x y 0))
         (now (count .entry)) r (now (count .exit)) (lent (now (tables .entry)) (now (log .entry)) (now (out .exit))) ⌝ }
 {
-    let seen = seen_by(letter, x, y);
-    let Seen::For(c) = seen else {
+    let asked = asked_by(letter, x, y, 0);
+    let Parsed::Asks(c) = asked else {
+        return NO_CALL;
+    };
+    let seen = look_of(c);
+    let Seen::For(l) = seen else {
         return NO_CALL;
     };
     let a = look_at(
@@ -130,7 +138,7 @@ pub extern "C" fn sogvect_look(
         tables,
         log,
         out,
-        c,
+        l,
     );
     coded(a, count)
 }

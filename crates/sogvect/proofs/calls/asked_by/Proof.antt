@@ -1,70 +1,91 @@
--- `asked_by`: at each letter both sides compute.
-use Rattle.sogvect.specs.Letters.{letters, askedOf}
-use Rattle.sogvect.proofs.Letters.{Past, asks-nothing}
+-- `asked_by`: a letter that is no byte, or the first of four counts of numbers by which it is a call.
+use mathlib.Core.Path.{_≡_}
+use Prim.Native.Nat.{_%_}
+use Rattle.sogvect.proofs.Letters.{asks-none, bare-asked, one-asked, two-asked, three-asked}
+use borrow.Author.Needs.{needs}
+use native.Mathlib.Omega.{arith}
 use Rattle.sogvect.proofs.calls.asked_by.Statement.{statement}
 use Rattle.sogvect.proofs.calls.asked_by.Tie as tie
 
+abbrev start : tie.After-bare-of → tie.Start
+start c = c .before .before
+
+is-byte : (c : tie.After-bare-of) → start c .args .letter % 256 ≡ start c .args .letter
+is-byte c = omega (arith, c .before .if1 .left)
+
 returns : tie.Need-returns
-unfolding letters askedOf
-returns c = rw (c .match .keys1)
+returns c = let a = c .before .args in asks-none (a .letter) (a .x) (a .y) (a .z) (c .if1 .taken)
+
+cast-b : tie.Need-cast-b
+cast-b c = search needs
+
+bare-of-requires : tie.Need-bare-of-requires
+bare-of-requires c κs = search needs
+
+enum-told : tie.Need-enum-told
+enum-told c = search needs
 
 returns-2 : tie.Need-returns-2
-unfolding letters askedOf
-returns-2 c = rw (c .match .keys2)
+returns-2 c =
+    let at-bare = c .before .before in
+    let a = start at-bare .args in
+    bare-asked (a .letter) _ (a .x) (a .y) (a .z) (is-byte at-bare) _ _ (at-bare .bare-of .ensures) (c .enum-told .given .1)
+
+one-of-requires : tie.Need-one-of-requires
+one-of-requires c κs = search needs
+
+enum-told-2 : tie.Need-enum-told-2
+enum-told-2 c = search needs
 
 returns-3 : tie.Need-returns-3
-unfolding letters askedOf
-returns-3 c = rw (c .match .keys3)
+returns-3 c =
+    let at-one = c .before .before in
+    let at-bare = at-one .before .before in
+    let a = start at-bare .args in
+    one-asked (a .letter) _ (a .x) (a .y) (a .z) (is-byte at-bare) _ (at-bare .bare-of .ensures) (at-one .before .match .keys2) _ _
+    (at-one .one-of .ensures) (c .enum-told2 .given .1)
+
+two-of-requires : tie.Need-two-of-requires
+two-of-requires c κs = search needs
+
+enum-told-3 : tie.Need-enum-told-3
+enum-told-3 c = search needs
 
 returns-4 : tie.Need-returns-4
-unfolding letters askedOf
-returns-4 c = rw (c .match .keys4)
+returns-4 c =
+    let at-two = c .before .before in
+    let at-one = at-two .before .before in
+    let at-bare = at-one .before .before in
+    let a = start at-bare .args in
+    two-asked (a .letter) _ (a .x) (a .y) (a .z) (is-byte at-bare) _ (at-bare .bare-of .ensures) (at-one .before .match .keys2) _
+    (at-one .one-of .ensures) (at-two .before .match2 .keys2) _ _ (at-two .two-of .ensures) (c .enum-told3 .given .1)
+
+three-of-requires : tie.Need-three-of-requires
+three-of-requires c κs = search needs
 
 returns-5 : tie.Need-returns-5
-unfolding letters askedOf
-returns-5 c = rw (c .match .keys5)
-
-returns-6 : tie.Need-returns-6
-unfolding letters askedOf
-returns-6 c = rw (c .match .keys6)
-
-returns-7 : tie.Need-returns-7
-unfolding letters askedOf
-returns-7 c = rw (c .match .keys7)
-
-returns-8 : tie.Need-returns-8
-unfolding letters askedOf
-returns-8 c = rw (c .match .keys8)
-
-returns-9 : tie.Need-returns-9
-unfolding letters askedOf
-returns-9 c = rw (c .match .keys9)
-
-returns-10 : tie.Need-returns-10
-unfolding letters askedOf
-returns-10 c = rw (c .match .keys10)
-
-returns-11 : tie.Need-returns-11
-unfolding letters askedOf
-returns-11 c = rw (c .match .keys11)
-
-returns-12 : tie.Need-returns-12
-unfolding letters Past
-returns-12 c = asks-nothing letters _ _ _ _ (c .match .rest)
+returns-5 c =
+    let at-two = c .before .before in
+    let at-one = at-two .before .before in
+    let at-bare = at-one .before .before in
+    let a = start at-bare .args in
+    three-asked (a .letter) _ (a .x) (a .y) (a .z) (is-byte at-bare) _ (at-bare .bare-of .ensures) (at-one .before .match .keys2) _
+    (at-one .one-of .ensures) (at-two .before .match2 .keys2) _ _ (at-two .two-of .ensures) (c .before .match3 .keys2) (c .three-of .ensures)
 
 pub asked-by-spec : {M : Type 1} → statement M
 asked-by-spec =
     tie.close
     (tie.spec
     returns
+    cast-b
+    bare-of-requires
+    enum-told
     returns-2
+    one-of-requires
+    enum-told-2
     returns-3
+    two-of-requires
+    enum-told-3
     returns-4
-    returns-5
-    returns-6
-    returns-7
-    returns-8
-    returns-9
-    returns-10
-    returns-11
-    returns-12)
+    three-of-requires
+    returns-5)

@@ -1,9 +1,9 @@
 -- `sogvect_call`: a letter that no call has, or what `call` promises, coded.
-use mathlib.Core.Path.{sym, _∙_}
 use Rattle.geometry.specs.declared.Geometry.{Geometry}
 use Rattle.geometry.specs.Limits.{geometryOf}
 use Rattle.model.specs.Memory.{Memory, lent}
 use Rattle.sogvect.proofs.Coding.{no-call, called}
+use Rattle.sogvect.proofs.Letters.{is-call, is-none}
 use native.Mathlib.Omega.{arith}
 use borrow.Author.Needs.{needs}
 use Rattle.sogvect.proofs.calls.sogvect_call.Statement.{statement}
@@ -21,14 +21,11 @@ asked-by-requires c κs = search needs
 enum-known-asked : tie.Need-enum-known-asked
 enum-known-asked c = search needs
 
-enum-told : tie.Need-enum-told
-enum-told c = search needs
-
 returns : tie.Need-returns
 returns c =
-    let at-asked-by = c .before .before in
+    let at-asked-by = c .before in
     let s = at-asked-by .before .before .before .before in
-    no-call (six s) (memory s) _ _ (sym (at-asked-by .asked-by .ensures) ∙ c .enum-told .given .1)
+    no-call (six s) (memory s) _ _ (is-none _ _ (at-asked-by .asked-by .ensures) (c .match .keys2))
 
 call-requires : tie.Need-call-requires
 call-requires c κs = search needs
@@ -52,7 +49,7 @@ returns-2 c =
     let at-asked-by = at-asked .before .before in
     let s = at-asked-by .before .before .before .before in
     called (six s) (memory s) (at-asked .asked .given .0 .0) _ _ _ _ _ _ _ _
-    (sym (at-asked-by .asked-by .ensures) ∙ at-asked .asked .given .1) (at-call .call .ensures) (c .coded .ensures)
+    (is-call _ _ _ (at-asked-by .asked-by .ensures) (at-asked .asked .given .1)) (at-call .call .ensures) (c .coded .ensures)
 
 pub sogvect-call-spec : {M : Type 1} → statement M
 sogvect-call-spec =
@@ -60,7 +57,6 @@ sogvect-call-spec =
     (tie.spec
     asked-by-requires
     enum-known-asked
-    enum-told
     returns
     call-requires
     coded-requires
