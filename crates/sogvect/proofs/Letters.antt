@@ -56,47 +56,63 @@ one-length (r ∷ rs) b ns ms c d p q =
     (λ t. some-length (r .1) ns c (rw t at p) ∙ sym (some-length (r .1) ms d (rw t at q)))
     (λ f. one-length rs b ns ms c d (rw f at p) (rw f at q))
 
-module _ (b x y z : ℕ) (c : Call) where
+module _ (b : ℕ) (ns : List ℕ) (c : Call) (is : callOf b ns ≡ some c) where
   -- no call of other numbers
-  others-none : (ns ms : List ℕ) → callOf b ns ≡ some c → (length ns ≡ length ms → ⊥) → (k : Option Call) → callOf b ms ≡ k → callOf b ms ≡ none
+  none-of : (ms : List ℕ) → (length ns ≡ length ms → ⊥) → callOf b ms ≡ none
   unfolding callOf
-  others-none ns ms e h none q = q
-  others-none ns ms e h (some d) q = absurd (h (one-length table b ns ms c d e q))
+  none-of ms apart = go (callOf b ms) refl
+    where
+      go : (k : Option Call) → callOf b ms ≡ k → callOf b ms ≡ none
+      go none q = q
+      go (some d) q = absurd (apart (one-length table b ns ms c d is q))
+
+module _ (b x y z : ℕ) (c : Call) where
+  abbrev zero-of : Option Call
+  zero-of = callOf b []
+
+  abbrev one-of : Option Call
+  one-of = callOf b (x ∷ [])
+
+  abbrev two-of : Option Call
+  two-of = callOf b (x ∷ y ∷ [])
+
+  abbrev three-of : Option Call
+  three-of = callOf b (x ∷ y ∷ z ∷ [])
 
   says : (ns : List ℕ) → callOf b ns ≡ some c → take (length ns) (x ∷ y ∷ z ∷ []) ≡ ns → askedBy b x y z ≡ some c
   unfolding askedBy
   says [] e t = rw e
   says (p ∷ []) e t =
-      let k : callOf b (x ∷ []) ≡ some c = rw t e in
-      rw (others-none (p ∷ []) [] e (λ h. let n : ⊥ = omega (arith, h) in n) _ refl, k)
+      let k : one-of ≡ some c = rw t e in
+      rw (none-of b (p ∷ []) c e [] (λ h. omega (arith, h)), k)
   says (p ∷ q ∷ []) e t =
-      let k : callOf b (x ∷ y ∷ []) ≡ some c = rw t e in
-      rw (others-none (p ∷ q ∷ []) [] e (λ h. let n : ⊥ = omega (arith, h) in n) _ refl, others-none (p ∷ q ∷ []) (x ∷ []) e (λ h. let n : ⊥ = omega (arith, h) in n) _ refl, k)
+      let k : two-of ≡ some c = rw t e in
+      let none = none-of b (p ∷ q ∷ []) c e in
+      rw (none [] (λ h. omega (arith, h)), none (x ∷ []) (λ h. omega (arith, h)), k)
   says (p ∷ q ∷ r ∷ []) e t =
-      let k : callOf b (x ∷ y ∷ z ∷ []) ≡ some c = rw t e in
-      rw (
-        others-none (p ∷ q ∷ r ∷ []) [] e (λ h. let n : ⊥ = omega (arith, h) in n) _ refl,
-        others-none (p ∷ q ∷ r ∷ []) (x ∷ []) e (λ h. let n : ⊥ = omega (arith, h) in n) _ refl,
-        others-none (p ∷ q ∷ r ∷ []) (x ∷ y ∷ []) e (λ h. let n : ⊥ = omega (arith, h) in n) _ refl,
-        k,
-      )
-  says (p ∷ q ∷ r ∷ s ∷ ns) e t = absurd (let n : ⊥ = omega (arith, numbers-few b (p ∷ q ∷ r ∷ s ∷ ns) c e) in n)
+      let k : three-of ≡ some c = rw t e in
+      let none = none-of b (p ∷ q ∷ r ∷ []) c e in
+      rw (none [] (λ h. omega (arith, h)), none (x ∷ []) (λ h. omega (arith, h)), none (x ∷ y ∷ []) (λ h. omega (arith, h)), k)
+  says (p ∷ q ∷ r ∷ s ∷ ns) e t = absurd (omega (arith, numbers-few b (p ∷ q ∷ r ∷ s ∷ ns) c e))
 
-  said : askedBy b x y z ≡ some c → (n : ℕ) × (callOf b (take n (x ∷ y ∷ z ∷ [])) ≡ some c)
+  abbrev Said : Type 0
+  Said = (n : ℕ) × (callOf b (take n (x ∷ y ∷ z ∷ [])) ≡ some c)
+
+  said : askedBy b x y z ≡ some c → Said
   unfolding askedBy
-  said = by-0 (callOf b []) refl
+  said = by-0 zero-of refl
     where
-      by-2 : (k : Option Call) → callOf b (x ∷ y ∷ []) ≡ k → orElse k (callOf b (x ∷ y ∷ z ∷ [])) ≡ some c → (n : ℕ) × (callOf b (take n (x ∷ y ∷ z ∷ [])) ≡ some c)
+      by-2 : (k : Option Call) → two-of ≡ k → orElse k three-of ≡ some c → Said
       by-2 (some d) q e = (2, q ∙ e)
       by-2 none q e = (3, e)
 
-      by-1 : (k : Option Call) → callOf b (x ∷ []) ≡ k → orElse k (orElse (callOf b (x ∷ y ∷ [])) (callOf b (x ∷ y ∷ z ∷ []))) ≡ some c → (n : ℕ) × (callOf b (take n (x ∷ y ∷ z ∷ [])) ≡ some c)
+      by-1 : (k : Option Call) → one-of ≡ k → orElse k (orElse two-of three-of) ≡ some c → Said
       by-1 (some d) q e = (1, q ∙ e)
-      by-1 none q e = by-2 (callOf b (x ∷ y ∷ [])) refl e
+      by-1 none q e = by-2 two-of refl e
 
-      by-0 : (k : Option Call) → callOf b [] ≡ k → orElse k (orElse (callOf b (x ∷ [])) (orElse (callOf b (x ∷ y ∷ [])) (callOf b (x ∷ y ∷ z ∷ [])))) ≡ some c → (n : ℕ) × (callOf b (take n (x ∷ y ∷ z ∷ [])) ≡ some c)
+      by-0 : (k : Option Call) → zero-of ≡ k → orElse k (orElse one-of (orElse two-of three-of)) ≡ some c → Said
       by-0 (some d) q e = (0, q ∙ e)
-      by-0 none q e = by-1 (callOf b (x ∷ [])) refl e
+      by-0 none q e = by-1 one-of refl e
 
   pub as-scripts : AsScripts b x y z c
   as-scripts = record { says = says; said = said }
@@ -116,7 +132,7 @@ pub is-none : (p : Parsed) (k : Option Call) → p ≡ saysOf k → Other p → 
 is-none p none e h = refl
 is-none p (some c) e h =
     let t : tagOf the-type p ≡ 1 = ap (tagOf the-type) e in
-    cases h (λ q. absurd (let n : ⊥ = omega (arith, q, t) in n)) (λ q. absurd (let n : ⊥ = omega (arith, q, t) in n))
+    cases h (λ q. absurd (omega (arith, q, t))) (λ q. absurd (omega (arith, q, t)))
 
 -- a call was found, and what comes after it is passed over; or none was
 found-here : (p : Parsed) (c : Call) (k d : Option Call) → p ≡ saysOf k → p ≡ Asks c → p ≡ saysOf (orElse k d)
