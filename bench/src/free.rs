@@ -42,7 +42,7 @@ impl Free {
         if word != 0 {
             return 64 * k + word.trailing_zeros() as usize;
         }
-        let later = self.some & (u64::MAX - 1 << k);
+        let later = self.some & ((u64::MAX - 1) << k);
         let k = later.trailing_zeros() as usize;
         64 * k + self.words[k & 63].trailing_zeros() as usize
     }
@@ -69,5 +69,9 @@ impl Free {
 
 /// The n lowest bits.
 pub fn low_bits(n: usize) -> u64 {
-    if n >= 64 { u64::MAX } else { (1 << n) - 1 }
+    if n >= 64 {
+        u64::MAX
+    } else {
+        (1 << n) - 1
+    }
 }

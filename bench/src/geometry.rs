@@ -16,7 +16,7 @@ pub struct Geometry {
 }
 
 impl Geometry {
-    pub fn new(n: [u64; 6]) -> Option<Geometry> {
+    pub fn new(n: [u32; 6]) -> Option<Geometry> {
         let [arenas, per, pages, records, turn, words] = n.map(|x| x as usize);
         let blocks = arenas * per;
         let shape = (1..=16).contains(&arenas) && (1..=1024).contains(&per) && blocks <= BLOCKS;

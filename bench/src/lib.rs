@@ -1,8 +1,6 @@
-//! What the benchmarks share: the unproved store, the generator of scripts and the clock.
+//! What the benchmarks share: the unproved store and the clock.
 pub mod clock;
 mod free;
-#[path = "../../tests/reference/src/generate.rs"]
-pub mod generate;
 pub mod geometry;
 mod line;
 mod reply;

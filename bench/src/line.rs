@@ -80,7 +80,7 @@ fn short_numbers<const N: usize>(text: &[u8], at: usize) -> Option<([u32; N], us
     Some((n, at + len as usize))
 }
 
-/// A space and a number of 1 to 7 digits without leading zeros: the number, and the position behind it.
+/// A space and a number of 1 to 7 digits without leading zeros: the number, and the position after it.
 #[inline(always)]
 fn number(text: &[u8], at: usize) -> Option<(u32, usize)> {
     let word = eight(text, at);
@@ -114,9 +114,9 @@ fn long_numbers<const N: usize>(text: &[u8], at: usize) -> Option<([u32; N], usi
     numbers(text, at + 1)
 }
 
-/// The N numbers behind the letter at a position, and where the line ends.
+/// The N numbers after the letter at a position, and where the line ends.
 #[inline(always)]
-pub fn behind_letter<const N: usize>(text: &[u8], at: usize) -> Option<([u32; N], usize)> {
+pub fn after_letter<const N: usize>(text: &[u8], at: usize) -> Option<([u32; N], usize)> {
     if N == 0 {
         return numbers(text, at + 1);
     }

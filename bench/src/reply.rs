@@ -67,7 +67,7 @@ fn put_block(out: &mut [u8], at: usize, entry: u32) -> usize {
     between + len
 }
 
-/// Writes a reply; returns the position behind it.
+/// Writes a reply; returns the position after it.
 #[inline(always)]
 pub fn put_reply(out: &mut [u8], at: usize, reply: Reply, given: &[u32]) -> usize {
     out[at] = if let Reply::Refused(_) = reply { b'-' } else { b'+' };

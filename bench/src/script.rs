@@ -1,7 +1,8 @@
 //! Scripts: each call is done and its reply written as soon as its line is read.
-use crate::line::{behind_letter, line_end, numbers};
+use crate::line::{after_letter, line_end, numbers};
 use crate::reply::put_reply;
 use crate::store::{Geometry, Reply, Store};
+use calls::Call;
 
 /// Where the reading and the writing stand.
 #[derive(Clone, Copy)]
@@ -15,7 +16,7 @@ struct Places {
 fn call(store: &mut Store, text: &[u8], out: &mut [u8], p: Places) -> Option<Places> {
     macro_rules! done {
         ($call:ident($($n:ident),*)) => {{
-            let ([$($n),*], end) = behind_letter(text, p.at)?;
+            let ([$($n),*], end) = after_letter(text, p.at)?;
             let reply = store.$call($($n),*);
             Some(Places { at: end + 1, used: put_reply(out, p.used, reply, &store.out) })
         }};
@@ -39,12 +40,11 @@ fn call(store: &mut Store, text: &[u8], out: &mut [u8], p: Places) -> Option<Pla
 /// Before there is a store every call is refused.
 #[cold]
 fn too_early(text: &[u8], at: usize) -> Option<(Reply, usize)> {
-    let end = match text[at] {
-        b'W' => numbers::<3>(text, at + 1)?.1,
-        b'R' | b'E' => numbers::<2>(text, at + 1)?.1,
-        b'S' | b'F' | b'D' | b'Q' => numbers::<1>(text, at + 1)?.1,
-        b'B' | b'Y' | b'C' | b'L' => numbers::<0>(text, at + 1)?.1,
-        _ => return None,
+    let end = match Call::of(text[at], [0; 3])?.takes() {
+        0 => numbers::<0>(text, at + 1)?.1,
+        1 => numbers::<1>(text, at + 1)?.1,
+        2 => numbers::<2>(text, at + 1)?.1,
+        _ => numbers::<3>(text, at + 1)?.1,
     };
     Some((Reply::Refused(4), end))
 }
@@ -55,7 +55,7 @@ fn make(store: &mut Store, made: &mut bool, text: &[u8], at: usize) -> Option<(R
         return None;
     }
     let (n, end) = numbers::<6>(text, at + 5)?;
-    let Some(g) = Geometry::new(n.map(|x| x as u64)) else {
+    let Some(g) = Geometry::new(n) else {
         return Some((Reply::Refused(2), end));
     };
     store.start(g);

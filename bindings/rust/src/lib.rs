@@ -31,14 +31,13 @@
 #![warn(missing_docs)]
 
 mod block;
-mod call;
 pub mod raw;
 mod refusal;
 mod script;
 mod store;
 
 pub use block::{Block, Record};
-pub use call::Call;
+pub use calls::{Call, NoCall};
 pub use refusal::Refusal;
 pub use script::{script_part, Part, Script, SCRIPT_LOG, SCRIPT_OUT, SCRIPT_REPLIES, SCRIPT_RUN, SCRIPT_TABLES};
 pub use store::{Estimate, Kind, Memory, Space, Store, Written};
@@ -121,7 +120,7 @@ pub fn log_compare(g: Geometry, first: &[u8], second: &[u8]) -> Result<bool, Ref
     Refusal::check(code).map(|()| alike == 1)
 }
 
-/// Writes a log of any length anew, as short as it can be, at the start of `out` (at least [`Geometry::log_len`] bytes). Every word of it counts, and
+/// Writes a log of any length again, as short as it can be, at the start of `out` (at least [`Geometry::log_len`] bytes). Every word of it counts, and
 /// the new log ends with a barrier. Gives the bytes written.
 ///
 /// # Errors

@@ -90,7 +90,7 @@ extern "C" {
         alike: *mut u32,
     ) -> u32;
 
-    /// A log written anew, compressed, by every word.
+    /// A log written again, compressed, by every word.
     pub fn sogvect_log_compact(
         arenas: usize,
         per: usize,

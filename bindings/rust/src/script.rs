@@ -90,7 +90,7 @@ impl Script {
         }
     }
 
-    /// The replies to the next lines of a text, from `at` on, which moves behind them; nothing once the text is served.
+    /// The replies to the next lines of a text, from `at` on, which moves past them; nothing once the text is served.
     ///
     /// A text that grows may be served as far as it is there, where it ends after a line feed or is whole. A later text goes on with the same store.
     pub fn part(&mut self, text: &[u8], at: &mut usize) -> Option<&[u8]> {

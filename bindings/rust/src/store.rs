@@ -260,7 +260,7 @@ impl<'a> Store<'a> {
         self.call(Call::Barrier).map(|_| ())
     }
 
-    /// Writes the log anew, as short as it can be and with a barrier at its end; once it is done, no block waits. Gives the number of its words.
+    /// Writes the log again, as short as it can be and with a barrier at its end; once it is done, no block waits. Gives the number of its words.
     ///
     /// # Errors
     ///

@@ -1,50 +1,21 @@
 //! A plug pulled: the library's stores do the scripts of `tests/reference`, and their own logs are cut at each byte of the words appended since the last
 //! C, or since the beginning. Reading a cut must give the blocks held at the last whole barrier, told from the results alone, and none of those may have
 //! been given to a write since. On the way each reply, and after each line each word of the log, must be that of the reference.
-#[path = "../../../tests/reference/src/cuts.rs"]
-mod cuts;
-#[path = "../../../tests/reference/src/generate.rs"]
-#[allow(dead_code)]
-mod generate;
-#[path = "../../../tests/reference/src/script.rs"]
-#[allow(dead_code)]
-mod script;
-#[path = "../../../tests/reference/src/store.rs"]
-#[allow(dead_code)]
-mod store;
-
 mod common;
 
-use common::{numbers, Tested, MARK, MARKS};
-use cuts::{Followed, Stretch};
-use sogvect::{log_read, Geometry, Refusal, Space, SCRIPT_LOG, SCRIPT_OUT, SCRIPT_TABLES};
-use store::{Call, Reply};
+use common::{geometry, marked_for_any, numbers, stored, Tested};
+use reference::cuts::{Followed, Stretch};
+use reference::log::bytes_of;
+use reference::store::{self, Reply};
+use reference::{generate, script};
+use sogvect::{log_read, Call, Geometry, Refusal, Space};
 
 /// Scripts that the gate runs and whose logs are cut beside those made from seeds.
-const STORED: [&str; 6] = ["waiting", "forks", "compress", "smalllog", "refusals", "table"];
+const CUT: [&str; 8] = ["waiting", "forks", "compress", "smalllog", "refusals", "table", "mix", "shards"];
 const SEEDS: u64 = 60;
 
-fn geometry(g: &store::Geometry) -> Geometry {
-    let [arenas, per, pages, records, turn, words] = [g.arenas, g.per, g.pages, g.records, g.turn, g.words].map(|n| n as usize);
-    Geometry { arenas, per, pages, records, turn, words }
-}
-
-/// The same call of the library.
-fn asked(c: Call) -> sogvect::Call {
-    use sogvect::Call::*;
-    match c {
-        Call::Begin => Begin,
-        Call::Write(n, page, kind) => Write(n as u32, page as u32, kind as u32),
-        Call::Erase(n, page) => Erase(n as u32, page as u32),
-        Call::Seal(n) => Seal(n as u32),
-        Call::Fork(n) => Fork(n as u32),
-        Call::Delete(n) => Delete(n as u32),
-        Call::Read(n, page) => Read(n as u32, page as u32),
-        Call::Barrier => Barrier,
-        Call::Compress => Compress,
-        Call::FreeList => FreeList,
-        Call::Estimate(n) => Estimate(n as u32),
-    }
+fn geometry_of(g: &store::Geometry) -> Geometry {
+    geometry(g.six().map(|n| n as usize))
 }
 
 /// A store of the library, and where its log has been.
@@ -56,21 +27,20 @@ struct Plugged {
 
 impl Plugged {
     fn new() -> Plugged {
-        let space = Space { tables: vec![MARKS; SCRIPT_TABLES], log: vec![MARK; SCRIPT_LOG], out: vec![MARKS; SCRIPT_OUT] };
-        Plugged { space, followed: Followed::default(), cuts: 0 }
+        Plugged { space: marked_for_any(), followed: Followed::default(), cuts: 0 }
     }
 
     /// The reply of the library to a call, or to a store line.
     fn reply(&mut self, g: Geometry, call: Option<Call>) -> Reply {
         let reply = match call {
             None => self.space.make(g).map(|()| vec![]),
-            Some(c) => numbers(&mut self.space.store(g), asked(c)),
+            Some(c) => numbers(&mut self.space.store(g), c),
         };
-        reply.map(|given| given.into_iter().map(u64::from).collect()).map_err(Refusal::number)
+        reply.map_err(Refusal::number)
     }
 
     fn line(&mut self, reference: &store::Store, call: Option<Call>, expected: &Reply) {
-        let g = geometry(&reference.g);
+        let g = geometry_of(&reference.g);
         let reply = self.reply(g, call);
         assert_eq!(reply, *expected, "{call:?}");
         let words = self.space.words();
@@ -82,11 +52,11 @@ impl Plugged {
 
     /// Cuts a log at each byte.
     fn cut(&mut self, s: &Stretch) {
-        let g = geometry(&s.g);
-        let bytes: Vec<u8> = s.log.iter().flat_map(|w| w.to_be_bytes()).collect();
+        let g = geometry_of(&s.g);
+        let bytes = bytes_of(&s.log);
         for n in s.cuts() {
             let held = log_read(g, &bytes[..n], &mut self.space.out).unwrap_or_else(|e| panic!("cut at byte {n} of {:x?}: {e}", s.log));
-            assert!(held.iter().map(|&b| b as u64).eq(s.held(n).iter().copied()), "cut at byte {n} of {:x?}: {held:?}", s.log);
+            assert!(held.iter().eq(s.held(n)), "cut at byte {n} of {:x?}: {held:?}", s.log);
             self.cuts += 1;
         }
     }
@@ -109,9 +79,10 @@ fn pulled(text: &[u8]) -> usize {
 
 #[test]
 fn stored_scripts() {
-    for name in STORED {
-        let text = std::fs::read(format!("{}/../../crates/vectors/data/{name}.script", env!("CARGO_MANIFEST_DIR"))).expect("a script");
-        assert!(pulled(&text) > 100, "{name} has few cuts");
+    let scripts = stored();
+    for name in CUT {
+        let script = scripts.iter().find(|script| script.name == name).expect("a stored script");
+        assert!(pulled(&script.text) > 100, "{name} has few cuts");
     }
 }
 

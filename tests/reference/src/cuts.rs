@@ -1,7 +1,8 @@
 //! Logs cut short, as where a plug is pulled: which blocks reading must give then, told from the calls and their results alone.
 //! A log is cut at any byte of the words appended since its last C, or since the store was begun. What counts is the last barrier that is whole then: the
 //! last accepted Y, or the C, or the beginning, where nothing was held.
-use crate::store::{Call, Geometry, Reply};
+use crate::store::{Geometry, Reply};
+use calls::Call;
 use std::collections::BTreeSet;
 
 /// The log of a store from its beginning, or from a C, to the next C or the end.
@@ -9,7 +10,7 @@ pub struct Stretch {
     pub g: Geometry,
     pub log: Vec<u64>,
     /// the words up to each barrier, and the blocks held there; the first is the stretch's beginning
-    barriers: Vec<(usize, BTreeSet<u64>)>,
+    barriers: Vec<(usize, BTreeSet<u32>)>,
 }
 
 impl Stretch {
@@ -24,21 +25,21 @@ impl Stretch {
     }
 
     /// The blocks held at the last barrier that is whole in the first n bytes.
-    pub fn held(&self, n: usize) -> &BTreeSet<u64> {
+    pub fn held(&self, n: usize) -> &BTreeSet<u32> {
         let whole = self.barriers.iter().rfind(|(words, _)| 8 * words <= n);
-        &whole.expect("a cut is behind the beginning").1
+        &whole.expect("a cut is after the beginning").1
     }
 }
 
 /// Follows the calls on a store, and its log.
 #[derive(Default)]
 pub struct Followed {
-    held: BTreeSet<u64>,
+    held: BTreeSet<u32>,
     stretch: Option<Stretch>,
 }
 
 impl Followed {
-    /// Behind each line: the call (none for a store line), its reply, and the words of the log. Gives the stretch that ends with it.
+    /// After each line: the call (none for a store line), its reply, and the words of the log. Gives the stretch that ends with it.
     pub fn go_on(&mut self, g: Geometry, call: Option<Call>, reply: &Reply, log: &[u64]) -> Option<Stretch> {
         let Ok(given) = reply else { return None };
         self.count(call, given);
@@ -63,7 +64,7 @@ impl Followed {
     }
 
     /// The held blocks are those given less those freed. A block held at the last barrier is given to no write before the next one.
-    fn count(&mut self, call: Option<Call>, given: &[u64]) {
+    fn count(&mut self, call: Option<Call>, given: &[u32]) {
         let Some(c) = call else {
             self.held.clear();
             return;

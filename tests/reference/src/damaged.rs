@@ -2,7 +2,8 @@
 //! printed. `answer` makes a call: this implementation's makes the prediction, the proved library's must print the same.
 use crate::layout::{birth_at, list_at, log_needed, pages_at, result_needed, tables_needed, wait_at, Memory};
 use crate::layout::{BASE, BEFORE, FREE, LENGTH, MARKS, NUMBER, OPEN, WAITING};
-use crate::store::{Call, Geometry, Reply};
+use crate::store::{Geometry, Reply};
+use calls::Call;
 use std::fmt::Write;
 
 /// Makes a call, on six numbers and the first so many numbers, bytes and numbers of the tables, the log and a result buffer.
@@ -84,32 +85,22 @@ struct Subject {
     asks: Vec<Call>,
 }
 
-fn digit(b: u8) -> u64 {
+/// A digit, or for `?` a number that no store has.
+fn digit(b: u8) -> u32 {
     if b == b'?' {
-        u32::MAX as u64
+        u32::MAX
     } else {
-        (b - b'0') as u64
+        u32::from(b - b'0')
     }
 }
 
+/// Calls of four bytes each: a letter and three digits.
 fn asks_of(text: &str) -> Vec<Call> {
-    text.as_bytes().chunks(4).map(|a| call_of(a[0], digit(a[1]), digit(a[2]), digit(a[3]))).collect()
+    text.as_bytes().chunks(4).map(|a| call_of(a[0], [a[1], a[2], a[3]].map(digit))).collect()
 }
 
-fn call_of(letter: u8, n: u64, page: u64, kind: u64) -> Call {
-    match letter {
-        b'B' => Call::Begin,
-        b'W' => Call::Write(n, page, kind),
-        b'E' => Call::Erase(n, page),
-        b'S' => Call::Seal(n),
-        b'F' => Call::Fork(n),
-        b'D' => Call::Delete(n),
-        b'R' => Call::Read(n, page),
-        b'Y' => Call::Barrier,
-        b'C' => Call::Compress,
-        b'Q' => Call::Estimate(n),
-        _ => Call::FreeList,
-    }
+fn call_of(letter: u8, numbers: [u32; 3]) -> Call {
+    Call::of(letter, numbers).expect("the letter of a call")
 }
 
 impl Subject {
@@ -330,7 +321,7 @@ impl Subject {
         }
     }
 
-    /// One more entry behind the last: each number, with the bit of that block 0 and 1.
+    /// One more entry after the last: each number, with the bit of that block 0 and 1.
     fn wait_joined(&self, report: &mut Report) {
         let now = self.waiting(&self.sound).len();
         for b in 0..self.blocks() + 2 {
@@ -564,7 +555,7 @@ fn step(report: &mut Report, six: &[u64; 6], lent: [usize; 3], memory: &mut Memo
             report.fold(x as u64);
         }
         for i in 0..RESULT {
-            report.fold(given.get(i).copied().unwrap_or(1000 + i as u64));
+            report.fold(given.get(i).map_or(1000 + i as u64, |&n| u64::from(n)));
         }
     }
     report.add(reply);
@@ -572,10 +563,10 @@ fn step(report: &mut Report, six: &[u64; 6], lent: [usize; 3], memory: &mut Memo
 
 fn any_call(report: &mut Report, last: u32) -> Call {
     let letter = b"WWWWSSFDDERYCLBEQQ"[(report.next() % 18) as usize];
-    let n = last.wrapping_sub(report.small() as u32) as u64;
-    let page = (report.small() / 2) as u64;
-    let kind = (report.small() / 2) as u64;
-    call_of(letter, n, page, kind)
+    let n = last.wrapping_sub(report.small() as u32);
+    let page = (report.small() / 2) as u32;
+    let kind = (report.small() / 2) as u32;
+    call_of(letter, [n, page, kind])
 }
 
 fn group(report: &mut Report, name: &str) {
@@ -625,7 +616,7 @@ const SUBJECTS: [([u64; 6], &str, &str); 9] = [
         "B000W400W413W440W100E400E410E420E430E300S400S500S100F100F300F400D100D300D400D500D900R400R110R4?0Y000C000L000\
          Q100Q300Q400Q500Q200Q600Q?00Q000W510R500",
     ),
-    // blocks that wait, not by their numbers, behind others that were released; of 34 blocks, so that two free words have some
+    // blocks that wait, not by their numbers, after others that were released; of 34 blocks, so that two free words have some
     (
         [2, 17, 4, 4, 3, 70],
         "B000W100W111W122W130W101W110Y000W121S100W201W212W202E220W231W231W230D100",

@@ -1,7 +1,8 @@
 //! Scripts made at random from a seed: forks of forks, deletes in the middle of a line, windows of records that roll on, long deadlists, full stores,
 //! stores that are full of blocks that wait, many barriers and few, full logs, full record tables, estimates of deletes, bad lines, scripts longer than
 //! what is read. `reference reached` counts them.
-use crate::store::{Call, Geometry, Store};
+use crate::store::{Geometry, Store};
+use calls::Call;
 use std::collections::BTreeSet;
 
 /// A small generator of numbers (xorshift).
@@ -19,12 +20,16 @@ impl Dice {
         self.0 >> 11
     }
 
-    pub fn below(&mut self, n: u64) -> u64 {
-        self.next() % n
+    pub fn below(&mut self, n: u32) -> u32 {
+        (self.next() % u64::from(n)) as u32
+    }
+
+    pub fn one_of<T: Copy>(&mut self, all: &[T]) -> T {
+        all[self.below(all.len() as u32) as usize]
     }
 }
 
-pub fn geometry(d: &mut Dice) -> [u64; 6] {
+pub fn geometry(d: &mut Dice) -> [u32; 6] {
     let (arenas, per) = match d.below(8) {
         0 => (1, 1 + d.below(3)),
         1 => (16, 128),
@@ -40,28 +45,27 @@ pub fn geometry(d: &mut Dice) -> [u64; 6] {
 }
 
 /// Many pages and blocks.
-fn large(d: &mut Dice) -> [u64; 6] {
-    let (arenas, per) = [(16, 128), (2, 1024), (3, 200), (1, 300), (5, 60)][d.below(5) as usize];
+fn large(d: &mut Dice) -> [u32; 6] {
+    let (arenas, per) = d.one_of(&[(16, 128), (2, 1024), (3, 200), (1, 300), (5, 60)]);
     let records = if d.below(6) == 0 { 64 } else { 1 + d.below(12) };
     [arenas, per, 64 + d.below(193), records, 1 + d.below(5), 2 * arenas * per + 2 + d.below(60)]
 }
 
 const BAD: [&str; 14] = ["", "B ", " B", "W 1 0", "W 1 0 0 0", "E 01 0", "S", "Q", "b", "store", "store 1 4 2 4 8", "D 12345678", "R 1  0", "T 3"];
 
-/// A record to ask for: mostly one that is in the store, most often a new one.
-pub fn record(d: &mut Dice, store: &Store) -> u64 {
-    let numbers = store.numbers();
+/// A record to ask for: mostly one of those in the store, by rising numbers, most often a new one.
+pub fn record(d: &mut Dice, numbers: &[u32]) -> u32 {
     if numbers.is_empty() || d.below(25) == 0 {
         return d.below(12);
     }
-    let n = numbers.len() as u64;
+    let n = numbers.len() as u32;
     let at = if d.below(3) == 0 { d.below(n) } else { n - 1 - d.below(n.min(4)) };
     numbers[at as usize]
 }
 
-/// A call, with weights: `grow` leans towards new records and writes, else towards deletes.
-pub fn call(d: &mut Dice, g: &[u64; 6], store: &Store, grow: bool) -> Call {
-    let r = record(d, store);
+/// A call on a store with these records, with weights: `grow` leans towards new records and writes, else towards deletes.
+pub fn call(d: &mut Dice, g: &[u32; 6], numbers: &[u32], grow: bool) -> Call {
+    let r = record(d, numbers);
     let page = if d.below(40) == 0 { g[2] + d.below(2) } else { d.below(g[2]) };
     let kind = if d.below(60) == 0 { 3 } else { d.below(3) };
     let delete = if grow { 4 } else { 30 };
@@ -100,32 +104,32 @@ const MOODS: [Mood; 11] =
     [Mood::Grow, Mood::Grow, Mood::Grow, Mood::Shrink, Mood::Shrink, Mood::Window, Mood::Fill, Mood::Fill, Mood::Fork, Mood::Rewrite, Mood::Rewrite];
 
 /// How often a barrier is put in front of a call: one in so many times, or never, so that there are only those that the calls lean to.
-const BARRIERS: [Option<u64>; 5] = [None, None, Some(3), Some(8), Some(30)];
+const BARRIERS: [Option<u32>; 5] = [None, None, Some(3), Some(8), Some(30)];
 
 /// A store with what its replies tell: the lines, which records are open, whether the last call was refused.
 struct Course {
-    g: [u64; 6],
-    barriers: Option<u64>,
+    g: [u32; 6],
+    barriers: Option<u32>,
     store: Store,
-    lines: Vec<Vec<u64>>,
-    open: BTreeSet<u64>,
+    lines: Vec<Vec<u32>>,
+    open: BTreeSet<u32>,
     refused: bool,
 }
 
 impl Course {
-    fn new(d: &mut Dice, shape: fn(&mut Dice) -> [u64; 6]) -> Course {
+    fn new(d: &mut Dice, shape: fn(&mut Dice) -> [u32; 6]) -> Course {
         let g = shape(d);
         let store = Store::new(Geometry::new(g).expect("inside the limits"));
-        let barriers = BARRIERS[d.below(BARRIERS.len() as u64) as usize];
+        let barriers = d.one_of(&BARRIERS);
         Course { g, barriers, store, lines: vec![], open: BTreeSet::new(), refused: false }
     }
 
-    /// Makes a call, behind a Q or a barrier where it is its time, and adds the lines.
+    /// Makes a call, after a Q or a barrier where it is its time, and adds the lines.
     fn add(&mut self, d: &mut Dice, asks: &mut Dice, c: Call, lines: &mut Vec<Vec<u8>>) {
         let barrier = self.barriers.filter(|&n| d.below(n) == 0).map(|_| Call::Barrier);
         for next in barrier.into_iter().chain(self.asked(asks, c)).chain([c]) {
             self.make(next);
-            lines.push(spelled(next).into_bytes());
+            lines.push(next.to_string().into_bytes());
         }
     }
 
@@ -156,15 +160,15 @@ impl Course {
         }
     }
 
-    fn next(&self, d: &mut Dice, mood: Mood, at: u64) -> Call {
+    fn next(&self, d: &mut Dice, mood: Mood, at: u32) -> Call {
         let youngest = self.open.last().copied();
         match (mood, youngest) {
             (Mood::Window, Some(n)) => self.room(d).unwrap_or_else(|| self.window(d, n)),
             (Mood::Fill, Some(n)) => self.room(d).unwrap_or_else(|| self.fill(d, n, at)),
             (Mood::Fork, Some(n)) => self.fork(d, n),
             (Mood::Rewrite, Some(n)) => self.released(d).unwrap_or_else(|| self.rewrite(d, n)),
-            (Mood::Shrink, _) => call(d, &self.g, &self.store, false),
-            _ => call(d, &self.g, &self.store, true),
+            (Mood::Shrink, _) => call(d, &self.g, &self.store.numbers(), false),
+            _ => call(d, &self.g, &self.store.numbers(), true),
         }
     }
 
@@ -173,7 +177,7 @@ impl Course {
         match d.below(5) {
             1 if self.refused => Some(Call::Compress),
             2 if self.refused => Some(Call::Barrier),
-            3..=4 if self.refused => Some(Call::Delete(record(d, &self.store))),
+            3..=4 if self.refused => Some(Call::Delete(record(d, &self.store.numbers()))),
             _ => None,
         }
     }
@@ -187,7 +191,7 @@ impl Course {
         }
     }
 
-    fn rewrite(&self, d: &mut Dice, n: u64) -> Call {
+    fn rewrite(&self, d: &mut Dice, n: u32) -> Call {
         let page = d.below(self.g[2].min(3));
         match d.below(16) {
             0 => Call::Erase(n, page),
@@ -196,10 +200,10 @@ impl Course {
         }
     }
 
-    fn window(&self, d: &mut Dice, n: u64) -> Call {
+    fn window(&self, d: &mut Dice, n: u32) -> Call {
         let line = self.lines.iter().find(|line| line.contains(&n)).unwrap();
         match d.below(8) {
-            0 if 2 * line.len() as u64 > self.g[3] => Call::Delete(line[0]),
+            0 if 2 * line.len() as u32 > self.g[3] => Call::Delete(line[0]),
             0 => Call::Seal(n),
             1 => Call::Erase(n, d.below(self.g[2])),
             _ => Call::Write(n, d.below(self.g[2]), d.below(3)),
@@ -217,11 +221,11 @@ impl Course {
         }
         let numbers = self.store.numbers();
         let last = numbers.last().copied().unwrap_or(0);
-        let r = if last == 0 || d.below(8) == 0 { d.below(last + 2) } else { numbers[d.below(numbers.len() as u64) as usize] };
+        let r = if last == 0 || d.below(8) == 0 { d.below(last + 2) } else { d.one_of(&numbers) };
         Some(Call::Estimate(r))
     }
 
-    fn fill(&self, d: &mut Dice, n: u64, at: u64) -> Call {
+    fn fill(&self, d: &mut Dice, n: u32, at: u32) -> Call {
         let page = at % (self.g[2] + 1);
         if page < self.g[2] {
             Call::Write(n, page, d.below(3))
@@ -230,38 +234,22 @@ impl Course {
         }
     }
 
-    fn fork(&self, d: &mut Dice, n: u64) -> Call {
+    fn fork(&self, d: &mut Dice, n: u32) -> Call {
         let sealed = self.store.numbers().into_iter().rev().find(|n| !self.open.contains(n));
         match (d.below(8), sealed) {
             (0, Some(r)) => Call::Fork(r),
             (1, _) => Call::Seal(n),
-            (2, _) => Call::Delete(record(d, &self.store)),
+            (2, _) => Call::Delete(record(d, &self.store.numbers())),
             (3, _) => Call::Erase(n, d.below(self.g[2])),
             _ => Call::Write(n, d.below(self.g[2]), d.below(3)),
         }
     }
 }
 
-pub fn spelled(c: Call) -> String {
-    match c {
-        Call::Begin => "B".into(),
-        Call::Write(r, page, kind) => line_of("W", &[r, page, kind]),
-        Call::Erase(r, page) => line_of("E", &[r, page]),
-        Call::Seal(r) => line_of("S", &[r]),
-        Call::Fork(r) => line_of("F", &[r]),
-        Call::Delete(r) => line_of("D", &[r]),
-        Call::Read(r, page) => line_of("R", &[r, page]),
-        Call::Barrier => "Y".into(),
-        Call::Compress => "C".into(),
-        Call::FreeList => "L".into(),
-        Call::Estimate(r) => line_of("Q", &[r]),
-    }
-}
-
 /// A line with one of its bytes replaced by any byte.
 fn spoiled(d: &mut Dice, line: String) -> Vec<u8> {
     let mut bytes = line.into_bytes();
-    let at = d.below(bytes.len() as u64) as usize;
+    let at = d.below(bytes.len() as u32) as usize;
     bytes[at] = d.below(256) as u8;
     bytes
 }
@@ -272,7 +260,7 @@ pub fn script(seed: u64) -> Vec<u8> {
     let (mut d, mut asks) = (Dice::new(seed), Dice::new(!seed));
     let is_large = d.below(20) == 0;
     let mut course = Course::new(&mut d, if is_large { large } else { geometry });
-    let mut lines = vec![line_of("store", &course.g).into_bytes()];
+    let mut lines = vec![store_line(&course.g).into_bytes()];
     let mut mood = Mood::Grow;
     let count = if is_large {
         2_000 + d.below(2_000)
@@ -283,16 +271,16 @@ pub fn script(seed: u64) -> Vec<u8> {
     };
     for at in 0..count {
         if d.below(if is_large { 300 } else { 40 }) == 0 {
-            mood = MOODS[d.below(MOODS.len() as u64) as usize];
+            mood = d.one_of(&MOODS);
         }
         match d.below(200) {
-            0..=1 => lines.push(BAD[d.below(BAD.len() as u64) as usize].into()),
+            0..=1 => lines.push(d.one_of(&BAD).into()),
             2 => lines.push("W 1 0 0".repeat(1 + d.below(20) as usize).into_bytes()),
-            3 => lines.push(line_of("store", &[1, 4, 2, 4, 8, 9]).into_bytes()),
-            5 => lines.push(spoiled(&mut d, spelled(Call::Write(1, 0, 0)))),
+            3 => lines.push(store_line(&[1, 4, 2, 4, 8, 9]).into_bytes()),
+            5 => lines.push(spoiled(&mut d, Call::Write(1, 0, 0).to_string())),
             4 if !is_large && d.below(6) == 0 => {
                 course = Course::new(&mut d, geometry);
-                lines.push(line_of("store", &course.g).into_bytes());
+                lines.push(store_line(&course.g).into_bytes());
             }
             _ => {
                 let c = course.next(&mut d, mood, at);
@@ -307,10 +295,6 @@ pub fn script(seed: u64) -> Vec<u8> {
     text
 }
 
-pub fn line_of(head: &str, numbers: &[u64]) -> String {
-    let mut s = head.to_string();
-    for n in numbers {
-        s += &format!(" {n}");
-    }
-    s
+pub fn store_line(six: &[u32; 6]) -> String {
+    six.iter().fold(String::from("store"), |line, n| format!("{line} {n}"))
 }

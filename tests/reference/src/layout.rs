@@ -2,7 +2,8 @@
 //! Soundness is decided the crude way, by the rules' sentences: every pair of records, every page of every record, sets of blocks.
 use crate::damaged::Answers;
 use crate::log::{read_every, words_of};
-use crate::store::{Call, Geometry, Line, Record, Reply, Store};
+use crate::store::{Geometry, Line, Record, Reply, Store};
+use calls::Call;
 use std::collections::{BTreeMap, BTreeSet};
 
 pub const WAITING: usize = 11;
@@ -52,13 +53,13 @@ pub fn wait_at(g: &Geometry, i: usize) -> usize {
 
 /// A record; links are slots.
 struct Row {
-    number: u64,
+    number: u32,
     open: bool,
     before: Option<usize>,
     base: Option<usize>,
-    pages: Vec<Option<u64>>,
+    pages: Vec<Option<u32>>,
     /// the deadlist, in the order of joining
-    list: Vec<u64>,
+    list: Vec<u32>,
 }
 
 /// Tables read into rows; links may still lead anywhere.
@@ -66,9 +67,9 @@ struct Tables<'a> {
     g: Geometry,
     t: &'a [u32],
     rows: BTreeMap<usize, Row>,
-    births: Vec<u64>,
+    births: Vec<u32>,
     /// the waiting list, in the order of freeing
-    waiting: Vec<u64>,
+    waiting: Vec<u32>,
 }
 
 /// A link: slot + 1, 0 for none.
@@ -82,12 +83,12 @@ fn row_of(g: &Geometry, t: &[u32], slot: usize) -> Row {
     let pages = &t[pages_at(slot)..][..g.pages as usize];
     let list = &t[list_at(g, slot)..][..(t[LENGTH + slot] as usize).min(256)];
     Row {
-        number: t[NUMBER + slot] as u64,
+        number: t[NUMBER + slot],
         open: t[OPEN + slot] > 0,
         before: link(t[BEFORE + slot]),
         base: link(t[BASE + slot]),
-        pages: pages.iter().map(|&x| (x as u64).checked_sub(1)).collect(),
-        list: list.iter().map(|&b| b as u64).collect(),
+        pages: pages.iter().map(|&x| x.checked_sub(1)).collect(),
+        list: list.to_vec(),
     }
 }
 
@@ -95,14 +96,14 @@ fn rows_of(g: Geometry, t: &[u32]) -> Tables<'_> {
     let used = (0..g.records as usize).filter(|slot| t[NUMBER + slot] > 0);
     let rows = used.map(|slot| (slot, row_of(&g, t, slot))).collect();
     let blocks = g.blocks() as usize;
-    let births = t[birth_at(&g, 0)..][..blocks].iter().map(|&n| n as u64).collect();
-    let waiting = t[wait_at(&g, 0)..][..(t[WAITING] as usize).min(blocks)].iter().map(|&b| b as u64).collect();
+    let births = t[birth_at(&g, 0)..][..blocks].to_vec();
+    let waiting = t[wait_at(&g, 0)..][..(t[WAITING] as usize).min(blocks)].to_vec();
     Tables { g, t, rows, births, waiting }
 }
 
 impl Tables<'_> {
     /// The number of the record at a link, 0 for none.
-    fn number(&self, link: Option<usize>) -> u64 {
+    fn number(&self, link: Option<usize>) -> u32 {
         link.map_or(0, |s| self.rows[&s].number)
     }
 
@@ -123,7 +124,7 @@ impl Tables<'_> {
         false
     }
 
-    fn having(&self, b: u64) -> Vec<(usize, usize)> {
+    fn having(&self, b: u32) -> Vec<(usize, usize)> {
         let mut places = Vec::new();
         for (&slot, row) in &self.rows {
             for (page, &x) in row.pages.iter().enumerate() {
@@ -135,14 +136,14 @@ impl Tables<'_> {
         places
     }
 
-    fn header_sound(&self, six: &[u64; 6]) -> bool {
+    fn header_sound(&self) -> bool {
         let (g, t) = (&self.g, self.t);
-        (0..6).all(|i| t[i] as u64 == six[i])
+        t[..6] == g.six()
             && t[6] <= 999_999
-            && (t[7] as u64) < g.arenas
-            && (t[8] as u64) < g.turn
-            && t[9] as u64 <= g.words
-            && (0..g.arenas as usize).all(|a| (t[MARKS + a] as u64) < g.per)
+            && t[7] < g.arenas
+            && t[8] < g.turn
+            && t[9] <= g.words
+            && (0..g.arenas as usize).all(|a| t[MARKS + a] < g.per)
     }
 
     /// A link of a row leads to a sealed record with a smaller number, or is none.
@@ -152,7 +153,7 @@ impl Tables<'_> {
 
     fn records_sound(&self) -> bool {
         let alone = self.rows.values().all(|row| {
-            row.number <= self.t[6] as u64
+            row.number <= self.t[6]
                 && self.link_sound(row, row.before)
                 && self.link_sound(row, row.base)
                 && row.before.map_or(true, |s| self.rows[&s].base == row.base)
@@ -168,7 +169,7 @@ impl Tables<'_> {
         }
         (0..last).all(|b| {
             let places = self.having(b);
-            places.iter().all(|&(_, page)| page == places[0].1) && (self.births[b as usize] > 0) == !places.is_empty()
+            places.iter().all(|&(_, page)| page == places[0].1) && (self.births[b as usize] > 0) != places.is_empty()
         })
     }
 
@@ -194,18 +195,18 @@ impl Tables<'_> {
             return false;
         }
         self.rows.iter().all(|(&slot, row)| {
-            let has = |s: usize| self.rows[&s].pages.iter().flatten().copied().collect::<BTreeSet<u64>>();
+            let has = |s: usize| self.rows[&s].pages.iter().flatten().copied().collect::<BTreeSet<u32>>();
             let before = row.before.map_or(BTreeSet::new(), has);
             let base = self.number(row.base);
-            let should: BTreeSet<u64> = before.difference(&has(slot)).copied().filter(|&b| self.births[b as usize] > base).collect();
-            let is: BTreeSet<u64> = row.list.iter().copied().collect();
+            let should: BTreeSet<u32> = before.difference(&has(slot)).copied().filter(|&b| self.births[b as usize] > base).collect();
+            let is: BTreeSet<u32> = row.list.iter().copied().collect();
             should == is && self.t[LENGTH + slot] as usize == is.len()
         })
     }
 
     /// The waiting list has blocks that are not held, each once.
     fn waiting_sound(&self) -> bool {
-        let waiting: BTreeSet<u64> = self.waiting.iter().copied().collect();
+        let waiting: BTreeSet<u32> = self.waiting.iter().copied().collect();
         self.t[WAITING] as usize == waiting.len() && waiting.iter().all(|&b| b < self.g.blocks() && self.births[b as usize] == 0)
     }
 
@@ -214,12 +215,12 @@ impl Tables<'_> {
         (0..64).all(|k| self.t[FREE + k] == free_word(&kept, &self.g, k))
     }
 
-    fn held(&self) -> BTreeSet<u64> {
+    fn held(&self) -> BTreeSet<u32> {
         (0..self.g.blocks()).filter(|&b| self.births[b as usize] > 0).collect()
     }
 
-    fn sound(&self, six: &[u64; 6], log: &[u8]) -> bool {
-        self.header_sound(six)
+    fn sound(&self, log: &[u8]) -> bool {
+        self.header_sound()
             && self.records_sound()
             && self.pages_sound()
             && self.births_sound()
@@ -245,8 +246,8 @@ impl Tables<'_> {
         Line { base: self.number(self.rows[&first].base), records }
     }
 
-    fn shards(&self, list: &[u64]) -> BTreeMap<u64, Vec<u64>> {
-        let mut shards: BTreeMap<u64, Vec<u64>> = BTreeMap::new();
+    fn shards(&self, list: &[u32]) -> BTreeMap<u32, Vec<u32>> {
+        let mut shards: BTreeMap<u32, Vec<u32>> = BTreeMap::new();
         for &b in list {
             shards.entry(self.births[b as usize]).or_default().push(b);
         }
@@ -256,10 +257,10 @@ impl Tables<'_> {
     /// The store that sound tables stand for.
     fn store(&self, log: &[u8]) -> Store {
         let mut store = Store::new(self.g);
-        store.last = self.t[6] as u64;
-        store.counter = self.t[7] as u64;
-        store.writes = self.t[8] as u64;
-        store.marks = (0..self.g.arenas as usize).map(|a| self.t[MARKS + a] as u64).collect();
+        store.last = self.t[6];
+        store.counter = self.t[7];
+        store.writes = self.t[8];
+        store.marks = (0..self.g.arenas as usize).map(|a| self.t[MARKS + a]).collect();
         store.log = words_of(&log[..8 * self.t[9] as usize]);
         for b in self.held() {
             store.births.insert(b, self.births[b as usize]);
@@ -276,11 +277,11 @@ impl Tables<'_> {
         store
     }
 
-    fn slot(&self, r: u64) -> Option<usize> {
+    fn slot(&self, r: u32) -> Option<usize> {
         self.rows.iter().find(|(_, row)| row.number == r).map(|(&slot, _)| slot)
     }
 
-    fn list(&self, r: u64) -> &[u64] {
+    fn list(&self, r: u32) -> &[u32] {
         self.slot(r).map_or(&[], |slot| &self.rows[&slot].list)
     }
 }
@@ -292,9 +293,9 @@ fn pair_sound(x: &Row, y: &Row) -> bool {
 }
 
 /// Bit i of word k is 1 exactly where block 32 k + i may be given; `kept` are those that may not.
-fn free_word(kept: &BTreeSet<u64>, g: &Geometry, k: usize) -> u32 {
-    let free = |b: u64| b < g.blocks() && !kept.contains(&b);
-    (0..32).filter(|&i| free(32 * k as u64 + i)).map(|i| 1 << i).sum()
+fn free_word(kept: &BTreeSet<u32>, g: &Geometry, k: usize) -> u32 {
+    let free = |b: u32| b < g.blocks() && !kept.contains(&b);
+    (0..32).filter(|&i| free(32 * k as u32 + i)).map(|i| 1 << i).sum()
 }
 
 /// The calls of this implementation, on lent memory.
@@ -302,7 +303,7 @@ pub struct Predicted;
 
 impl Answers for Predicted {
     fn make(&mut self, six: &[u64; 6], memory: &mut Memory) {
-        made(&Geometry::new(*six).expect("inside the limits"), six, memory);
+        made(&Geometry::new(*six).expect("inside the limits"), memory);
     }
 
     fn call(&mut self, six: &[u64; 6], memory: &mut Memory, lent: [usize; 3], c: Call) -> Reply {
@@ -311,11 +312,9 @@ impl Answers for Predicted {
 }
 
 /// What a making leaves.
-fn made(g: &Geometry, six: &[u64; 6], memory: &mut Memory) {
+fn made(g: &Geometry, memory: &mut Memory) {
     memory.tables[..tables_needed(g)].fill(0);
-    for i in 0..6 {
-        memory.tables[i] = six[i] as u32;
-    }
+    memory.tables[..6].copy_from_slice(&g.six());
     for k in 0..64 {
         memory.tables[FREE + k] = free_word(&BTreeSet::new(), g, k);
     }
@@ -329,7 +328,7 @@ fn call(six: &[u64; 6], memory: &mut Memory, lent: [usize; 3], c: Call) -> Reply
     }
     let before = memory.clone();
     let tables = rows_of(g, &before.tables);
-    if !tables.sound(six, &before.log) {
+    if !tables.sound(&before.log) {
         return Err(4);
     }
     let mut store = tables.store(&before.log);
@@ -345,7 +344,7 @@ fn call(six: &[u64; 6], memory: &mut Memory, lent: [usize; 3], c: Call) -> Reply
 }
 
 /// The slot that a record stands in.
-type Places = BTreeMap<u64, usize>;
+type Places = BTreeMap<u32, usize>;
 
 /// A new record takes the slot of its number less one, round the largest power of two that is no more than the slots, if it is empty; else the first
 /// empty one.
@@ -358,11 +357,11 @@ fn places_after(tables: &Tables, store: &Store) -> Places {
 
 /// A deadlist after a call: what was on it and still is, then what a deleted record's list brings, each in the order that it had, then a killed
 /// block.
-fn list_after(tables: &Tables, store: &Store, c: Call, n: u64) -> Vec<u64> {
+fn list_after(tables: &Tables, store: &Store, c: Call, n: u32) -> Vec<u32> {
     let shards = &store.records[&n].dead;
-    let mut left: BTreeSet<u64> = shards.values().flatten().copied().collect();
-    let brought: &[u64] = if let Call::Delete(r) = c { tables.list(r) } else { &[] };
-    let mut list: Vec<u64> = tables.list(n).iter().chain(brought).copied().filter(|b| left.remove(b)).collect();
+    let mut left: BTreeSet<u32> = shards.values().flatten().copied().collect();
+    let brought: &[u32] = if let Call::Delete(r) = c { tables.list(r) } else { &[] };
+    let mut list: Vec<u32> = tables.list(n).iter().chain(brought).copied().filter(|b| left.remove(b)).collect();
     assert!(left.len() < 2, "a call kills one block at most");
     list.extend(left);
     for (birth, shard) in shards {
@@ -371,7 +370,7 @@ fn list_after(tables: &Tables, store: &Store, c: Call, n: u64) -> Vec<u64> {
     list
 }
 
-fn link_to(places: &Places, n: u64) -> u32 {
+fn link_to(places: &Places, n: u32) -> u32 {
     if n == 0 {
         0
     } else {
@@ -382,12 +381,12 @@ fn link_to(places: &Places, n: u64) -> u32 {
 /// Here and below everything that has a meaning is written, everything else stays.
 fn lay_header(store: &Store, memory: &mut Memory) {
     let t = &mut memory.tables;
-    t[6] = store.last as u32;
-    t[7] = store.counter as u32;
-    t[8] = store.writes as u32;
+    t[6] = store.last;
+    t[7] = store.counter;
+    t[8] = store.writes;
     t[9] = store.log.len() as u32;
     for (a, &mark) in store.marks.iter().enumerate() {
-        t[MARKS + a] = mark as u32;
+        t[MARKS + a] = mark;
     }
     for (i, w) in store.log.iter().enumerate() {
         memory.log[8 * i..8 * i + 8].copy_from_slice(&w.to_be_bytes());
@@ -406,7 +405,7 @@ fn lay_records(store: &Store, places: &Places, t: &mut [u32]) {
         let line = &store.lines[store.line_of(n)];
         let at = line.records.iter().position(|&x| x == n).unwrap();
         // An open record's mark is any number above 0.
-        let kept = t[NUMBER + slot] as u64 == n && t[OPEN + slot] > 0;
+        let kept = t[NUMBER + slot] == n && t[OPEN + slot] > 0;
         t[OPEN + slot] = if !record.open {
             0
         } else if kept {
@@ -414,19 +413,19 @@ fn lay_records(store: &Store, places: &Places, t: &mut [u32]) {
         } else {
             1
         };
-        t[NUMBER + slot] = n as u32;
+        t[NUMBER + slot] = n;
         t[BEFORE + slot] = if at == 0 { 0 } else { link_to(places, line.records[at - 1]) };
         t[BASE + slot] = link_to(places, line.base);
         for (page, b) in record.pages.iter().enumerate() {
-            t[pages_at(slot) + page] = b.map_or(0, |b| b as u32 + 1);
+            t[pages_at(slot) + page] = b.map_or(0, |b| b + 1);
         }
     }
 }
 
-fn lay_list(g: &Geometry, slot: usize, list: &[u64], t: &mut [u32]) {
+fn lay_list(g: &Geometry, slot: usize, list: &[u32], t: &mut [u32]) {
     t[LENGTH + slot] = list.len() as u32;
     for (i, &b) in list.iter().enumerate() {
-        t[list_at(g, slot) + i] = b as u32;
+        t[list_at(g, slot) + i] = b;
     }
 }
 
@@ -437,9 +436,9 @@ fn lay_blocks(store: &Store, t: &mut [u32]) {
     }
     t[WAITING] = store.freed.len() as u32;
     for (i, &b) in store.freed.iter().enumerate() {
-        t[wait_at(&store.g, i)] = b as u32;
+        t[wait_at(&store.g, i)] = b;
     }
     for b in 0..store.g.blocks() {
-        t[birth_at(&store.g, b as usize)] = store.births.get(&b).map_or(0, |&n| n as u32);
+        t[birth_at(&store.g, b as usize)] = store.births.get(&b).copied().unwrap_or(0);
     }
 }

@@ -1,43 +1,26 @@
 //! An implementation written from the rules alone (docs/RULES.md), to compare the proved runner with.
 //!   reference run                       replies to the script on standard input
-//!   reference log                       the words of the log behind each of its lines, hexadecimal
+//!   reference log                       the words of the log after each of its lines, hexadecimal
 //!   reference script SEED               a script made from a seed
 //!   reference damaged                   the replies to calls on damaged memory, as this implementation predicts them
 //!   reference reached FROM TO           what the scripts of the seeds reach, and how often
 //!   reference compare RUNNER FROM TO    runs the scripts of the seeds through RUNNER and compares byte for byte
 //!   reference cuts RUNNER LOGTOOL FROM TO [SCRIPT...]
 //!                                       cuts the logs of the scripts, of the seeds and in files, at each byte
-mod cuts;
-mod damaged;
-mod generate;
-mod layout;
-mod log;
 mod plug;
 mod reached;
-mod script;
-mod store;
+mod runner;
 
+use reference::{damaged, generate, layout, script};
 use std::io::{Read, Write};
-use std::process::{exit, Command, Stdio};
-
-fn runner_replies(runner: &str, text: &[u8]) -> Vec<u8> {
-    let mut child = Command::new(runner).stdin(Stdio::piped()).stdout(Stdio::piped()).spawn().expect("the runner starts");
-    let mut stdin = child.stdin.take().unwrap();
-    let bytes = text.to_vec();
-    let feed = std::thread::spawn(move || {
-        let _ = stdin.write_all(&bytes);
-    });
-    let out = child.wait_with_output().expect("the runner ends").stdout;
-    feed.join().unwrap();
-    out
-}
+use std::process::exit;
 
 fn compare(runner: &str, from: u64, to: u64) {
     let mut lines = 0;
     for seed in from..to {
         let text = generate::script(seed);
         let expected = script::run(&text);
-        let found = runner_replies(runner, &text);
+        let found = runner::replies(runner, &text);
         if found != expected {
             let at = found.split(|&b| b == b'\n').zip(expected.split(|&b| b == b'\n')).take_while(|(a, b)| a == b).count();
             println!("seed {seed}: the replies differ, first to line {}", at + 1);

@@ -1,10 +1,11 @@
 //! The cut logs of scripts, through this implementation's reading at every byte and through the log tool at some.
 //! The logs are this implementation's: the runner prints none. Its replies to the same scripts must be the same; that the library's stores have the same
 //! log, word for word, and what the library reads off their own bytes, is held by bindings/rust/tests/cuts.rs.
-use crate::cuts::{Followed, Stretch};
-use crate::generate::Dice;
-use crate::log::{bytes_of, read};
-use crate::{runner_replies, script};
+use crate::runner;
+use reference::cuts::{Followed, Stretch};
+use reference::generate::{self, Dice};
+use reference::log::{bytes_of, read};
+use reference::script;
 use std::path::PathBuf;
 use std::process::{exit, Command};
 
@@ -15,7 +16,7 @@ const TOLD: usize = 6;
 struct Counts {
     logs: usize,
     cuts: usize,
-    /// cuts with a barrier behind the beginning, and cuts that leave out words
+    /// cuts with a barrier after the beginning, and cuts that leave out words
     settled: usize,
     lost: usize,
     told: usize,
@@ -68,15 +69,15 @@ pub struct Programs<'a> {
 }
 
 fn script_cut(programs: &Programs, name: &str, text: &[u8], d: &mut Dice, counts: &mut Counts) {
-    if runner_replies(programs.runner, text) != script::run(text) {
+    if runner::replies(programs.runner, text) != script::run(text) {
         fail(name, "the runner's replies are others".into());
     }
     let all = stretches(text);
     all.iter().for_each(|s| read_all(name, s, counts));
     let file = std::env::temp_dir().join(format!("sogvect-cut-{}.log", std::process::id()));
     for _ in 0..if all.is_empty() { 0 } else { TOLD } {
-        let s = &all[d.below(all.len() as u64) as usize];
-        let n = s.cuts().start() + d.below(s.cuts().count() as u64) as usize;
+        let s = &all[d.below(all.len() as u32) as usize];
+        let n = s.cuts().start() + d.below(s.cuts().count() as u32) as usize;
         let (expected, found) = told(programs.tool, &file, s, n);
         if found != expected {
             let _ = std::fs::remove_file(&file);
@@ -91,7 +92,7 @@ fn script_cut(programs: &Programs, name: &str, text: &[u8], d: &mut Dice, counts
 pub fn pulled(programs: &Programs, from: u64, to: u64, files: &[&str]) {
     let (mut counts, mut d) = (Counts::default(), Dice::new(from));
     for seed in from..to {
-        script_cut(programs, &format!("seed {seed}"), &crate::generate::script(seed), &mut d, &mut counts);
+        script_cut(programs, &format!("seed {seed}"), &generate::script(seed), &mut d, &mut counts);
     }
     for file in files {
         let text = std::fs::read(file).unwrap_or_else(|e| fail(file, e.to_string()));
@@ -99,5 +100,5 @@ pub fn pulled(programs: &Programs, from: u64, to: u64, files: &[&str]) {
     }
     let Counts { logs, cuts, settled, lost, told } = counts;
     println!("{logs} logs cut at each byte, {cuts} cuts: the blocks held at the last whole barrier, none given since");
-    println!("{settled} of them behind a Y, {lost} with bytes behind the last barrier; {told} through the log tool");
+    println!("{settled} of them after a Y, {lost} with bytes after the last barrier; {told} through the log tool");
 }

@@ -1,15 +1,20 @@
 //! What scripts made from seeds reach: how many of the scripts, and how many of their lines.
-use crate::store::{Call, Reply, Store};
-use crate::{generate, script};
+use calls::Call;
+use reference::store::{Reply, Store};
+use reference::{generate, script};
 use std::collections::{BTreeMap, BTreeSet};
 
 /// How many bases lie below a record.
-fn depth(store: &Store, r: u64) -> usize {
+fn depth(store: &Store, r: u32) -> usize {
     let base = store.lines[store.line_of(r)].base;
-    if base == 0 { 0 } else { 1 + depth(store, base) }
+    if base == 0 {
+        0
+    } else {
+        1 + depth(store, base)
+    }
 }
 
-fn dead(store: &Store, r: u64) -> usize {
+fn dead(store: &Store, r: u32) -> usize {
     store.records[&r].dead.values().map(|shard| shard.len()).sum()
 }
 
@@ -20,14 +25,14 @@ type Reached = Vec<(bool, &'static str)>;
 struct Before {
     call: Option<Call>,
     /// the last records of all lines
-    lasts: Vec<u64>,
-    waiting: BTreeSet<u64>,
+    lasts: Vec<u32>,
+    waiting: BTreeSet<u32>,
     /// the blocks that waited at some time
-    waited: BTreeSet<u64>,
+    waited: BTreeSet<u32>,
 }
 
 impl Before {
-    /// Behind a line: a store line, if accepted, begins a store in which no block ever waited.
+    /// After a line: a store line, if accepted, begins a store in which no block ever waited.
     fn go_on(&mut self, store: &Store, call: Option<Call>, reply: &Reply) {
         if call.is_none() && reply.is_ok() {
             self.waited.clear();
@@ -55,8 +60,8 @@ fn refused(c: Call, number: u32, before: &Before) -> Reached {
 }
 
 /// A W or an E in record r.
-fn written(store: &Store, r: u64) -> Reached {
-    let (n, held) = (store.g.blocks(), store.births.len() as u64);
+fn written(store: &Store, r: u32) -> Reached {
+    let (n, held) = (store.g.blocks(), store.births.len() as u32);
     vec![
         (n >= 64 && 10 * held >= 9 * n, "W or E, 64 blocks or more, a tenth of them free at most"),
         (dead(store, r) > 0, "W or E in a record with a deadlist"),
@@ -65,8 +70,8 @@ fn written(store: &Store, r: u64) -> Reached {
     ]
 }
 
-/// A W of a kind: where its search began. Behind it the counter has gone up if the turn's writes are 0.
-fn begun(store: &Store, kind: u64) -> Reached {
+/// A W of a kind: where its search began. After it the counter has gone up if the turn's writes are 0.
+fn begun(store: &Store, kind: u32) -> Reached {
     let arenas = store.g.arenas;
     let c = if store.writes == 0 { (store.counter + arenas - 1) % arenas } else { store.counter };
     let round = c + kind >= arenas;
@@ -79,7 +84,7 @@ fn begun(store: &Store, kind: u64) -> Reached {
 }
 
 /// A W that was given a block, a Y, a C or an L: what it has to do with blocks that wait, or did.
-fn waited(c: Call, given: &[u64], before: &Before) -> Reached {
+fn waited(c: Call, given: &[u32], before: &Before) -> Reached {
     let many = before.waiting.len();
     let again = matches!(c, Call::Write(..)) && before.waited.contains(&given[0]);
     vec![
@@ -92,10 +97,10 @@ fn waited(c: Call, given: &[u64], before: &Before) -> Reached {
     ]
 }
 
-fn deleted(store: &Store, r: u64, freed: usize, before: &Before) -> Reached {
+fn deleted(store: &Store, r: u32, freed: usize, before: &Before) -> Reached {
     let was_last = before.lasts.contains(&r);
     vec![
-        (before.call == Some(Call::Estimate(r)), "D straight behind a Q of its record"),
+        (before.call == Some(Call::Estimate(r)), "D straight after a Q of its record"),
         (!was_last, "D with a follower"),
         (!was_last && freed > 1, "D with a follower that frees 2 or more"),
         (!was_last && freed > 31, "D with a follower that frees 32 or more"),
@@ -105,10 +110,10 @@ fn deleted(store: &Store, r: u64, freed: usize, before: &Before) -> Reached {
     ]
 }
 
-/// The blocks that a result names, each with its birth behind it.
-fn named(c: Call, given: &[u64]) -> Reached {
-    let births: BTreeSet<u64> = given.iter().skip(1).step_by(2).copied().collect();
-    let other = |r: u64| births.iter().any(|&v| v != r);
+/// The blocks that a result names, each with its birth after it.
+fn named(c: Call, given: &[u32]) -> Reached {
+    let births: BTreeSet<u32> = given.iter().skip(1).step_by(2).copied().collect();
+    let other = |r: u32| births.iter().any(|&v| v != r);
     let largest = births.last().copied().unwrap_or(0);
     vec![
         (matches!(c, Call::Write(r, ..) | Call::Erase(r, _) if other(r)), "W or E that frees a block born in another record"),
@@ -121,7 +126,7 @@ fn named(c: Call, given: &[u64]) -> Reached {
 }
 
 /// A Q of record r.
-fn estimated(store: &Store, r: u64, said: &[u64]) -> Reached {
+fn estimated(store: &Store, r: u32, said: &[u32]) -> Reached {
     let line = &store.lines[store.line_of(r)];
     let is_last = line.records.last() == Some(&r);
     vec![
@@ -136,13 +141,13 @@ fn estimated(store: &Store, r: u64, said: &[u64]) -> Reached {
     ]
 }
 
-fn sealed(store: &Store, r: u64) -> Reached {
+fn sealed(store: &Store, r: u32) -> Reached {
     let line = &store.lines[store.line_of(r)];
     let rolled = line.base == 0 && line.records.len() > 5 && line.records[0] > 6;
     vec![(rolled, "S in a line of 6 or more that lost its first"), (store.records.len() > 31, "S with 32 records or more")]
 }
 
-/// What a call, its reply and the store behind it are an instance of.
+/// What a call, its reply and the store after it are an instance of.
 fn instances(store: &Store, c: Call, reply: &Reply, before: &Before) -> Reached {
     let given = match reply {
         Err(number) => return refused(c, *number, before),
@@ -163,7 +168,7 @@ fn instances(store: &Store, c: Call, reply: &Reply, before: &Before) -> Reached 
     }
     reached.extend(waited(c, given, before));
     let logs = matches!(c, Call::Write(..) | Call::Erase(..) | Call::Delete(_) | Call::Barrier);
-    reached.push((logs && store.g.words - (store.log.len() as u64) < 3, "log words left: under 3"));
+    reached.push((logs && store.unused() < 3, "log words left: under 3"));
     reached
 }
 

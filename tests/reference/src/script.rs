@@ -1,12 +1,14 @@
 //! Scripts: lines, calls, replies.
-use crate::store::{Call, Geometry, Reply, Store};
+use crate::store::{Geometry, Reply, Store};
+use calls::Call;
 
-enum Line {
-    Store([u64; 6]),
+/// What a line asks for.
+pub enum Line {
+    Store([u32; 6]),
     Call(Call),
 }
 
-fn number(word: &[u8]) -> Option<u64> {
+fn number(word: &[u8]) -> Option<u32> {
     let digits = !word.is_empty() && word.len() <= 7 && word.iter().all(|b| b.is_ascii_digit());
     if !digits || (word[0] == b'0' && word.len() > 1) {
         return None;
@@ -14,32 +16,25 @@ fn number(word: &[u8]) -> Option<u64> {
     std::str::from_utf8(word).ok()?.parse().ok()
 }
 
-fn parse(line: &[u8]) -> Option<Line> {
+pub fn parse(line: &[u8]) -> Option<Line> {
     if line.is_empty() || line.len() > 80 {
         return None;
     }
     let mut words = line.split(|&b| b == b' ');
     let head = words.next()?;
-    let numbers: Option<Vec<u64>> = words.map(number).collect();
-    let n = numbers?;
-    if head == b"store" {
-        return n.try_into().ok().map(Line::Store);
+    let numbers: Vec<u32> = words.map(number).collect::<Option<_>>()?;
+    match *head {
+        [letter] => call_of(letter, &numbers).map(Line::Call),
+        _ if head == b"store" => numbers.try_into().ok().map(Line::Store),
+        _ => None,
     }
-    let call = match (head, n.as_slice()) {
-        (b"B", []) => Call::Begin,
-        (b"W", &[r, page, kind]) => Call::Write(r, page, kind),
-        (b"E", &[r, page]) => Call::Erase(r, page),
-        (b"S", &[r]) => Call::Seal(r),
-        (b"F", &[r]) => Call::Fork(r),
-        (b"D", &[r]) => Call::Delete(r),
-        (b"R", &[r, page]) => Call::Read(r, page),
-        (b"Y", []) => Call::Barrier,
-        (b"C", []) => Call::Compress,
-        (b"L", []) => Call::FreeList,
-        (b"Q", &[r]) => Call::Estimate(r),
-        _ => return None,
-    };
-    Some(Line::Call(call))
+}
+
+/// The call of a letter that has just these numbers.
+fn call_of(letter: u8, numbers: &[u32]) -> Option<Call> {
+    let mut three = [0; 3];
+    three.get_mut(..numbers.len())?.copy_from_slice(numbers);
+    Call::of(letter, three).filter(|c| c.takes() == numbers.len())
 }
 
 /// The replies to a script.
@@ -49,7 +44,7 @@ pub fn run(text: &[u8]) -> Vec<u8> {
     out
 }
 
-/// The words of the log behind each line of a script, a line each.
+/// The words of the log after each line of a script, a line each.
 pub fn logs(text: &[u8]) -> Vec<u8> {
     let mut out = Vec::new();
     each_reply(text, |store, _, _| {
@@ -59,7 +54,7 @@ pub fn logs(text: &[u8]) -> Vec<u8> {
     out
 }
 
-/// Runs a script; `seen` gets the store behind each line, if there is one, the call and the reply.
+/// Runs a script; `seen` gets the store after each line, if there is one, the call and the reply.
 pub fn each_reply(text: &[u8], mut seen: impl FnMut(Option<&Store>, Option<Call>, &Reply)) {
     let text = &text[..text.len().min(65_536)];
     let mut store: Option<Store> = None;

@@ -1,22 +1,24 @@
 //! The store of the rules, the crude way: a block is freed when it leaves the last page of the last record.
 //! Deadlists are kept only for the order in which a delete gives its blocks, and checked against the crude walk.
-//! A freed block waits in a set that an accepted Y or C empties; behind each accepted call no page may have a block of it.
+//! A freed block waits in a set that an accepted Y or C empties; after each accepted call no page may have a block of it.
+use calls::Call;
 use std::collections::{BTreeMap, BTreeSet};
 
 #[derive(Clone, Copy)]
 pub struct Geometry {
-    pub arenas: u64,
-    pub per: u64,
-    pub pages: u64,
-    pub records: u64,
-    pub turn: u64,
-    pub words: u64,
+    pub arenas: u32,
+    pub per: u32,
+    pub pages: u32,
+    pub records: u32,
+    pub turn: u32,
+    pub words: u32,
 }
 
 impl Geometry {
-    pub fn new(n: [u64; 6]) -> Option<Geometry> {
-        let [arenas, per, pages, records, turn, words] = n;
-        let within = |lo: u64, x: u64, hi: u64| lo <= x && x <= hi;
+    /// A number that does not fit is outside every limit, as the largest that fits is.
+    pub fn new(six: [impl TryInto<u32>; 6]) -> Option<Geometry> {
+        let [arenas, per, pages, records, turn, words] = six.map(|n| n.try_into().unwrap_or(u32::MAX));
+        let within = |lo: u32, x: u32, hi: u32| lo <= x && x <= hi;
         if !within(1, arenas, 16) || !within(1, per, 1024) || arenas * per > 2048 {
             return None;
         }
@@ -29,65 +31,47 @@ impl Geometry {
         Some(Geometry { arenas, per, pages, records, turn, words })
     }
 
-    pub fn blocks(&self) -> u64 {
-        self.arenas * self.per
+    pub fn six(&self) -> [u32; 6] {
+        [self.arenas, self.per, self.pages, self.records, self.turn, self.words]
     }
-}
 
-#[derive(Clone, Copy, Debug, PartialEq)]
-pub enum Call {
-    Begin,
-    Write(u64, u64, u64),
-    Erase(u64, u64),
-    Seal(u64),
-    Fork(u64),
-    Delete(u64),
-    Read(u64, u64),
-    Barrier,
-    Compress,
-    FreeList,
-    Estimate(u64),
-}
-
-impl Call {
-    /// Whether the numbers of a result are blocks, each with its birth behind it.
-    pub fn gives_blocks(&self) -> bool {
-        matches!(self, Call::Write(..) | Call::Erase(..) | Call::Delete(_) | Call::Read(..))
+    pub fn blocks(&self) -> u32 {
+        self.arenas * self.per
     }
 }
 
 pub struct Record {
     pub open: bool,
-    pub pages: Vec<Option<u64>>,
+    pub pages: Vec<Option<u32>>,
     /// shards: by birth, first in first
-    pub dead: BTreeMap<u64, Vec<u64>>,
+    pub dead: BTreeMap<u32, Vec<u32>>,
 }
 
 pub struct Line {
-    pub base: u64,
-    pub records: Vec<u64>,
+    pub base: u32,
+    pub records: Vec<u32>,
 }
 
 pub struct Store {
     pub g: Geometry,
-    pub last: u64,
-    pub records: BTreeMap<u64, Record>,
+    pub last: u32,
+    pub records: BTreeMap<u32, Record>,
     pub lines: Vec<Line>,
     /// of a held block: the number of the record that was open when it was given
-    pub births: BTreeMap<u64, u64>,
+    pub births: BTreeMap<u32, u32>,
     /// the blocks freed since the last accepted Y or C: none of them is given or listed
-    pub waiting: BTreeSet<u64>,
+    pub waiting: BTreeSet<u32>,
     /// the same in the order in which they were freed
-    pub freed: Vec<u64>,
-    pub marks: Vec<u64>,
-    pub counter: u64,
-    pub writes: u64,
+    pub freed: Vec<u32>,
+    pub marks: Vec<u32>,
+    pub counter: u32,
+    pub writes: u32,
     pub log: Vec<u64>,
     /// where the last call was a Q: its record and what it said
-    asked: Option<(u64, Reply)>,
+    asked: Option<(u32, Reply)>,
 }
 
-pub type Reply = Result<Vec<u64>, u32>;
+pub type Reply = Result<Vec<u32>, u32>;
 
 impl Store {
     pub fn new(g: Geometry) -> Store {
@@ -108,15 +92,15 @@ impl Store {
     }
 
     /// The numbers of the records in the store.
-    pub fn numbers(&self) -> Vec<u64> {
+    pub fn numbers(&self) -> Vec<u32> {
         self.records.keys().copied().collect()
     }
 
-    pub fn line_of(&self, r: u64) -> usize {
+    pub fn line_of(&self, r: u32) -> usize {
         self.lines.iter().position(|l| l.records.contains(&r)).expect("a record stands in a line")
     }
 
-    pub fn pred(&self, r: u64) -> u64 {
+    pub fn pred(&self, r: u32) -> u32 {
         let line = &self.lines[self.line_of(r)];
         let at = line.records.iter().position(|&x| x == r).unwrap();
         if at == 0 {
@@ -126,13 +110,13 @@ impl Store {
         }
     }
 
-    fn follower(&self, r: u64) -> Option<u64> {
+    fn follower(&self, r: u32) -> Option<u32> {
         let line = &self.lines[self.line_of(r)];
         let at = line.records.iter().position(|&x| x == r).unwrap();
         line.records.get(at + 1).copied()
     }
 
-    fn on_a_page(&self, b: u64) -> bool {
+    fn on_a_page(&self, b: u32) -> bool {
         self.records.values().any(|r| r.pages.contains(&Some(b)))
     }
 
@@ -143,16 +127,16 @@ impl Store {
         on
     }
 
-    fn may_be_given(&self, b: u64) -> bool {
+    fn may_be_given(&self, b: u32) -> bool {
         !self.births.contains_key(&b) && !self.waiting.contains(&b)
     }
 
-    fn choose(&self, kind: u64) -> Option<(u64, u64)> {
+    fn choose(&self, kind: u32) -> Option<(u32, u32)> {
         let first = (self.counter + kind) % self.g.arenas;
         for i in 0..self.g.arenas {
             let arena = (first + i) % self.g.arenas;
             let mark = self.marks[arena as usize];
-            let free = |o: &u64| self.may_be_given(arena * self.g.per + o);
+            let free = |o: &u32| self.may_be_given(arena * self.g.per + o);
             if let Some(o) = (mark..self.g.per).find(free).or_else(|| (0..mark).find(free)) {
                 return Some((arena, o));
             }
@@ -160,17 +144,17 @@ impl Store {
         None
     }
 
-    pub fn unused(&self) -> u64 {
-        self.g.words - self.log.len() as u64
+    pub fn unused(&self) -> u32 {
+        self.g.words - self.log.len() as u32
     }
 
     /// The block waits from now on. Gives it and the birth that it had.
-    fn free(&mut self, b: u64) -> [u64; 2] {
+    fn free(&mut self, b: u32) -> [u32; 2] {
         assert!(!self.on_a_page(b), "a freed block is on no page");
         let birth = self.births.remove(&b).expect("a freed block was held");
         assert!(self.waiting.insert(b), "a held block does not wait");
         self.freed.push(b);
-        self.log.push(b * 16384 + 2);
+        self.log.push(word(b, 2));
         [b, birth]
     }
 
@@ -194,9 +178,9 @@ impl Store {
     }
 
     /// Would emptying this page free its block? The crude way: no other page of any record has it.
-    fn would_free(&self, r: u64, page: u64) -> Option<u64> {
+    fn would_free(&self, r: u32, page: u32) -> Option<u32> {
         let b = self.records[&r].pages[page as usize]?;
-        let others = self.records.iter().any(|(&n, rec)| rec.pages.iter().enumerate().any(|(x, &p)| p == Some(b) && (n != r || x as u64 != page)));
+        let others = self.records.iter().any(|(&n, rec)| rec.pages.iter().enumerate().any(|(x, &p)| p == Some(b) && (n != r || x as u32 != page)));
         if others {
             None
         } else {
@@ -205,7 +189,7 @@ impl Store {
     }
 
     /// The block has left the page; it is freed, or stands on the deadlist of r, or another line keeps it. Gives a freed block and its birth.
-    fn kill(&mut self, r: u64, b: u64) -> Vec<u64> {
+    fn kill(&mut self, r: u32, b: u32) -> Vec<u32> {
         if !self.on_a_page(b) {
             return self.free(b).to_vec();
         }
@@ -218,7 +202,7 @@ impl Store {
     }
 
     fn room(&self) -> Result<(), u32> {
-        if self.records.len() as u64 >= self.g.records {
+        if self.records.len() as u32 >= self.g.records {
             return Err(11);
         }
         if self.last >= 999_999 {
@@ -227,17 +211,17 @@ impl Store {
         Ok(())
     }
 
-    fn open_record(&mut self, pages: Vec<Option<u64>>) -> u64 {
+    fn open_record(&mut self, pages: Vec<Option<u32>>) -> u32 {
         self.last += 1;
         self.records.insert(self.last, Record { open: true, pages, dead: BTreeMap::new() });
         self.last
     }
 
-    fn open(&self, r: u64) -> Result<bool, u32> {
+    fn open(&self, r: u32) -> Result<bool, u32> {
         self.records.get(&r).map(|x| x.open).ok_or(8)
     }
 
-    /// A call. What a Q said is held to a D of the same record straight behind it.
+    /// A call. What a Q said is held to a D of the same record straight after it.
     pub fn call(&mut self, c: Call) -> Reply {
         let (asked, unused) = (self.asked.take(), self.unused());
         let reply = self.perform(c);
@@ -288,7 +272,7 @@ impl Store {
         }
     }
 
-    fn seal(&mut self, r: u64) -> Reply {
+    fn seal(&mut self, r: u32) -> Reply {
         if !self.open(r)? {
             return Err(9);
         }
@@ -301,7 +285,7 @@ impl Store {
         Ok(vec![n])
     }
 
-    fn fork(&mut self, r: u64) -> Reply {
+    fn fork(&mut self, r: u32) -> Reply {
         if self.open(r)? {
             return Err(9);
         }
@@ -312,7 +296,7 @@ impl Store {
         Ok(vec![n])
     }
 
-    fn write(&mut self, r: u64, page: u64, kind: u64) -> Reply {
+    fn write(&mut self, r: u32, page: u32, kind: u32) -> Reply {
         if page >= self.g.pages {
             return Err(5);
         }
@@ -323,7 +307,7 @@ impl Store {
             return Err(9);
         }
         let (arena, o) = self.choose(kind).ok_or(13u32)?;
-        let frees = self.would_free(r, page).is_some() as u64;
+        let frees = self.would_free(r, page).is_some() as u32;
         if self.unused() < 1 + frees {
             return Err(14);
         }
@@ -335,7 +319,7 @@ impl Store {
             self.counter = (self.counter + 1) % self.g.arenas;
         }
         assert!(self.births.insert(b, r).is_none());
-        self.log.push(b * 16384 + 1);
+        self.log.push(word(b, 1));
         let old = self.records.get_mut(&r).unwrap().pages[page as usize].replace(b);
         let mut given = vec![b, r];
         if let Some(old) = old {
@@ -344,14 +328,14 @@ impl Store {
         Ok(given)
     }
 
-    fn erase(&mut self, r: u64, page: u64) -> Reply {
+    fn erase(&mut self, r: u32, page: u32) -> Reply {
         if page >= self.g.pages {
             return Err(5);
         }
         if !self.open(r)? {
             return Err(9);
         }
-        if self.unused() < self.would_free(r, page).is_some() as u64 {
+        if self.unused() < self.would_free(r, page).is_some() as u32 {
             return Err(14);
         }
         let old = self.records.get_mut(&r).unwrap().pages[page as usize].take();
@@ -359,19 +343,19 @@ impl Store {
     }
 
     /// The blocks that only r has, the crude way.
-    fn only_on(&self, r: u64) -> Vec<u64> {
+    fn only_on(&self, r: u32) -> Vec<u32> {
         let mine = self.records[&r].pages.iter().flatten().copied();
         mine.filter(|b| !self.records.iter().any(|(&n, x)| n != r && x.pages.contains(&Some(*b)))).collect()
     }
 
-    fn delete(&mut self, r: u64) -> Reply {
+    fn delete(&mut self, r: u32) -> Reply {
         self.open(r)?;
         if self.lines.iter().any(|l| l.base == r) {
             return Err(10);
         }
         let p = self.pred(r);
         let follower = self.follower(r);
-        let freed: Vec<u64> = match follower {
+        let freed: Vec<u32> = match follower {
             Some(n) => {
                 let shards = &self.records[&n].dead;
                 shards.range(p + 1..).flat_map(|(_, l)| l.iter().copied()).collect()
@@ -385,7 +369,7 @@ impl Store {
         a.sort();
         b.sort();
         assert_eq!(a, b, "deadlists and the crude walk agree");
-        if self.unused() < freed.len() as u64 {
+        if self.unused() < freed.len() as u32 {
             return Err(14);
         }
         let gone = self.records.remove(&r).unwrap();
@@ -406,24 +390,24 @@ impl Store {
 
     /// Blocks and words the crude way: each block that only r has is a free, and each free a word. Shards: the births above r's pred that blocks on
     /// the deadlist of the record that follows r have.
-    fn estimate(&self, r: u64) -> Reply {
+    fn estimate(&self, r: u32) -> Reply {
         self.open(r)?;
         if self.lines.iter().any(|l| l.base == r) {
             return Err(10);
         }
         let (p, mine) = (self.pred(r), self.only_on(r));
-        let births = |blocks: &[u64]| blocks.iter().map(|b| self.births[b]).filter(|&v| v > p).collect::<BTreeSet<u64>>();
+        let births = |blocks: &[u32]| blocks.iter().map(|b| self.births[b]).filter(|&v| v > p).collect::<BTreeSet<u32>>();
         let shards = self.follower(r).map_or(0, |n| {
-            let dead: Vec<u64> = self.records[&n].dead.values().flatten().copied().collect();
+            let dead: Vec<u32> = self.records[&n].dead.values().flatten().copied().collect();
             assert_eq!(births(&dead), births(&mine), "the shards above the pred are of the blocks that only r has");
             births(&dead).len()
         });
-        Ok([mine.len(), mine.len(), shards].map(|n| n as u64).to_vec())
+        Ok([mine.len(), mine.len(), shards].map(|n| n as u32).to_vec())
     }
 
     /// The longest runs, inside arenas, of the blocks that are meant.
-    fn runs(&self, meant: impl Fn(u64) -> bool) -> Vec<(u64, u64)> {
-        let mut runs: Vec<(u64, u64)> = Vec::new();
+    fn runs(&self, meant: impl Fn(u32) -> bool) -> Vec<(u32, u32)> {
+        let mut runs: Vec<(u32, u32)> = Vec::new();
         for b in (0..self.g.blocks()).filter(|&b| meant(b)) {
             match runs.last_mut() {
                 Some((at, n)) if *at + *n == b && b % self.g.per != 0 => *n += 1,
@@ -433,30 +417,35 @@ impl Store {
         runs
     }
 
-    fn compress(&mut self) -> u64 {
+    fn compress(&mut self) -> u32 {
         self.log.clear();
         self.release();
         for (b, n) in self.runs(|b| self.births.contains_key(&b)) {
             if n == 1 {
-                self.log.push(b * 16384 + 1);
+                self.log.push(word(b, 1));
             } else {
-                self.log.push(b * 16384 + 4);
-                self.log.push(n * 16384);
+                self.log.push(word(b, 4));
+                self.log.push(word(n, 0));
             }
         }
         self.log.push(3);
-        self.log.len() as u64
+        self.log.len() as u32
     }
 }
 
-/// A D straight behind a Q of its record has the Q's refusal, or frees so many blocks, a pair of numbers each, and writes so many words as the Q
+/// A word of the log: a block's address, or the length of a run, and a code.
+fn word(blocks: u32, code: u64) -> u64 {
+    u64::from(blocks) * 16384 + code
+}
+
+/// A D straight after a Q of its record has the Q's refusal, or frees so many blocks, a pair of numbers each, and writes so many words as the Q
 /// said; 14 where so many words were not left.
-fn kept(said: &Reply, reply: &Reply, unused: u64, written: u64) {
-    let done = reply.as_ref().map(|freed| (freed.len() as u64 / 2, written));
+fn kept(said: &Reply, reply: &Reply, unused: u32, written: u32) {
+    let done = reply.as_ref().map(|freed| (freed.len() as u32 / 2, written));
     let expected = match said {
         Err(number) => Err(number),
         Ok(numbers) if unused < numbers[1] => Err(&14),
         Ok(numbers) => Ok((numbers[0], numbers[1])),
     };
-    assert_eq!(done, expected, "D straight behind Q does what Q said");
+    assert_eq!(done, expected, "D straight after Q does what Q said");
 }

@@ -1,28 +1,29 @@
 //! A script in the making: every line is also done by a store, so that the next can depend on it.
-use bench::generate::{line_of, spelled, Dice};
-use bench::store::{Call, Geometry, Store};
+use bench::store::{Geometry, Store};
+use calls::Call;
+use reference::generate::{store_line, Dice};
 
 /// What the runner reads at most.
 pub const LIMIT: usize = 65_536;
 
 pub struct Composed {
     pub dice: Dice,
-    pub six: [u64; 6],
+    pub six: [u32; 6],
     pub store: Box<Store>,
     text: Vec<u8>,
     pub full: bool,
 }
 
 impl Composed {
-    pub fn new(mut dice: Dice, six: [u64; 6]) -> Composed {
+    pub fn new(mut dice: Dice, six: [u32; 6]) -> Composed {
         dice.below(2);
         let store = Box::new(Store::new(Geometry::new(six).expect("inside the limits")));
-        Composed { dice, six, store, text: line_of("store", &six).into_bytes(), full: false }
+        Composed { dice, six, store, text: store_line(&six).into_bytes(), full: false }
     }
 
     /// Adds a call; once there is no room for it, the script is full and stays as it is.
     pub fn call(&mut self, c: Call) {
-        let line = spelled(c);
+        let line = c.to_string();
         self.full |= self.text.len() + 1 + line.len() > LIMIT;
         if !self.full {
             self.text.push(b'\n');
@@ -46,28 +47,32 @@ impl Composed {
         }
     }
 
-    pub fn newest(&self) -> u64 {
-        self.store.last as u64
+    pub fn newest(&self) -> u32 {
+        self.store.last
     }
 
     /// A record in the store that is open, or one that is sealed; 0 if there is none.
-    pub fn any(&mut self, open: bool) -> u64 {
-        let all: Vec<u64> = self.store.numbers().into_iter().filter(|&n| self.store.is_open(n) == open).collect();
-        if all.is_empty() { 0 } else { all[self.dice.below(all.len() as u64) as usize] }
+    pub fn any(&mut self, open: bool) -> u32 {
+        let all: Vec<u32> = self.store.numbers().into_iter().filter(|&n| self.store.is_open(n) == open).collect();
+        if all.is_empty() {
+            0
+        } else {
+            self.dice.one_of(&all)
+        }
     }
 
-    pub fn write(&mut self, r: u64, page: u64) {
+    pub fn write(&mut self, r: u32, page: u32) {
         let kind = self.dice.below(3);
         self.call(Call::Write(r, page, kind));
     }
 
-    pub fn write_any(&mut self, r: u64) {
+    pub fn write_any(&mut self, r: u32) {
         let page = self.dice.below(self.six[2]);
         self.write(r, page);
     }
 
     /// Writes `count` different pages of a record, in an order of its own.
-    pub fn write_many(&mut self, r: u64, count: u64) {
+    pub fn write_many(&mut self, r: u32, count: u32) {
         let pages = self.six[2];
         let (first, step) = (self.dice.below(pages), 1 + 2 * self.dice.below(8));
         for i in 0..count {

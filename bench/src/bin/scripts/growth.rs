@@ -48,9 +48,9 @@ impl Begun {
         self
     }
 
-    /// With calls behind them, made from `count` numbers of records from the open one on, and a barrier behind every so many.
+    /// With calls after them, made from `count` numbers of records from the open one on, and a barrier after every so many.
     fn with(&self, count: usize, unit: impl Fn(usize) -> String) -> String {
-        let barrier = |i: usize| if i % BETWEEN == 0 { "Y\n" } else { "" };
+        let barrier = |i: usize| if i.is_multiple_of(BETWEEN) { "Y\n" } else { "" };
         let calls: String = (1..=count).map(|i| unit(self.r + i - 1) + barrier(i)).collect();
         format!("{}{calls}", self.text)
     }

@@ -1,7 +1,7 @@
 //! Scripts of several kinds, each as near to 65,536 bytes as whole lines allow.
 use crate::composed::{Composed, LIMIT};
-use bench::generate::{call, geometry, record, script, Dice};
-use bench::store::Call;
+use calls::Call;
+use reference::generate::{call, geometry, record, script, Dice};
 
 const PER_KIND: u64 = 6;
 
@@ -10,22 +10,26 @@ pub struct Kind {
     pub scripts: Vec<Vec<u8>>,
 }
 
-fn small(d: &mut Dice) -> [u64; 6] {
+fn small(d: &mut Dice) -> [u32; 6] {
     let (arenas, per) = (1 + d.below(4), 1 + d.below(12));
     [arenas, per, 1 + d.below(6), 1 + d.below(12), 1 + d.below(5), 2 * arenas * per + 2 + d.below(60)]
 }
 
-fn largest(d: &mut Dice) -> [u64; 6] {
+fn largest(d: &mut Dice) -> [u32; 6] {
     let (arenas, per) = if d.below(2) == 0 { (16, 128) } else { (2, 1024) };
     [arenas, per, 256, 64, 1 + d.below(64), 8192]
 }
 
-fn any(d: &mut Dice) -> [u64; 6] {
-    if d.below(2) == 0 { largest(d) } else { geometry(d) }
+fn any(d: &mut Dice) -> [u32; 6] {
+    if d.below(2) == 0 {
+        largest(d)
+    } else {
+        geometry(d)
+    }
 }
 
 /// A store of a shape, and calls until the script is full.
-fn composed(seed: u64, shape: fn(&mut Dice) -> [u64; 6], begin: fn(&mut Composed), go_on: fn(&mut Composed)) -> Vec<u8> {
+fn composed(seed: u64, shape: fn(&mut Dice) -> [u32; 6], begin: fn(&mut Composed), go_on: fn(&mut Composed)) -> Vec<u8> {
     let mut d = Dice::new(seed);
     let six = shape(&mut d);
     let mut c = Composed::new(d, six);
@@ -44,7 +48,7 @@ fn random(c: &mut Composed) {
     let grow = c.dice.below(2) == 0;
     for _ in 0..1 + c.dice.below(400) {
         c.release(1);
-        let next = call(&mut c.dice, &c.six, &c.store, grow);
+        let next = call(&mut c.dice, &c.six, &c.store.numbers(), grow);
         c.call(next);
     }
 }
@@ -52,9 +56,9 @@ fn random(c: &mut Composed) {
 fn deletes(c: &mut Composed) {
     c.release(1);
     let next = match c.dice.below(10) {
-        0..=2 => Call::Delete(record(&mut c.dice, &c.store)),
-        3..=4 => Call::Seal(record(&mut c.dice, &c.store)),
-        _ => call(&mut c.dice, &c.six, &c.store, false),
+        0..=2 => Call::Delete(record(&mut c.dice, &c.store.numbers())),
+        3..=4 => Call::Seal(record(&mut c.dice, &c.store.numbers())),
+        _ => call(&mut c.dice, &c.six, &c.store.numbers(), false),
     };
     c.call(next);
 }
@@ -62,8 +66,8 @@ fn deletes(c: &mut Composed) {
 fn reads(c: &mut Composed) {
     c.release(1);
     let next = match c.dice.below(10) {
-        0..=7 => Call::Read(record(&mut c.dice, &c.store), c.dice.below(c.six[2])),
-        _ => call(&mut c.dice, &c.six, &c.store, true),
+        0..=7 => Call::Read(record(&mut c.dice, &c.store.numbers()), c.dice.below(c.six[2])),
+        _ => call(&mut c.dice, &c.six, &c.store.numbers(), true),
     };
     c.call(next);
 }
@@ -76,7 +80,7 @@ fn written(c: &mut Composed) {
 }
 
 /// A line of eight records, each with its own block on every page: the newest is sealed and rewritten, the oldest goes. They have all 2,048 blocks, so
-/// that the next one's are those that the delete freed: a barrier behind each delete.
+/// that the next one's are those that the delete freed: a barrier after each delete.
 fn listed(c: &mut Composed) {
     let all = c.store.numbers();
     if all.len() == 8 {
@@ -113,7 +117,7 @@ fn forks(c: &mut Composed) {
     match c.dice.below(3) {
         _ if all.is_empty() => c.call(Call::Begin),
         _ if all.len() == 64 => {
-            let r = all[c.dice.below(64) as usize];
+            let r = c.dice.one_of(&all);
             c.call(Call::Delete(r));
         }
         0 => {
@@ -144,7 +148,7 @@ fn wide_deletes(c: &mut Composed) {
     c.room(1024);
     c.release(32);
     let r = c.any(true);
-    let count = [1, 4, 32][c.dice.below(3) as usize];
+    let count = c.dice.one_of(&[1, 4, 32]);
     if c.dice.below(2) == 0 {
         c.call(Call::Seal(r));
         let next = c.newest();
@@ -194,7 +198,7 @@ fn far(c: &mut Composed) {
     c.write(r, page);
 }
 
-/// The generator's own scripts, one behind another, cut behind a whole line.
+/// The generator's own scripts, one after another, cut after a whole line.
 fn joined(seed: u64) -> Vec<u8> {
     let mut text: Vec<u8> = Vec::new();
     let mut part = 1000 * seed;

@@ -95,7 +95,8 @@ fn legend(svg: &mut String, y: f64) {
 
 pub fn svg(panels: [(&str, &[Point]); 3]) -> String {
     let (width, height) = (3.0 * (WIDTH + LEFT + 20.0), TOP + HEIGHT + 110.0);
-    let mut svg = format!("<svg xmlns=\"http://www.w3.org/2000/svg\" viewBox=\"0 0 {width} {height}\" font-family=\"sans-serif\" font-size=\"13\">\n");
+    let mut svg =
+        format!("<svg xmlns=\"http://www.w3.org/2000/svg\" viewBox=\"0 0 {width} {height}\" font-family=\"sans-serif\" font-size=\"13\">\n");
     writeln!(svg, "<rect width=\"{width}\" height=\"{height}\" fill=\"#fff\"/>").unwrap();
     for (i, (label, points)) in panels.into_iter().enumerate() {
         panel(&mut svg, LEFT + i as f64 * (WIDTH + LEFT + 16.0), label, points);

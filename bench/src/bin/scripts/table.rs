@@ -38,9 +38,9 @@ pub fn report() {
     let mut ratios = Vec::new();
     let mut rest = &scripts[..];
     for kind in &kinds {
-        let (first, behind) = rest.split_at(kind.scripts.len());
+        let (first, others) = rest.split_at(kind.scripts.len());
         ratios.push((kind.name, row(kind.name, first)));
-        rest = behind;
+        rest = others;
     }
     row("all", &scripts);
     println!("\n{}", verdict(&ratios));

@@ -1,7 +1,8 @@
 //! Stores for a stranger's call, made by calls of the library. The unproved store does each call too, and the results are compared.
 use crate::library::Lent;
-use bench::generate::Dice;
-use bench::store::{Call, Geometry, Store};
+use bench::store::{Geometry, Store};
+use calls::Call;
+use reference::generate::Dice;
 
 pub struct Filled {
     pub lent: Lent,
@@ -9,20 +10,20 @@ pub struct Filled {
 }
 
 impl Filled {
-    fn new(six: [u64; 6]) -> Filled {
+    fn new(six: [u32; 6]) -> Filled {
         let store = Box::new(Store::new(Geometry::new(six).expect("inside the limits")));
-        Filled { lent: Lent::new(six.map(|n| n as usize)), store }
+        Filled { lent: Lent::new(six), store }
     }
 
     fn call(&mut self, c: Call) {
         let reply = self.store.call(c);
         let expected = self.store.result(reply);
-        let given = self.lent.call(c).map(|count| self.lent.out[..count].to_vec());
+        let given = self.lent.call(c).map(|count| self.lent.space.out[..count].to_vec());
         assert!(given == expected, "the library answers {given:?}, the unproved store {expected:?}");
     }
 
-    fn newest(&self) -> u64 {
-        self.store.last as u64
+    fn newest(&self) -> u32 {
+        self.store.last
     }
 
     /// A barrier where no block is left to give but those that wait: a store is to be as full as calls can make it.
@@ -33,8 +34,8 @@ impl Filled {
     }
 
     /// Blocks given to different pages of the newest record.
-    fn rewrite(&mut self, d: &mut Dice, count: u64) {
-        let (r, pages) = (self.newest(), self.store.g.pages as u64);
+    fn rewrite(&mut self, d: &mut Dice, count: u32) {
+        let (r, pages) = (self.newest(), self.store.g.pages as u32);
         let first = d.below(pages);
         for i in 0..count.min(pages) {
             self.release();
@@ -43,7 +44,7 @@ impl Filled {
     }
 
     /// A line of `len` records: each rewrites some pages, all but the last are sealed.
-    fn line(&mut self, d: &mut Dice, len: u64, rewritten: u64) {
+    fn line(&mut self, d: &mut Dice, len: u32, rewritten: u32) {
         for i in 1..=len {
             self.rewrite(d, rewritten);
             if i < len {
@@ -61,7 +62,7 @@ impl Filled {
             self.call(Call::Erase(r, page));
             self.release();
             self.call(Call::Write(r, page, 0));
-            page = (page + 1) % self.store.g.pages as u64;
+            page = (page + 1) % self.store.g.pages as u32;
         }
         while self.store.unused() > 0 {
             self.call(Call::Barrier);
@@ -71,7 +72,7 @@ impl Filled {
 
 /// Lines of at most eight records, the first with all pages, each other a fork of a record in the middle of an earlier one; then all pages of the
 /// newest record are written, as long as blocks are free. The log is full, or compressed.
-pub fn filled(six: [u64; 6], records: u64, rewritten: u64, long_log: bool) -> Filled {
+pub fn filled(six: [u32; 6], records: u32, rewritten: u32, long_log: bool) -> Filled {
     let mut f = Filled::new(six);
     let mut d = Dice::new(5);
     f.call(Call::Begin);
@@ -84,12 +85,16 @@ pub fn filled(six: [u64; 6], records: u64, rewritten: u64, long_log: bool) -> Fi
         f.line(&mut d, len, rewritten);
     }
     f.rewrite(&mut d, 256);
-    if long_log { f.churn() } else { f.call(Call::Compress) }
+    if long_log {
+        f.churn()
+    } else {
+        f.call(Call::Compress)
+    }
     f
 }
 
 /// A store in which every block waits: all were given, to eight records, and the records are deleted.
-pub fn waiting(six: [u64; 6]) -> Filled {
+pub fn waiting(six: [u32; 6]) -> Filled {
     let mut f = Filled::new(six);
     let mut d = Dice::new(7);
     for _ in 0..8 {
@@ -102,13 +107,13 @@ pub fn waiting(six: [u64; 6]) -> Filled {
 }
 
 /// A store with nothing held whose log gives and frees runs of a whole arena, again and again: the most work that a log of its length can ask for.
-pub fn hostile(six: [u64; 6]) -> Filled {
+pub fn hostile(six: [u32; 6]) -> Filled {
     let mut f = Filled::new(six);
     while f.store.unused() > 0 {
         f.call(Call::Barrier);
     }
-    let run = six[1] << 14;
-    for (i, entry) in f.lent.log.chunks_exact_mut(16).enumerate() {
+    let run = u64::from(six[1]) << 14;
+    for (i, entry) in f.lent.space.log.chunks_exact_mut(16).enumerate() {
         let code = 4 + i as u64 % 2;
         entry[..8].copy_from_slice(&code.to_be_bytes());
         entry[8..].copy_from_slice(&run.to_be_bytes());

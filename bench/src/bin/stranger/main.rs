@@ -4,7 +4,7 @@ mod library;
 mod reads;
 
 use bench::clock::seconds;
-use bench::store::Call;
+use calls::Call;
 use filled::{filled, hostile, waiting, Filled};
 use reads::{read, sum};
 
@@ -12,10 +12,10 @@ const ROUNDS: usize = 300;
 /// How often in a row, so that all that is read is near by.
 const IN_A_ROW: usize = 10;
 const MOST: f64 = 4.0;
-const LARGEST: [u64; 6] = [16, 128, 256, 64, 8, 8192];
-const MIDDLE: [u64; 6] = [4, 128, 64, 16, 8, 2048];
-const SMALL: [u64; 6] = [1, 32, 16, 4, 8, 128];
-const TWO: [u64; 6] = [2, 1024, 256, 64, 8, 8192];
+const LARGEST: [u32; 6] = [16, 128, 256, 64, 8, 8192];
+const MIDDLE: [u32; 6] = [4, 128, 64, 16, 8, 2048];
+const SMALL: [u32; 6] = [1, 32, 16, 4, 8, 128];
+const TWO: [u32; 6] = [2, 1024, 256, 64, 8, 8192];
 
 /// A store, and the least times of the call and of the two reads, in seconds.
 struct Case {
@@ -37,8 +37,8 @@ impl Case {
         self.call = self.call.min(seconds(|| answer = lent.call(Call::Read(1, 3))));
         let sound = answer.is_ok() || answer == Err(8) && self.store.store.numbers().is_empty();
         assert!(sound, "a call on a sound store is refused: {answer:?}");
-        self.read = self.read.min(seconds(|| read(lent, used)));
-        self.sum = self.sum.min(seconds(|| sum(lent, used)));
+        self.read = self.read.min(seconds(|| read(&lent.space, used)));
+        self.sum = self.sum.min(seconds(|| sum(&lent.space, used)));
     }
 
     fn ratio(&self) -> f64 {
@@ -49,12 +49,19 @@ impl Case {
         let store = &self.store.store;
         let waits = store.waiting_blocks();
         let held = store.g.blocks() - store.free_blocks() - waits;
-        let lent = &self.store.lent;
-        let bytes = 4 * (lent.tables.len() + lent.out.len()) + 8 * store.used;
+        let space = &self.store.lent.space;
+        let bytes = 4 * (space.tables.len() + space.out.len()) + 8 * store.used;
         println!(
             "| {} | {} | {held} | {} | {waits} | {} | {bytes} | {:.1} | {:.1} | {:.1} | {:.1} | {:.1} |",
-            self.name, store.numbers().len(), store.dead_blocks(), store.used, self.ratio(), self.call / self.sum,
-            1e6 * self.call, 1e6 * self.read, 1e6 * self.sum
+            self.name,
+            store.numbers().len(),
+            store.dead_blocks(),
+            store.used,
+            self.ratio(),
+            self.call / self.sum,
+            1e6 * self.call,
+            1e6 * self.read,
+            1e6 * self.sum
         );
     }
 }
@@ -83,7 +90,9 @@ fn main() {
     for _ in 0..ROUNDS {
         cases.iter_mut().for_each(|c| (0..IN_A_ROW).for_each(|_| c.round()));
     }
-    println!("| made for | records | held blocks | dead blocks | waiting | log words | bytes | call / read | call / sum | call, µs | read, µs | sum, µs |");
+    println!(
+        "| made for | records | held blocks | dead blocks | waiting | log words | bytes | call / read | call / sum | call, µs | read, µs | sum, µs |"
+    );
     println!("|---|---|---|---|---|---|---|---|---|---|---|---|");
     cases.iter().for_each(Case::row);
     let met = cases.iter().filter(|c| c.ratio() <= MOST).count();

@@ -1,13 +1,13 @@
 //! Plain reads of all that a store's numbers need: the tables, the result buffer and the used words of the log.
-use crate::library::Lent;
+use sogvect::Space;
 
 /// The sum of all 32-bit numbers, modulo 2^32.
 #[inline(never)]
-pub fn read(lent: &Lent, used: usize) -> u32 {
+pub fn read(space: &Space, used: usize) -> u32 {
     let mut sums = [0u32; 16];
-    add(&mut sums, &lent.tables);
-    add(&mut sums, &lent.out);
-    for part in lent.log[..8 * used].as_chunks::<64>().0 {
+    add(&mut sums, &space.tables);
+    add(&mut sums, &space.out);
+    for part in space.log[..8 * used].as_chunks::<64>().0 {
         for (sum, n) in sums.iter_mut().zip(part.as_chunks::<4>().0) {
             *sum = sum.wrapping_add(u32::from_ne_bytes(*n));
         }
@@ -26,9 +26,9 @@ fn add(sums: &mut [u32; 16], numbers: &[u32]) {
 
 /// The sum of all numbers and of the log's 8-byte words, in 64 bits.
 #[inline(never)]
-pub fn sum(lent: &Lent, used: usize) -> u64 {
-    let words = lent.log[..8 * used].as_chunks::<8>().0.iter().map(|w| u64::from_ne_bytes(*w));
-    words.fold(total(&lent.tables) + total(&lent.out), u64::wrapping_add)
+pub fn sum(space: &Space, used: usize) -> u64 {
+    let words = space.log[..8 * used].as_chunks::<8>().0.iter().map(|w| u64::from_ne_bytes(*w));
+    words.fold(total(&space.tables) + total(&space.out), u64::wrapping_add)
 }
 
 fn total(numbers: &[u32]) -> u64 {

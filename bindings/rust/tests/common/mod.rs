@@ -1,6 +1,7 @@
-//! What the tests share: memory full of marks, calls by number, numbers at random.
+//! What the tests share: memory full of marks, calls by number, stored scripts, numbers at random.
 #![allow(dead_code)]
-use sogvect::{raw, Block, Call, Geometry, Kind, Record, Refusal, Space, Store};
+use sogvect::{raw, Block, Call, Geometry, Kind, Record, Refusal, Space, Store, SCRIPT_LOG, SCRIPT_OUT, SCRIPT_TABLES};
+use std::fs::{read, read_to_string};
 
 /// What marks bytes that no call may change.
 pub const MARK: u8 = 0xa5;
@@ -9,6 +10,16 @@ pub const MARKS: u32 = 0xa5a5_a5a5;
 /// Memory of exactly the least lengths, full of marks.
 pub fn marked(g: Geometry) -> Space {
     Space { tables: vec![MARKS; g.tables_len()], log: vec![MARK; g.log_len()], out: vec![MARKS; g.out_len()] }
+}
+
+/// Memory that is long enough for every geometry, full of marks.
+pub fn marked_for_any() -> Space {
+    Space { tables: vec![MARKS; SCRIPT_TABLES], log: vec![MARK; SCRIPT_LOG], out: vec![MARKS; SCRIPT_OUT] }
+}
+
+pub fn geometry(six: [usize; 6]) -> Geometry {
+    let [arenas, per, pages, records, turn, words] = six;
+    Geometry { arenas, per, pages, records, turn, words }
 }
 
 /// A fresh store.
@@ -46,8 +57,7 @@ impl Tested for Space {
 
 /// Each call once, on a record and a page.
 pub fn every_call(n: u32, page: u32) -> [Call; 11] {
-    use Call::*;
-    [Begin, Write(n, page, 1), Erase(n, page), Seal(n), Fork(n), Delete(n), Read(n, page), Barrier, Compress, FreeList, Estimate(n)]
+    Call::LETTERS.map(|letter| Call::of(letter, [n, page, 1]).expect("the letter of a call"))
 }
 
 /// The numbers of blocks: two each.
@@ -151,6 +161,38 @@ pub fn small() -> Space {
         numbers(s, call).unwrap_or_else(|e| panic!("{call:?}: {e}"));
     }
     m
+}
+
+/// A script that the gate runs, as far as the runner reads it, with the replies that it expects.
+pub struct Stored {
+    pub name: String,
+    pub text: Vec<u8>,
+    pub replies: String,
+}
+
+impl Stored {
+    /// The lines; the last one may have no line feed.
+    pub fn lines(&self) -> impl Iterator<Item = &[u8]> {
+        self.text.split_inclusive(|&b| b == b'\n').map(|line| line.strip_suffix(b"\n").unwrap_or(line))
+    }
+}
+
+/// All of them: crates/vectors has the scripts, and their names and replies in one file.
+pub fn stored() -> Vec<Stored> {
+    let folder = concat!(env!("CARGO_MANIFEST_DIR"), "/../../crates/vectors");
+    let mut all: Vec<Stored> = Vec::new();
+    for line in read_to_string(format!("{folder}/stdout")).expect("the expected replies").lines() {
+        if let Some(name) = line.strip_suffix(".script") {
+            let mut text = read(format!("{folder}/data/{line}")).expect("a script");
+            text.truncate(65_536);
+            all.push(Stored { name: name.into(), text, replies: String::new() });
+        } else {
+            let replies = &mut all.last_mut().expect("a name comes first").replies;
+            replies.push_str(line);
+            replies.push('\n');
+        }
+    }
+    all
 }
 
 /// Numbers at random, the same in every run.
