@@ -1,6 +1,10 @@
-//! Every call on valid memory: the listing (section 11 of the rules), longer scripts, and arguments that would show a wrong declaration.
+//! Every call on valid memory: the listing (section 11 of the rules), stored scripts, and arguments that would show a wrong declaration.
 mod common;
-use common::{bare, bare_letter, every_call, made, marked, numbers, refused, small, Tested, MARK, MARKS, SMALL};
+use common::{
+    bare, bare_letter, every_call, geometry, made, marked, marked_for_any, numbers, refused, small, stored, Stored, Tested, MARK, MARKS, SMALL,
+};
+use reference::generate;
+use reference::script::{parse, Line};
 use sogvect::{raw, Block, Call, Estimate, Geometry, Kind, Record, Refusal, Space, Store, Written};
 
 const fn block(number: u32, birth: u32) -> Block {
@@ -68,93 +72,58 @@ fn births() {
     assert_eq!(block(2047, 999_999).to_string(), "2047:999999");
 }
 
-/// A script line as the call it spells, if it spells one.
-fn parsed(line: &str) -> Option<Call> {
-    let mut parts = line.split(' ');
-    let letter = parts.next()?;
-    let n: Vec<u32> = parts.map(|p| p.parse().ok()).collect::<Option<_>>()?;
-    Some(match (letter, n.len()) {
-        ("B", 0) => Call::Begin,
-        ("W", 3) => Call::Write(n[0], n[1], n[2]),
-        ("E", 2) => Call::Erase(n[0], n[1]),
-        ("S", 1) => Call::Seal(n[0]),
-        ("F", 1) => Call::Fork(n[0]),
-        ("D", 1) => Call::Delete(n[0]),
-        ("R", 2) => Call::Read(n[0], n[1]),
-        ("Y", 0) => Call::Barrier,
-        ("C", 0) => Call::Compress,
-        ("L", 0) => Call::FreeList,
-        ("Q", 1) => Call::Estimate(n[0]),
-        _ => return None,
-    })
-}
-
-fn geometry_of(line: &str) -> Geometry {
-    let n: Vec<usize> = line.split(' ').skip(1).map(|p| p.parse().unwrap()).collect();
-    Geometry { arenas: n[0], per: n[1], pages: n[2], records: n[3], turn: n[4], words: n[5] }
-}
-
-/// A reply as a line; of blocks each second number is a birth.
-fn spelled(reply: Result<Vec<u32>, Refusal>, are_blocks: bool) -> String {
+/// The numbers of a result as text; of blocks each second number is a birth.
+fn spelled(numbers: &[u32], are_blocks: bool) -> String {
     let separator = |i: usize| if are_blocks && i % 2 == 1 { ':' } else { ' ' };
-    match reply {
-        Ok(numbers) => numbers.iter().enumerate().fold(String::from("+"), |text, (i, n)| format!("{text}{}{n}", separator(i))),
-        Err(refusal) => format!("- {}", refusal.number()),
+    numbers.iter().enumerate().map(|(i, n)| format!("{}{n}", separator(i))).collect()
+}
+
+/// A stored script by the typed functions: each reply is the stored one.
+fn run(script: &Stored) {
+    let (mut space, mut g) = (marked_for_any(), None);
+    let mut replies = script.replies.lines();
+    for (i, line) in script.lines().enumerate() {
+        let reply = match (parse(line), g) {
+            (None, _) => Err(1),
+            (Some(Line::Store(six)), _) => {
+                let asked = geometry(six.map(|n| n as usize));
+                let made = space.make(asked);
+                g = made.map(|()| asked).ok().or(g);
+                made.map(|()| String::new()).map_err(Refusal::number)
+            }
+            (Some(Line::Call(_)), None) => Err(4),
+            (Some(Line::Call(call)), Some(g)) => {
+                let given = numbers(&mut space.store(g), call).map_err(Refusal::number);
+                given.map(|numbers| spelled(&numbers, call.gives_blocks()))
+            }
+        };
+        let reply = reply.map_or_else(|number| format!("- {number}"), |result| format!("+{result}"));
+        assert_eq!(Some(reply.as_str()), replies.next(), "{}, line {}", script.name, i + 1);
     }
+    assert_eq!(replies.next(), None, "{}", script.name);
 }
 
-/// Runs a script on memory for any geometry and compares each reply, and the log after each line where it is given. Lines that are no call are passed over.
-fn script(text: &str, replies: &str, logs: Option<&str>) {
-    let mut space = Space { tables: vec![MARKS; 43_008], log: vec![MARK; 65_536], out: vec![MARKS; 4_160] };
-    let mut g = None;
-    let mut logs = logs.map(str::lines);
-    let mut made = 0;
-    for (i, (line, reply)) in text.lines().zip(replies.lines()).enumerate() {
-        let words = logs.as_mut().map(|l| l.next().expect("a log for each line"));
-        if reply == "- 1" {
-            continue;
-        }
-        if line.starts_with("store ") {
-            let asked = geometry_of(line);
-            assert_eq!(spelled(space.make(asked).map(|()| vec![]), false), reply, "line {i}: {line}");
-            g = if reply == "+" { Some(asked) } else { g };
-        } else {
-            let call = parsed(line).expect("a call");
-            assert_eq!(call.to_string(), line);
-            let Some(g) = g else {
-                assert_eq!(reply, "- 4", "line {i}: {line}: there is no store yet");
-                continue;
-            };
-            assert_eq!(spelled(numbers(&mut space.store(g), call), call.gives_blocks()), reply, "line {i}: {line}");
-        }
-        made += 1;
-        if let Some(words) = words {
-            let found: Vec<String> = space.words().iter().map(|w| format!("{w:x}")).collect();
-            assert_eq!(found.join(" "), words, "the log after line {i}: {line}");
+#[test]
+fn stored_scripts() {
+    stored().iter().for_each(run);
+}
+
+/// A line is the call that `tests/reference` takes it for, or none; and a call's line is the one that it is read from.
+#[test]
+fn lines() {
+    let mut calls = 0;
+    for text in stored().into_iter().map(|script| script.text).chain((1..=30).map(generate::script)) {
+        for line in text.split(|&b| b == b'\n') {
+            let expected = if let Some(Line::Call(call)) = parse(line) { Some(call) } else { None };
+            let call = std::str::from_utf8(line).ok().and_then(|line| line.parse::<Call>().ok());
+            assert_eq!(call, expected, "{}", String::from_utf8_lossy(line));
+            if let Some(call) = call {
+                assert_eq!(call.to_string().as_bytes(), line);
+                calls += 1;
+            }
         }
     }
-    assert!(made > 90, "only {made} calls were made");
-}
-
-macro_rules! scripts {
-    ($($name:ident $(with $log:literal)?;)*) => {
-        $(#[test]
-        fn $name() {
-            let logs = [$(include_str!(concat!("data/", $log)))?];
-            // what is no text is no call
-            let text = String::from_utf8_lossy(include_bytes!(concat!("data/", stringify!($name), ".script")));
-            script(&text, include_str!(concat!("data/", stringify!($name), ".replies")), logs.first().copied());
-        })*
-    };
-}
-
-scripts! {
-    forks with "forks.log";
-    mix with "mix.log";
-    compress with "compress.log";
-    shards;
-    deep;
-    macros;
+    assert!(calls > 10_000, "only {calls} calls");
 }
 
 /// An estimate says what the delete then does, and changes nothing but its three numbers in the result buffer: blocks and words are one number, shards
@@ -206,24 +175,25 @@ fn estimates() {
 fn six_numbers_in_order() {
     let mut m = small();
     assert_eq!(m.tables[..6], [2, 3, 5, 6, 7, 20]);
-    let six = |n: [usize; 6]| Geometry { arenas: n[0], per: n[1], pages: n[2], records: n[3], turn: n[4], words: n[5] };
     let mut long = m.clone();
-    (long.tables.resize(40_000, 0), long.log.resize(70_000, 0), long.out.resize(5_000, 0));
+    long.tables.resize(40_000, 0);
+    long.log.resize(70_000, 0);
+    long.out.resize(5_000, 0);
     for i in 0..6 {
         for j in 0..i {
             let mut n = [2, 3, 5, 6, 7, 20];
             n.swap(i, j);
-            let inside = long.clone().make(six(n)).is_ok();
+            let inside = long.clone().make(geometry(n)).is_ok();
             for call in every_call(1, 0) {
-                refused(&mut long, six(n), call, if inside { 4 } else { 2 });
+                refused(&mut long, geometry(n), call, if inside { 4 } else { 2 });
             }
         }
         let mut n = [2, 3, 5, 6, 7, 20];
         n[i] += 1 << 32;
         for call in every_call(1, 0) {
-            refused(&mut m, six(n), call, 2);
+            refused(&mut m, geometry(n), call, 2);
         }
-        assert_eq!(m.make(six(n)), Err(Refusal::OUTSIDE_LIMITS));
+        assert_eq!(m.make(geometry(n)), Err(Refusal::OUTSIDE_LIMITS));
     }
 }
 
@@ -321,7 +291,9 @@ fn count_and_buffer() {
 fn beyond_stays() {
     let mut m = marked(SMALL);
     let ends = (m.tables.len(), m.log.len(), m.out.len());
-    (m.tables.resize(ends.0 + 50, MARKS), m.log.resize(ends.1 + 50, MARK), m.out.resize(ends.2 + 50, MARKS));
+    m.tables.resize(ends.0 + 50, MARKS);
+    m.log.resize(ends.1 + 50, MARK);
+    m.out.resize(ends.2 + 50, MARKS);
     m.make(SMALL).unwrap();
     for call in [
         Call::Begin,

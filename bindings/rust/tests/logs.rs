@@ -63,9 +63,9 @@ fn every_word() {
     assert_eq!(log_compare(SMALL, &open, &bytes(&[1])), Ok(false));
     assert_eq!(log_compare(SMALL, &open, &bytes(&[1, BLOCK + 1])), Ok(true));
     assert_eq!(log_compact(SMALL, &open, &mut out), Ok(&bytes(&[4, BLOCK * 2, 3])[..]));
-    let anew = log_compact(SMALL, &bytes(&[BLOCK + 1]), &mut out).map(<[u8]>::to_vec);
-    assert_eq!(anew, Ok(bytes(&[BLOCK + 1, 3])));
-    assert_eq!(read(&anew.unwrap()), Ok(vec![1]));
+    let again = log_compact(SMALL, &bytes(&[BLOCK + 1]), &mut out).map(<[u8]>::to_vec);
+    assert_eq!(again, Ok(bytes(&[BLOCK + 1, 3])));
+    assert_eq!(read(&again.unwrap()), Ok(vec![1]));
 }
 
 #[test]
@@ -184,58 +184,37 @@ fn geometry_and_buffer() {
     assert_eq!(log_read(other, &run, &mut out), Err(Refusal::NO_LOG));
 }
 
+/// Reading on the bare function, with the second number as its count.
+fn bare_read(log: &[u8], out: &mut [u32], counts: &mut [usize; 3]) -> u32 {
+    let (g, count) = (SMALL, &mut counts[1]);
+    let (from, to) = (log.as_ptr(), out.as_mut_ptr());
+    // SAFETY: a shared slice, an exclusive one and a count.
+    unsafe { raw::sogvect_log_read(g.arenas, g.per, g.pages, g.records, g.turn, g.words, from, log.len(), to, out.len(), count) }
+}
+
+/// A comparison on the bare function, with the second number as its answer.
+fn bare_compare(first: &[u8], second: &[u8], answers: &mut [u32; 3]) -> u32 {
+    let (g, alike) = (SMALL, &mut answers[1]);
+    let (one, other) = (first.as_ptr(), second.as_ptr());
+    // SAFETY: two shared slices and a number.
+    unsafe { raw::sogvect_log_compare(g.arenas, g.per, g.pages, g.records, g.turn, g.words, one, first.len(), other, second.len(), alike) }
+}
+
 /// What the bare functions write: the count and the answer whole and nothing beside them, the result and nothing after it; a refusal writes nothing.
 #[test]
 fn what_is_written() {
-    let g = SMALL;
-    let read = |log: &[u8], out: &mut Vec<u32>, counts: &mut [usize; 3]| {
-        // SAFETY: a shared slice, a vector and a count.
-        unsafe {
-            raw::sogvect_log_read(
-                g.arenas,
-                g.per,
-                g.pages,
-                g.records,
-                g.turn,
-                g.words,
-                log.as_ptr(),
-                log.len(),
-                out.as_mut_ptr(),
-                out.len(),
-                &mut counts[1],
-            )
-        }
-    };
-    let compare = |first: &[u8], second: &[u8], alike: &mut [u32; 3]| {
-        // SAFETY: two shared slices and a number.
-        unsafe {
-            raw::sogvect_log_compare(
-                g.arenas,
-                g.per,
-                g.pages,
-                g.records,
-                g.turn,
-                g.words,
-                first.as_ptr(),
-                first.len(),
-                second.as_ptr(),
-                second.len(),
-                &mut alike[1],
-            )
-        }
-    };
     let (good, bad) = (bytes(&[BLOCK * 3 + 1, BLOCK * 4 + 1, 3]), bytes(&[1, 1, 3]));
     let (mut out, mut counts, mut alike) = (vec![MARKS; SMALL.out_len()], [usize::MAX; 3], [MARKS; 3]);
-    assert_eq!(read(&bad, &mut out, &mut counts), 7);
-    assert_eq!(compare(&good, &bad, &mut alike), 7);
+    assert_eq!(bare_read(&bad, &mut out, &mut counts), 7);
+    assert_eq!(bare_compare(&good, &bad, &mut alike), 7);
     assert_eq!((counts, alike), ([usize::MAX; 3], [MARKS; 3]));
     assert!(out.iter().all(|x| *x == MARKS));
-    assert_eq!(read(&good, &mut out, &mut counts), 0);
+    assert_eq!(bare_read(&good, &mut out, &mut counts), 0);
     assert_eq!(counts, [usize::MAX, 2, usize::MAX]);
     assert_eq!(out[..3], [3, 4, MARKS]);
-    assert_eq!(compare(&good, &good[..8], &mut alike), 0);
+    assert_eq!(bare_compare(&good, &good[..8], &mut alike), 0);
     assert_eq!(alike, [MARKS, 0, MARKS]);
-    assert_eq!(compare(&good, &good, &mut alike), 0);
+    assert_eq!(bare_compare(&good, &good, &mut alike), 0);
     assert_eq!(alike, [MARKS, 1, MARKS]);
 }
 
@@ -252,7 +231,7 @@ fn random_bytes() {
     assert!(refusals > 400, "only {refusals} were refused");
 }
 
-/// Random words, barriers among them, and a few bytes behind: reading takes what a comparison takes of the part up to the last barrier, and gives what
+/// Random words, barriers among them, and a few bytes after them: reading takes what a comparison takes of the part up to the last barrier, and gives what
 /// its compressed log gives.
 #[test]
 fn random_words() {
@@ -269,8 +248,8 @@ fn random_words() {
         assert_eq!(given.as_ref().err(), log_compare(SMALL, part, part).as_ref().err(), "{words:x?}");
         match given {
             Ok(blocks) => {
-                let anew = log_compact(SMALL, part, &mut m.log).unwrap();
-                assert_eq!(read(anew), Ok(blocks), "{words:x?}");
+                let again = log_compact(SMALL, part, &mut m.log).unwrap();
+                assert_eq!(read(again), Ok(blocks), "{words:x?}");
                 taken += 1;
             }
             Err(_) => {

@@ -36,14 +36,15 @@ fn empty() {
 /// Each number just inside its limits is accepted and just outside is refused with 2, on memory that is long enough for all.
 #[test]
 fn limits() {
+    type Change = fn(&mut Geometry, usize);
     let inside = Geometry { arenas: 2, per: 3, pages: 5, records: 4, turn: 7, words: 20 };
     let mut m = Space { tables: vec![7; 43_008], log: vec![7; 65_536], out: vec![7; 4_160] };
-    let with = |change: fn(&mut Geometry, usize), x: usize| {
+    let with = |change: Change, x: usize| {
         let mut g = inside;
         change(&mut g, x);
         g
     };
-    let cases: [(fn(&mut Geometry, usize), [usize; 2], [usize; 3]); 6] = [
+    let cases: [(Change, [usize; 2], [usize; 3]); 6] = [
         (|g, x| g.arenas = x, [1, 3], [0, 17, usize::MAX]),
         (|g, x| (g.per, g.words) = (x, 4_096), [1, 1_024], [0, 1_025, usize::MAX]),
         (|g, x| g.pages = x, [1, 256], [0, 257, usize::MAX]),
@@ -79,10 +80,10 @@ fn limits() {
 fn spare(at: usize) -> bool {
     let births = 2048 + 512 * SMALL.records;
     match at {
-        0..64 => at != WAITING && (10..16).contains(&at) || at >= 16 + SMALL.arenas,
-        64..128 => false,
-        192..512 => at % 64 >= SMALL.records,
-        128..2048 => true,
+        0..=63 => at != WAITING && (10..16).contains(&at) || at >= 16 + SMALL.arenas,
+        64..=127 => false,
+        192..=511 => at % 64 >= SMALL.records,
+        128..=2047 => true,
         // rows of pages and of deadlists; a deadlist has no more blocks than a record has pages
         _ if at < births => at % 256 >= SMALL.pages,
         // births, two spare numbers for each block, the waiting list

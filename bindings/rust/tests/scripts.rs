@@ -2,26 +2,8 @@
 //! is refused in order and left as it was.
 mod common;
 
-use common::{Random, MARK, MARKS};
+use common::{stored, Random, MARK, MARKS};
 use sogvect::{script_part, Memory, Part, Refusal, Script, SCRIPT_LOG, SCRIPT_OUT, SCRIPT_REPLIES, SCRIPT_RUN, SCRIPT_TABLES};
-use std::fs::{read, read_to_string};
-
-/// The scripts that the gate runs, with the replies that it expects.
-fn stored() -> Vec<(Vec<u8>, Vec<u8>)> {
-    let folder = concat!(env!("CARGO_MANIFEST_DIR"), "/../../crates/vectors");
-    let mut all: Vec<(Vec<u8>, Vec<u8>)> = Vec::new();
-    for line in read_to_string(format!("{folder}/stdout")).expect("the expected replies").lines() {
-        if line.ends_with(".script") {
-            let mut text = read(format!("{folder}/data/{line}")).expect("a script");
-            // what the runner reads
-            text.truncate(65_536);
-            all.push((text, Vec::new()));
-        } else {
-            all.last_mut().expect("a name comes first").1.extend(line.bytes().chain([b'\n']));
-        }
-    }
-    all
-}
 
 fn served(mut script: Script, text: &[u8]) -> Vec<u8> {
     let (mut at, mut replies) = (0, Vec::new());
@@ -35,16 +17,18 @@ fn served(mut script: Script, text: &[u8]) -> Vec<u8> {
 fn replies_are_the_stored_ones() {
     let all = stored();
     assert!(all.len() > 10);
-    for (text, replies) in &all {
-        assert_eq!(&served(Script::new(), text), replies);
-        assert_eq!(&served(Script::with_buffer(0), text), replies);
-        assert_eq!(&served(Script::with_buffer(1 << 20), text), replies);
+    for script in &all {
+        for length in [65_536, 0, 1 << 20] {
+            let replies = served(Script::with_buffer(length), &script.text);
+            assert!(replies == script.replies.as_bytes(), "{}, with a buffer of {length}", script.name);
+        }
     }
 }
 
 #[test]
 fn a_text_may_arrive_line_by_line() {
-    for (text, replies) in &stored() {
+    for stored in &stored() {
+        let text = &stored.text;
         let (mut script, mut at, mut got, mut random) = (Script::new(), 0, Vec::new(), Random::new(7));
         let mut there = 0;
         while there < text.len() {
@@ -57,7 +41,7 @@ fn a_text_may_arrive_line_by_line() {
                 got.extend_from_slice(part);
             }
         }
-        assert_eq!(&got, replies);
+        assert!(got == stored.replies.as_bytes(), "{}", stored.name);
     }
 }
 
@@ -150,7 +134,7 @@ fn births_of_any_length() {
 }
 
 #[test]
-fn nothing_is_served_behind_the_end() {
+fn nothing_is_served_after_the_end() {
     let mut lent = begun();
     let before = lent.clone();
     assert_eq!(lent.part(BEGINNING, BEGINNING.len()), Ok(Part { at: BEGINNING.len(), count: 0 }));
