@@ -25,7 +25,8 @@
  * During a call nobody else changes what is lent: no other thread or process, and no signal handler. A call needs less than 16 KiB of stack.
  * Apart from that nothing is trusted: any numbers, any content. Every call first checks all tables and the log.
  *
- * Every function returns SOGVECT_DONE (0), or the number of the reason why it refused the call. Where several reasons are true it is the smallest.
+ * Every function returns SOGVECT_DONE (0), or the number of the reason why it refused the call. Where several reasons are true it is the first in the
+ * order of docs/RULES.md, 7.1.
  * A done call sets the count to how many numbers its result has; they stand at the start of `out`, and the rest of `out` is as it was.
  * A block that sogvect_write, _erase, _delete or _read names is a pair of numbers in `out`, the block and after it its birth: the number of the record
  * that was open when the block was given. A freed block's birth is the one that it had. The count counts both numbers. No other result has births.
@@ -165,7 +166,7 @@ uint32_t sogvect_log_read(size_t arenas, size_t per, size_t pages, size_t record
 uint32_t sogvect_log_compare(size_t arenas, size_t per, size_t pages, size_t records, size_t turn, size_t words,
                              const uint8_t *first, size_t first_len, const uint8_t *second, size_t second_len, uint32_t *alike);
 
-/* Writes a log of any length anew, as short as it can be, at the start of out, which must not overlap it; the bytes beyond stay. Every word of it
+/* Writes a log of any length again, as short as it can be, at the start of out, which must not overlap it; the bytes beyond stay. Every word of it
  * counts, and the new log ends with a barrier. *count becomes how many words it has. out holds at least SOGVECT_LOG_BYTES(words) bytes.
  * Refusals: 2, 3 (out too short), 7. */
 uint32_t sogvect_log_compact(size_t arenas, size_t per, size_t pages, size_t records, size_t turn, size_t words,
@@ -175,7 +176,7 @@ uint32_t sogvect_log_compact(size_t arenas, size_t per, size_t pages, size_t rec
  * `+` and the result's numbers, a colon between a block and its birth, or `-` and the refusal (docs/RULES.md, section 10). A store line makes the store;
  * run, tables, log and out hold it.
  *
- *   run       SOGVECT_SCRIPT_RUN numbers: what the script has between two parts. All 0 before the first part; what tables and log hold then is of no matter.
+ *   run       SOGVECT_SCRIPT_RUN numbers: what the script has between two parts. All 0 before the first part; what tables and log hold then does not matter.
  *             From the first accepted store line on, number 0 is 1 and numbers 1 to 6 are the six numbers of the store
  *   tables, log, out   at least the lengths that are enough for every geometry
  *   replies   at least SOGVECT_SCRIPT_REPLIES_MIN bytes, with which each part is one line; 65,536 or more serve many lines a part
@@ -282,7 +283,7 @@ static inline uint32_t sogvect_barrier(struct sogvect_store *store) {
     return sogvect_call_store(store, 'Y', 0, 0, 0);
 }
 
-/* Writes the log anew, as short as it can be and with a barrier at its end; once it is done, no block waits. Result: how many words it has.
+/* Writes the log again, as short as it can be and with a barrier at its end; once it is done, no block waits. Result: how many words it has.
  * Refusals: 2, 3, 4. */
 static inline uint32_t sogvect_compress(struct sogvect_store *store) {
     return sogvect_call_store(store, 'C', 0, 0, 0);

@@ -172,12 +172,12 @@ static void logs(void) {
     EXPECT(sogvect_log_compare(SIX, none, 7, none, 8, &alike) == SOGVECT_NO_LOG && alike == 9);
     EXPECT(sogvect_log_compare(SIX, none, 0, none, 8, &alike) == SOGVECT_DONE && alike == 1);
     EXPECT(sogvect_log_compare(SIX, none, 8, logged, SOGVECT_LOG_USED(&store), &alike) == SOGVECT_DONE && alike == 0);
-    uint8_t anew[SOGVECT_LOG_BYTES(20)];
+    uint8_t again[SOGVECT_LOG_BYTES(20)];
     store.count = 9;
-    EXPECT(sogvect_log_compact(SIX, none, 0, anew, sizeof anew - 1, &store.count) == SOGVECT_TOO_SHORT && store.count == 9);
-    EXPECT(sogvect_log_compact(SIX, none, 7, anew, sizeof anew, &store.count) == SOGVECT_NO_LOG && store.count == 9);
-    EXPECT(sogvect_log_compact(SIX, none, 0, anew, sizeof anew, &store.count) == SOGVECT_DONE && store.count == 1);
-    EXPECT(memcmp(anew, none, sizeof none) == 0);
+    EXPECT(sogvect_log_compact(SIX, none, 0, again, sizeof again - 1, &store.count) == SOGVECT_TOO_SHORT && store.count == 9);
+    EXPECT(sogvect_log_compact(SIX, none, 7, again, sizeof again, &store.count) == SOGVECT_NO_LOG && store.count == 9);
+    EXPECT(sogvect_log_compact(SIX, none, 0, again, sizeof again, &store.count) == SOGVECT_DONE && store.count == 1);
+    EXPECT(memcmp(again, none, sizeof none) == 0);
 }
 
 static void script(void) {

@@ -3,7 +3,7 @@ use std::fmt;
 
 /// The number of the reason why a call was refused. A refused call changed nothing.
 ///
-/// Where several reasons are true of a call, it is the smallest.
+/// Where several reasons are true of a call, it is the first in the order of docs/RULES.md, 7.1.
 #[derive(Clone, Copy, Debug, PartialEq, Eq, Hash)]
 pub struct Refusal(u32);
 
