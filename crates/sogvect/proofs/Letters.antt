@@ -24,25 +24,6 @@ use Rattle.sogvect.specs.Letters.{orElse, askedBy, AsScripts}
 none-not : {c : Call} → none ≡ some c → ⊥
 none-not p = let z : _≡_ {A = ℕ} 0 1 = cc in omega arith
 
--- ── a letter that is no byte ──
-
-abbrev bytes? : List (ℕ × Form) → Bool
-bytes? [] = true
-bytes? (r ∷ rs) = ltb (r .0) 256 && bytes? rs
-
-wide-none : (rs : List (ℕ × Form)) (b : ℕ) (ns : List ℕ) → bytes? rs ≡ true → 255 < b → callIn rs b ns ≡ none
-unfolding callIn
-wide-none [] b ns t h = refl
-wide-none (r ∷ rs) b ns t h =
-    let s = and-true (ltb (r .0) 256) (bytes? rs) t in
-    let apart : b ≡ r .0 → ⊥ = λ e. omega (arith, e, ltb-true (r .0) 256 (s .0)) in
-    rw (ne-eqb b (r .0) apart) (wide-none rs b ns (s .1) h)
-
-pub asks-none : (b x y z : ℕ) → 255 < b → Parsed.No ≡ saysOf (askedBy b x y z)
-unfolding askedBy callOf
-asks-none b x y z h =
-    rw (wide-none table b [] refl h, wide-none table b (x ∷ []) refl h, wide-none table b (x ∷ y ∷ []) refl h, wide-none table b (x ∷ y ∷ z ∷ []) refl h)
-
 -- ── one number of numbers ──
 
 some-length : (f : Form) (ns : List ℕ) (c : Call) → made f ns ≡ some c → length ns ≡ takes f
@@ -116,6 +97,25 @@ module _ (b x y z : ℕ) (c : Call) where
 
   pub as-scripts : AsScripts b x y z c
   as-scripts = record { says = says; said = said }
+
+-- ── a letter that is no byte ──
+
+abbrev bytes? : List (ℕ × Form) → Bool
+bytes? [] = true
+bytes? (r ∷ rs) = ltb (r .0) 256 && bytes? rs
+
+wide-none : (rs : List (ℕ × Form)) (b : ℕ) (ns : List ℕ) → bytes? rs ≡ true → 255 < b → callIn rs b ns ≡ none
+unfolding callIn
+wide-none [] b ns t h = refl
+wide-none (r ∷ rs) b ns t h =
+    let s = and-true (ltb (r .0) 256) (bytes? rs) t in
+    let apart : b ≡ r .0 → ⊥ = λ e. omega (arith, e, ltb-true (r .0) 256 (s .0)) in
+    rw (ne-eqb b (r .0) apart) (wide-none rs b ns (s .1) h)
+
+pub asks-none : (b x y z : ℕ) → 255 < b → Parsed.No ≡ saysOf (askedBy b x y z)
+unfolding askedBy callOf
+asks-none b x y z h =
+    rw (wide-none table b [] refl h, wide-none table b (x ∷ []) refl h, wide-none table b (x ∷ y ∷ []) refl h, wide-none table b (x ∷ y ∷ z ∷ []) refl h)
 
 -- ── what was asked first ──
 
