@@ -22,20 +22,21 @@ use Rattle.log.proofs.Appending.{words-append}
 use Rattle.log.proofs.SettledFacts.{settled-judged, settled-cut, every-accepted}
 use Rattle.model.specs.Book.{Some}
 use Rattle.model.specs.View.{View}
-use Rattle.model.specs.Lists.{In}
+use Rattle.model.specs.Lists.{In, Pairwise}
 use Rattle.model.specs.Sound.{Sound}
 use Rattle.model.specs.Actions.{Action, Asks, done}
 use Rattle.model.specs.Held.{held, frees}
 use Rattle.model.specs.State.{State}
-use Rattle.model.specs.Calls.{Account, looking, opening, freeing, placing, marking, renewing, account, refusalsBy, wordsBy, leftBy, freed}
+use Rattle.model.specs.Calls.{Account, looking, opening, freeing, placing, marking, renewing, account, renews, refusalsBy, wordsBy, leftBy, freed}
 use Rattle.model.specs.Calls.{block, writing, conditions, result, acted, given, effect}
 use Rattle.model.specs.Layout.{stateOf}
 use Rattle.model.specs.Memory.{Memory, wordsUsed, reply, makeReply, makeAfter}
 use Rattle.model.specs.SoundStore.{SoundStore}
 use Rattle.model.specs.History.{give, entryOf, eventsOf, historyFrom, wasAccepted, syncsBy, syncs, synced?}
 use Rattle.model.specs.HistoryFacts.{Synced, Gives}
+use Rattle.model.specs.UsedWords.{usedAs, usedThen}
 use Rattle.model.specs.Demand.{Own, withOut, ownStore, run}
-use Rattle.model.specs.Crash.{compacts?, Compacts, Ended, entryAfter, usedAfter, heldAfter, startFrom, Crash}
+use Rattle.model.specs.Crash.{isC, compacts?, Compacts, Ended, heard, entryAfter, startBy, Crash}
 use Rattle.model.specs.declared.Call.{Call}
 use Rattle.model.specs.declared.Call.the-variants.{Write}
 use Rattle.model.proofs.ByNumber.{none-at}
@@ -45,10 +46,10 @@ use Rattle.model.proofs.ChoiceFacts.{given-block}
 use Rattle.model.proofs.CallKinds.{none-left}
 use Rattle.model.proofs.EachCall.{Fits, fits}
 use Rattle.model.proofs.Fine.{Fine, asks-W}
-use Rattle.model.proofs.MadeFacts.{made-zero}
 use Rattle.model.proofs.AfterBarrier.{GaveBy, gave-by, same-first}
-use Rattle.model.proofs.Keeps.{sound-fine, accepted-state, calls-keep-sound, making-is, made-tables, fresh-is-sound}
+use Rattle.model.proofs.Keeps.{sound-fine, accepted-state, calls-keep-sound, making-is, fresh-is-sound}
 use Rattle.model.proofs.Demands.{run-sound}
+use Rattle.model.proofs.ByReplies.{held-born, words-told, fresh-used, used-told, held-told}
 use Rattle.model.proofs.Along.{
   not-true,
   run-append,
@@ -74,7 +75,31 @@ use Rattle.model.proofs.Along.{
   synced-ends,
 }
 
+-- how many log words are used after some calls, and which blocks are held, as the tables have it
+abbrev pub wordsAfter : Geometry → Memory → List Own → ℕ
+wordsAfter g M l = wordsUsed (run g M l)
+
+abbrev pub heldThen : Geometry → Memory → List Own → ℕ → Bool
+heldThen g M l = held (stateOf g (run g M l .tables) .view)
+
 -- ── where the calls since the last C begin ──
+
+-- an accepted C says how many words are used after it
+renews-all : (A : Account) (n m : ℕ) (l : List ℕ) → renews A ≡ true → usedAs n A l ≡ usedAs m A l
+renews-all (looking s cs res) n m l e = absurd (false≢true e)
+renews-all (opening cs a) n m l e = absurd (false≢true e)
+renews-all (freeing cs a) n m l e = absurd (false≢true e)
+renews-all (placing r x k) n m l e = absurd (false≢true e)
+renews-all marking n m l e = absurd (false≢true e)
+renews-all renewing n m l e = refl
+
+C-says : (c : Call) (r : Reply) (n m : ℕ) → (wasAccepted r && isC c) ≡ true → usedThen n c r ≡ usedThen m c r
+C-says c (accepted l) n m e = renews-all (account c) n m l e
+C-says c (refused k) n m e = absurd (false≢true e)
+
+after-C : (g : Geometry) (M : Memory) (a : Own) (n : ℕ) → Compacts (entryOf (ownStore g) M a) →
+    usedThen n (a .call) (reply g (withOut M (a .out)) (a .call)) ≡ wordsUsed (ownStore g .after M a)
+after-C g M a n e = C-says (a .call) (reply g (withOut M (a .out)) (a .call)) n (wordsUsed M) e ∙ sym (words-told g (a ∷ []) M)
 
 -- the calls up to the last accepted C, and those behind it
 pub record Since (g : Geometry) (M : Memory) (n : ℕ) (l : List Own) : Type 0 where
@@ -82,8 +107,8 @@ pub record Since (g : Geometry) (M : Memory) (n : ℕ) (l : List Own) : Type 0 w
   pub back : List Own
   pub split : l ≡ front ++ back
   pub none : Some Compacts (historyFrom (ownStore g) (run g M front) back) → ⊥
-  pub at : ((front ≡ []) × (startFrom g M n l ≡ n)) ⊎
-      ((calls : List Own) × (a : Own) × (front ≡ calls ++ (a ∷ [])) × Compacts (entryAfter g M calls a) × (startFrom g M n l ≡ usedAfter g M front))
+  pub at : ((front ≡ []) × (startBy n (heard g M l) ≡ n)) ⊎
+      ((calls : List Own) × (a : Own) × (front ≡ calls ++ (a ∷ [])) × Compacts (entryAfter g M calls a) × (startBy n (heard g M l) ≡ wordsAfter g M front))
 
 -- where the calls behind hold no C
 behind-none : (g : Geometry) (N : Memory) (k : ℕ) (l : List Own) (s : Since g N k l) → s .front ≡ [] → Some Compacts (historyFrom (ownStore g) N l) → ⊥
@@ -92,27 +117,28 @@ behind-none g N k l s z i =
     (subst (λ b. Some Compacts (historyFrom (ownStore g) N b)) (s .split ∙ ap (λ f. f ++ s .back) z) i))
 
 since : (g : Geometry) (l : List Own) (M : Memory) (n : ℕ) → Since g M n l
-unfolding startFrom
+unfolding startBy
 since g [] M n = record { front = []; back = []; split = refl; none = λ i. i; at = inl (refl, refl) }
 since g (a ∷ l) M n =
     let N : Memory = ownStore g .after M a in
     let t : Bool = compacts? (entryOf (ownStore g) M a) in
-    let s = since g l N (cond t (wordsUsed N) n) in
+    let v : ℕ = usedThen n (a .call) (reply g (withOut M (a .out)) (a .call)) in
+    let s = since g l N (cond t v n) in
     cases (s .at)
     (λ z. cases (either t)
     (λ y. record {
       front = a ∷ [];
       back = l;
       split = refl;
-      none = behind-none g N (cond t (wordsUsed N) n) l s (z .0);
-      at = inr ([], a, refl, y, z .1 ∙ ap (λ b. cond b (wordsUsed N) n) y);
+      none = behind-none g N (cond t v n) l s (z .0);
+      at = inr ([], a, refl, y, z .1 ∙ ap (λ b. cond b v n) y ∙ after-C g M a n y);
     })
     (λ y. record {
       front = [];
       back = a ∷ l;
       split = refl;
-      none = λ i. cases i (λ c. false≢true (sym y ∙ c)) (behind-none g N (cond t (wordsUsed N) n) l s (z .0));
-      at = inl (refl, z .1 ∙ ap (λ b. cond b (wordsUsed N) n) y);
+      none = λ i. cases i (λ c. false≢true (sym y ∙ c)) (behind-none g N (cond t v n) l s (z .0));
+      at = inl (refl, z .1 ∙ ap (λ b. cond b v n) y);
     }))
     (λ z. record {
       front = a ∷ s .front;
@@ -128,6 +154,11 @@ since g (a ∷ l) M n =
 abbrev pub Closed : Geometry → Memory → List Own → Type 0
 Closed g M l = (l ≡ []) ⊎ ((calls : List Own) × (a : Own) × (l ≡ calls ++ (a ∷ [])) × Synced (entryAfter g M calls a))
 
+-- byte n stands before the end of the barrier's word that begins `late`; u words are used before `late`
+abbrev UpTo : Geometry → Memory → List Own → List Own → ℕ → ℕ → Type 0
+UpTo g M before late n u = ((late ≡ []) × (n ≤ 8 * u)) ⊎
+    ((a : Own) × (rest : List Own) × (late ≡ a ∷ rest) × Ended (entryAfter g M before a) × (n < 8 * u + 8))
+
 pub record Found (g : Geometry) (M : Memory) (l : List Own) (n : ℕ) : Type 0 where
   pub early : List Own
   pub mid : List Own
@@ -136,17 +167,16 @@ pub record Found (g : Geometry) (M : Memory) (l : List Own) (n : ℕ) : Type 0 w
   pub barrier : Closed g M early
   pub quiet : Some Synced (historyFrom (ownStore g) (run g M early) mid) → ⊥
   pub same-log : Some Compacts (historyFrom (ownStore g) (run g M (early ++ mid)) late) → ⊥
-  pub from : 8 * usedAfter g M early ≤ n
-  pub upTo : ((late ≡ []) × (n ≤ 8 * usedAfter g M (early ++ mid))) ⊎
-      ((a : Own) × (rest : List Own) × (late ≡ a ∷ rest) × Ended (entryAfter g M (early ++ mid) a) × (n < 8 * usedAfter g M (early ++ mid) + 8))
+  pub from : 8 * wordsAfter g M early ≤ n
+  pub upTo : UpTo g M (early ++ mid) late n (wordsAfter g M (early ++ mid))
 
-module _ (g : Geometry) (M : Memory) (l : List Own) (n : ℕ) (most : n ≤ 8 * usedAfter g M l) where
+module _ (g : Geometry) (M : Memory) (l : List Own) (n : ℕ) (most : n ≤ 8 * wordsAfter g M l) where
   -- one call more
   run-one : (m : List Own) (a : Own) → run g M (m ++ (a ∷ [])) ≡ ownStore g .after (run g M m) a
   run-one m a = run-append (ownStore g) m (a ∷ []) M
 
   find : (rest early mid : List Own) → l ≡ early ++ (mid ++ rest) → Closed g M early → (Some Synced (historyFrom (ownStore g) (run g M early) mid) → ⊥) →
-      (Some Compacts (historyFrom (ownStore g) (run g M (early ++ mid)) rest) → ⊥) → 8 * usedAfter g M early ≤ n → Found g M l n
+      (Some Compacts (historyFrom (ownStore g) (run g M (early ++ mid)) rest) → ⊥) → 8 * wordsAfter g M early ≤ n → Found g M l n
   find [] early mid s c q k f = record {
     early = early;
     mid = mid;
@@ -156,7 +186,7 @@ module _ (g : Geometry) (M : Memory) (l : List Own) (n : ℕ) (most : n ≤ 8 * 
     quiet = q;
     same-log = λ i. i;
     from = f;
-    upTo = inl (refl, subst (λ m. n ≤ 8 * usedAfter g M m) (s ∙ ap (λ m. early ++ m) (append-nil mid)) most);
+    upTo = inl (refl, subst (λ m. n ≤ 8 * wordsAfter g M m) (s ∙ ap (λ m. early ++ m) (append-nil mid)) most);
   }
   find (a ∷ r) early mid s c q k f =
       let N : Memory = run g M (early ++ mid) in
@@ -166,7 +196,7 @@ module _ (g : Geometry) (M : Memory) (l : List Own) (n : ℕ) (most : n ≤ 8 * 
       let no : compacts? (entryAfter g M (early ++ mid) a) ≡ false = not-true (compacts? (entryAfter g M (early ++ mid) a)) (λ z. k (inl z)) in
       let e = ended (a .call) (wasAccepted (reply g (withOut N (a .out)) (a .call))) y (λ z. k (inl z)) in
       let j = joined g N a no in
-      cases (lt? n (8 * usedAfter g M (early ++ mid) + 8))
+      cases (lt? n (8 * wordsAfter g M (early ++ mid) + 8))
       (λ h. record {
         early = early;
         mid = mid;
@@ -238,10 +268,10 @@ module _ (g : Geometry) (inside : Inside g) where
       every-accepted g (usedOf g E) out inside h (S .logged .readable) ∙
       ap accepted (passing-ext (heldIn (marksOf g (usedOf g E))) (held (stateOf g (E .tables) .view)) 0 (blocks g) (λ i l. S .logged .marks i (omega arith)))
 
-  module _ (M : Memory) (S : SoundStore g (M .tables) (M .log)) (bare : wordsUsed M ≡ 0) (l : List Own) (n : ℕ) (most : n ≤ 8 * usedAfter g M l) where
+  module _ (M : Memory) (S : SoundStore g (M .tables) (M .log)) (bare : wordsUsed M ≡ 0) (l : List Own) (n : ℕ) (most : n ≤ 8 * wordsAfter g M l) where
     -- nothing is used at first
     used-none : usedOf g M ≡ []
-    unfolding stateOf take
+    unfolding stateOf
     used-none = ap (λ u. take (8 * u) (M .log)) bare
 
     whole-first : Whole g M
@@ -286,7 +316,7 @@ module _ (g : Geometry) (inside : Inside g) where
       quiet-words : NoBarrier (words (bytesOf (wroteAll g E (F .mid))))
       quiet-words = plain-bytes (wroteAll g E (F .mid)) (plain-wrote g (F .mid) E (F .quiet))
 
-      mid-used : usedAfter g M (F .early ++ F .mid) ≡ wordsUsed E + length (wroteAll g E (F .mid))
+      mid-used : wordsAfter g M (F .early ++ F .mid) ≡ wordsUsed E + length (wroteAll g E (F .mid))
       mid-used = ap wordsUsed (run-append (ownStore g) (F .early) (F .mid) M) ∙ grown g (F .mid) E (quiet-keeps (historyFrom (ownStore g) E (F .mid)) (F .quiet)) .0
 
       -- what is left behind the last whole barrier is plain
@@ -307,7 +337,7 @@ module _ (g : Geometry) (inside : Inside g) where
           ))
 
       pub cut-reads : (out : List ℕ) → 2 * blocks g + 64 ≤ length out →
-          readReply g (take n (run g M l .log)) out ≡ accepted (passing (heldAfter g M (F .early)) 0 (blocks g))
+          readReply g (take n (run g M l .log)) out ≡ accepted (passing (heldThen g M (F .early)) 0 (blocks g))
       cut-reads out h =
           let t = tail-is in
           ap (λ x. readReply g x out) (cut-is ∙ ap (λ x. usedOf g E ++ x) (t .2)) ∙
@@ -391,16 +421,41 @@ module _ (g : Geometry) (inside : Inside g) where
           (λ j. not-given T R b (a .call) l (A .0 .none) (A .1) o (gave-by b (a .call) (accepted l) (subst (λ r. Some (λ v. v ≡ give b) (eventsOf (a .call) r)) e j)))
           (next (subst (λ U. (0 < U .view .birth b) ⊎ In b (U .waiting)) (sym (accepted-state g N (a .call) l e)) (stays T R b (a .call) (A .0 .none) c o)))
 
--- a held block has a birth
-pub held-born : (K : View) (b : ℕ) → held K b ≡ true → 0 < K .birth b
-unfolding held
-held-born K b e = cases (same? (K .birth b) 0) (λ z. absurd (false≢true (sym (ap not (eq-eqb (K .birth b) 0 z)) ∙ e))) (λ n. omega arith)
+-- ── the blocks that pass a test, rising ──
 
--- a fresh store has used no word
-pub fresh-used : (g : Geometry) (M : Memory) → makeReply g M ≡ accepted [] → wordsUsed (makeAfter g M) ≡ 0
-fresh-used g M e =
-    let (i, L) = making-is g M e in
-    ap (λ t. getD t 9 0) (made-tables g M e) ∙ made-zero g (M .tables) (L .tables) 9 (omega arith) (inl (omega arith)) (omega arith)
+module _ (t : ℕ → Bool) where
+  of-passing : (b n i : ℕ) → In i (passing t b n) → (t i ≡ true) × (b ≤ i)
+  of-passing b zero i h = absurd h
+  of-passing b (suc n) i h = go (t b) refl h (λ j. let (y, up) = of-passing (suc b) n i j in (y, omega (arith, up)))
+    where
+      go : (x : Bool) → t b ≡ x → In i (cond x (b ∷ passing t (suc b) n) (passing t (suc b) n)) →
+          (In i (passing t (suc b) n) → (t i ≡ true) × (b ≤ i)) → (t i ≡ true) × (b ≤ i)
+      go true e j later = cases j (λ d. (ap t d ∙ e, omega (arith, d))) later
+      go false e j later = later j
+
+  in-passing : (b n i : ℕ) → t i ≡ true → b ≤ i → i < b + n → In i (passing t b n)
+  in-passing b zero i y up below = absurd (omega (arith, up, below))
+  in-passing b (suc n) i y up below = go (t b) refl (λ d. in-passing (suc b) n i y (omega (arith, up, d)) (omega (arith, below)))
+    where
+      go : (x : Bool) → t b ≡ x → ((b ≡ i → ⊥) → In i (passing t (suc b) n)) → In i (cond x (b ∷ passing t (suc b) n) (passing t (suc b) n))
+      go true e later = cases (same? b i) (λ d. inl (sym d)) (λ d. inr (later d))
+      go false e later = later (λ d. false≢true (sym e ∙ ap t d ∙ y))
+
+  passing-rises : (b n : ℕ) → Pairwise (λ c d. c < d) (passing t b n)
+  passing-rises b zero = tt
+  passing-rises b (suc n) = go (t b) (λ c i. let (y, up) = of-passing (suc b) n c i in omega (arith, up)) (passing-rises (suc b) n)
+    where
+      go : (x : Bool) → ((c : ℕ) → In c (passing t (suc b) n) → b < c) → Pairwise (λ c d. c < d) (passing t (suc b) n) →
+          Pairwise (λ c d. c < d) (cond x (b ∷ passing t (suc b) n) (passing t (suc b) n))
+      go true first later = (first, later)
+      go false first later = later
+
+-- a held block is a block of the store
+held-below : (g : Geometry) (T : State) → Fine g T → (b : ℕ) → held (T .view) b ≡ true → b < blocks g
+held-below g T R b h =
+    let (s, x, o) = R .sound .block b (held-born (T .view) b h) in
+    let p = R .sound .paged s x b (o .live) (o .there) in
+    omega (arith, p .inside, R .blocks)
 
 -- A PLUG PULLED
 pub crash : Crash
@@ -410,13 +465,18 @@ crash g M e l n least most =
     let S = fresh-is-sound g M e (makeAfter g M .log) in
     let s = since g l F 0 in
     let bare : wordsUsed F ≡ 0 = fresh-used g M e in
-    let start : 8 * usedAfter g F (s .front) ≤ n = cases (s .at)
-    (λ z. omega (arith, ap (usedAfter g F) (z .0), bare))
-    (λ z. omega (arith, z .4)) in
+    let end : n ≤ 8 * wordsAfter g F l = omega (arith, most, used-told g M e l) in
+    let start : 8 * wordsAfter g F (s .front) ≤ n = cases (s .at)
+    (λ z. omega (arith, ap (wordsAfter g F) (z .0), bare))
+    (λ z. omega (arith, z .4, least)) in
     let closed : Closed g F (s .front) = cases (s .at) (λ z. inl (z .0))
     (λ z. inr (z .0, z .1, z .2, compacts-syncs (z .1 .call) (wasAccepted (entryAfter g F (z .0) (z .1) .answer)) (z .3))) in
-    let f = find g F l n most (s .back) (s .front) [] (s .split) closed (λ i. i)
+    let f = find g F l n end (s .back) (s .front) [] (s .split) closed (λ i. i)
     (λ i. s .none (subst (λ m. Some Compacts (historyFrom (ownStore g) (run g F m) (s .back))) (append-nil (s .front)) i)) start in
+    let E = run g F (f .early) in
+    let T = stateOf g (E .tables) in
+    let sound = run-sound g (f .early) F S in
+    let told = held-told g M e (f .early) in
     record {
       early = f .early;
       mid = f .mid;
@@ -425,8 +485,21 @@ crash g M e l n least most =
       barrier = f .barrier;
       quiet = f .quiet;
       same-log = f .same-log;
-      from = f .from;
-      upTo = f .upTo;
-      reads = cut-reads g inside F S bare l n most f;
-      kept = λ b h i. untouched g inside (f .mid) (run g F (f .early)) b (run-sound g (f .early) F S) (f .quiet) (inl (held-born (stateOf g (run g F (f .early) .tables) .view) b h)) i;
+      from = omega (arith, f .from, used-told g M e (f .early));
+      upTo = subst (UpTo g F (f .early ++ f .mid) (f .late) n) (used-told g M e (f .early ++ f .mid)) (f .upTo);
+      reads = λ out h. (
+        passing (held (T .view)) 0 (blocks g),
+        cut-reads g inside F S bare l n end f out h,
+        record {
+          rising = passing-rises (held (T .view)) 0 (blocks g);
+          held = λ b. (
+            λ i. let (y, up) = of-passing (held (T .view)) 0 (blocks g) b i in told b .0 y,
+            λ o.
+                let y = told b .1 o in
+                let low = held-below g T (sound-fine g (E .tables) (E .log) sound) b y in
+                in-passing (held (T .view)) 0 (blocks g) b y (omega arith) (omega (arith, low)),
+          );
+        },
+      );
+      kept = λ b o. untouched g inside (f .mid) E b sound (f .quiet) (inl (held-born (T .view) b (told b .1 o)));
     }

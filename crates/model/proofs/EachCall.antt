@@ -14,8 +14,8 @@ use Rattle.log.specs.Runs.{runs}
 use Rattle.model.specs.Lists.{In, onPage}
 use Rattle.model.specs.Results.{paired}
 use Rattle.model.specs.Actions.{Action, Asks, slotOf, vacant}
-use Rattle.model.specs.State.{State}
-use Rattle.model.specs.Calls.{Account, looking, opening, freeing, placing, marking, renewing, account, slot, pairs, freeList, refusalsBy, conditions}
+use Rattle.model.specs.State.{State, synced}
+use Rattle.model.specs.Calls.{Account, looking, opening, freeing, placing, marking, renewing, account, slot, pairs, freeList, logged, refusalsBy, conditions}
 use Rattle.model.specs.Book.{Book, accept}
 use Rattle.model.specs.declared.Spelling.{Spelling}
 use Rattle.model.specs.declared.Spelling.the-variants.{Numbers, Blocks}
@@ -30,22 +30,24 @@ use Rattle.model.proofs.Few.{page-one, runs-le, Few}
 
 -- ── of a call alone ──
 
--- its refusals stand in their order; one that looks only leaves the book; W, Y and C are the only calls of their kinds
+-- its refusals stand in their order; one that looks only leaves the book; one that frees does the same with any log and any blocks waiting;
+-- W, Y and C are the only calls of their kinds
 abbrev pub Is : Call → Account → Type 0
 Is c (looking s cs res) = ((P : ℕ) (B : Book) (b : ℕ) → accept P B c b ≡ B) × ((g : Geometry) (T : State) → Between 4 (place 14) (cs g T))
 Is c (opening cs a) = (T : State) → Opens (a T) × Between 4 (place 11) (cs T)
-Is c (freeing cs a) = (g : Geometry) (T : State) → Frees (a T) × Between 4 (place 14) (cs g T)
+Is c (freeing cs a) = (g : Geometry) (T : State) → Frees (a T) × Between 4 (place 14) (cs g T) × ((n : ℕ) → a (synced (logged T n)) ≡ a T)
 Is c (placing r x k) = c ≡ Write r x k
 Is c marking = (c ≡ Barrier) × ((P : ℕ) (B : Book) (b : ℕ) → accept P B c b ≡ B)
 Is c renewing = (c ≡ Compress) × ((P : ℕ) (B : Book) (b : ℕ) → accept P B c b ≡ B)
 
 pub is : (c : Call) → Is c (account c)
+unfolding logged
 is Begin = λ T. (tt, omega arith)
 is (Write r x k) = refl
-is (Erase r x) = λ g T. (tt, omega arith)
+is (Erase r x) = λ g T. (tt, omega arith, λ n. refl)
 is (Seal r) = λ T. (tt, omega arith)
 is (Fork r) = λ T. (tt, omega arith)
-is (Delete r) = λ g T. (tt, omega arith)
+is (Delete r) = λ g T. (tt, omega arith, λ n. refl)
 is (Read r x) = (λ P B b. refl, λ g T. omega arith)
 is Barrier = (refl, λ P B b. refl)
 is Compress = (refl, λ P B b. refl)

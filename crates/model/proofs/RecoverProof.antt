@@ -28,14 +28,16 @@ use Rattle.model.specs.Memory.{reply, after, makeAfter}
 use Rattle.model.specs.SoundStore.{SoundStore}
 use Rattle.model.specs.Book.{Some}
 use Rattle.model.specs.History.{Entry, entryOf, historyFrom}
+use Rattle.model.specs.UsedWords.{usedThen, usedBy}
 use Rattle.model.specs.Demand.{Own, withOut, ownStore, run}
-use Rattle.model.specs.Crash.{compacts?, Compacts, usedAfter}
-use Rattle.model.specs.Recover.{GoesOn, Recovers}
+use Rattle.model.specs.Crash.{compacts?, Compacts, heard, usedAfter}
+use Rattle.model.specs.Recover.{takenUp, GoesOn, Recovers}
 use Rattle.model.specs.declared.Call.{Call}
 use Rattle.model.proofs.Keeps.{making-is, fresh-is-sound}
 use Rattle.model.proofs.Demands.{run-sound}
 use Rattle.model.proofs.Along.{run-append, usedOf, Whole, wroteBy, wrote, wroteAll, joined, compacted, grown, whole-run}
-use Rattle.model.proofs.CrashProof.{held-born, untouched, fresh-used}
+use Rattle.model.proofs.ByReplies.{held-born, words-told, fresh-used, used-told, held-told}
+use Rattle.model.proofs.CrashProof.{untouched}
 
 -- ── the log stays as long as it is, or becomes longer ──
 
@@ -112,9 +114,13 @@ module _ (g : Geometry) where
   unfolding after left
   left-is a t log out = refl
 
+  -- the used words of two logs, where n words were used before the calls `more`
+  abbrev Same : ℕ → Memory → Memory → List Own → Type 0
+  Same n N E more = take (8 * usedBy n (heard g E more)) (run g N more .log) ≡ take (8 * usedBy n (heard g E more)) (run g E more .log)
+
   -- any calls go on alike
   alike : (more : List Own) (t x y out : List ℕ) → usedLog (stateOf g t) x ≡ usedLog (stateOf g t) y → 8 * g .words ≤ length x → 8 * g .words ≤ length y →
-      GoesOn g (lent t x out) (lent t y out) more
+      GoesOn g (stateOf g t .used) (lent t x out) (lent t y out) more
   unfolding stateOf left
   alike [] t x y out e lx ly = record { replies = refl; tables = refl; out = refl; log = e }
   alike (a ∷ more) t x y out e lx ly =
@@ -125,6 +131,8 @@ module _ (g : Geometry) where
       let u : usedOf g (left a r t x) ≡ usedOf g (left a r t y) =
       sym (ap (usedOf g) nx) ∙ same-used t x y e lx ly out a ∙ ap (usedOf g) ny in
       let T = stateOf g t in
+      let v = usedThen (T .used) (a .call) r in
+      let now-used : wordsUsed (left a r t y) ≡ v = sym (ap wordsUsed ny) ∙ words-told g (a ∷ []) (lent t y out) in
       let I = alike more (left a r t x .tables) (left a r t x .log) (left a r t y .log) (left a r t x .out) u
       (left-long r x (bytesOf (written g T (a .call))) (writtenAt T (a .call)) (8 * g .words) lx)
       (left-long r y (bytesOf (written g T (a .call))) (writtenAt T (a .call)) (8 * g .words) ly) in
@@ -133,8 +141,8 @@ module _ (g : Geometry) where
             (ap (λ K. historyFrom (ownStore g) K more) nx ∙ I .replies ∙ sym (ap (λ K. historyFrom (ownStore g) K more) ny));
         tables = ap (λ K. run g K more .tables) nx ∙ I .tables ∙ sym (ap (λ K. run g K more .tables) ny);
         out = ap (λ K. run g K more .out) nx ∙ I .out ∙ sym (ap (λ K. run g K more .out) ny);
-        log = ap (λ K. take (8 * wordsUsed (run g K more)) (run g K more .log)) nx ∙ I .log
-            ∙ sym (ap (λ K. take (8 * wordsUsed (run g K more)) (run g K more .log)) ny);
+        log = subst (λ X. Same v X (ownStore g .after (lent t y out) a) more) (sym nx)
+            (subst (λ Y. Same v (left a r t x) Y more) (sym ny) (subst (λ n. Same n (left a r t x) (left a r t y) more) now-used (I .log)));
       }
 
   -- the words of a store stay in its log while no C is accepted
@@ -167,11 +175,16 @@ recovers g M made early late none log long front =
     let E = run g F early in
     let SE = run-sound g early F S in
     let bare : wordsUsed F ≡ 0 = fresh-used g M made in
+    let told : wordsUsed E ≡ usedAfter g F early = used-told g M made early in
     let w : Whole g F = ap (λ u. length (take (8 * u) (F .log))) bare ∙ ap (λ u. 8 * u) (sym bare) in
     let words : usedLog (stateOf g (E .tables)) log ≡ usedOf g E =
-    front ∙ ap (λ K. take (8 * usedAfter g F early) (K .log)) (run-append (ownStore g) early late F) ∙ words-stay g E late (whole-run g early F w) none in
+    subst (λ n. take (8 * n) log ≡ take (8 * n) (run g F (early ++ late) .log)) (sym told) front ∙
+    ap (λ K. take (8 * wordsUsed E) (K .log)) (run-append (ownStore g) early late F) ∙ words-stay g E late (whole-run g early F w) none in
     record {
       sound = other-log g (E .tables) log (E .log) words SE;
-      goes-on = λ more. alike g more (E .tables) log (E .log) (E .out) words long (run-long g early F (8 * g .words) (L .log));
-      kept = λ mid rest s quiet b h. untouched g inside mid E b SE quiet (inl (held-born (stateOf g (E .tables) .view) b h));
+      goes-on = λ more. subst (λ n. GoesOn g n (takenUp E log) E more) told
+          (alike g more (E .tables) log (E .log) (E .out) words long (run-long g early F (8 * g .words) (L .log)));
+      kept = λ mid rest s quiet b h.
+          let held = held-told g M made early b .1 h in
+          untouched g inside mid E b SE quiet (inl (held-born (stateOf g (E .tables) .view) b held));
     }

@@ -1,7 +1,7 @@
 -- A USE FOR EACH STATEMENT, in the statements' order: replies that were heard, and what follows from them by the statement's name. Each use needs the
 -- statement's full strength. Most of them refuse a reply that a wrong program would give.
 use mathlib.Core.Path.{_≡_, refl, sym, ap, _∙_, subst}
-use mathlib.Core.Logic.{_⊎_, inl, inr}
+use mathlib.Core.Logic.{_⊎_, inl, inr, _↔_}
 use mathlib.Core.Bool.{Bool, true, false, cond, true≢false, false≢true}
 use mathlib.Core.List.{List, [], _∷_, _++_, map}
 use Prim.Native.Nat.{ℕ, suc, _+_, _*_, _/_, _%_, _≤_, _<_}
@@ -13,40 +13,46 @@ use Rattle.answer.specs.Reply.{Reply, accepted, refused}
 use Rattle.answer.specs.Refusal.{NoneBefore}
 use Rattle.answer.proofs.Cases.{cases, either, same?}
 use Rattle.geometry.specs.declared.Geometry.{Geometry}
-use Rattle.geometry.specs.Limits.{geometryOf, blocks}
+use Rattle.geometry.specs.Limits.{geometryOf, Inside, blocks}
 use Rattle.choice.specs.First.{Ahead}
 use Rattle.choice.specs.Turn.{next}
 use Rattle.log.specs.Word.{released, writeAt, bytesOf}
 use Rattle.log.specs.Tool.{readReply}
 use Rattle.model.specs.Table.{put}
+use Rattle.model.specs.Lists.{In, Pairwise}
 use Rattle.model.specs.View.{View, predNum}
 use Rattle.model.specs.Deadlists.{shard}
 use Rattle.model.specs.SoundMeans.{Live}
 use Rattle.model.specs.RefusalMeans.{There}
 use Rattle.model.specs.Held.{waits, tally}
 use Rattle.model.specs.Results.{paired, blocksIn, born, bornIn, itemsOf}
-use Rattle.model.specs.Calls.{spelling}
+use Rattle.model.specs.Calls.{Account, looking, opening, freeing, placing, marking, renewing, account, spelling}
 use Rattle.model.specs.Book.{Some, Book, OnPage, emptyBook, enter, openLine, pageSet, inLine, setPage, inRecs, inLines, recSealed, sealRec, recOut, dropRec, keepLine, dropIn}
 use Rattle.model.specs.History.{Machine, Event, give, free, Entry, entryOf, stateFrom, historyFrom, events, book, syncs, unsynced, NotFreed, Standing, Demand3}
 use Rattle.model.specs.HistoryFacts.{HistoryFacts, givenIn, freedIn, different, onFirst, onRecs, onLines, Sealed, Gave, Names, LastGave, Synced, Frees, Gives, Lists}
 use Rattle.model.specs.Layout.{viewOf, stateOf}
-use Rattle.model.specs.Memory.{Memory, wordsUsed, allConditions, reply, after, makeReply, makeAfter}
+use Rattle.model.specs.Memory.{Memory, lent, wordsUsed, allConditions, reply, after, makeReply, makeAfter}
+use Rattle.model.specs.SoundStore.{SoundStore}
 use Rattle.model.specs.Model.{Screened, history}
+use Rattle.model.specs.UsedWords.{usedThen, usedBy}
 use Rattle.model.specs.Demand.{Request, metBy, machine, Own, withOut, ownStore, run}
-use Rattle.model.specs.Crash.{Ended, usedAfter, heldAfter, startFrom, Cut}
-use Rattle.model.specs.PlugTold.{usedThen, usedBy}
+use Rattle.model.specs.Crash.{Ended, heard, usedAfter, startBy, Cut}
 use Rattle.model.specs.HistoryChoice.{isW, writesIn, markBy, MayBeGiven, IsChosen, HistoryChoice}
 use Rattle.model.specs.Estimate.{behind, BirthsAbove}
 use Rattle.model.specs.declared.Call.{Call}
 use Rattle.model.specs.declared.Call.the-variants.{Begin, Write, Erase, Seal, Fork, Delete, Read, Barrier, Compress, FreeList, Estimate}
-use Rattle.model.proofs.Demands.{demand, waits-means, never-4}
+use Rattle.model.proofs.ListFacts.{rising-same}
+use Rattle.model.proofs.EachCall.{Is, is}
+use Rattle.model.proofs.Keeps.{making-is}
+use Rattle.model.proofs.Demands.{demand, waits-means, sound-not-4, never-4}
+use Rattle.model.proofs.AnyMemoryProof.{fresh-sound, keeps-sound, room}
 use Rattle.model.proofs.CrashProof.{crash}
-use Rattle.model.proofs.PlugToldProof.{plug}
 use Rattle.model.proofs.HistoryChoiceProof.{choice}
 use Rattle.model.proofs.PaperExample.{fine, repliesTo}
 use Rattle.model.proofs.EstimateFacts.{estimate-still, estimate-true, estimate-enough, shards-counted}
 use Rattle.model.proofs.BirthsInResults.{births-in-results, log-as-before}
-use Rattle.model.proofs.CutPlace.{history-append, passes?, placeOf, startOf, used-is, cut-early, cut-mid, start-is}
+use Rattle.model.proofs.Along.{history-append}
+use Rattle.model.proofs.CutPlace.{passes?, placeOf, cut-early, cut-mid}
 
 -- ── what is heard ──
 
@@ -83,7 +89,7 @@ given-twice =
     (gave Barrier [] ∷ gave Begin (2 ∷ []) ∷ gave (Write 2 0 0) (1 ∷ 2 ∷ []) ∷ gave (Erase 2 0) (1 ∷ 2 ∷ []) ∷ gave (Write 2 0 0) (0 ∷ 2 ∷ []) ∷ [])
 
 -- the book of what was heard: to unfold it is to unfold all that it is told by
-unfoldable bookHeard : List Entry → Book
+unfoldable pub bookHeard : List Entry → Book
 unfolding put emptyBook enter openLine pageSet inLine setPage inRecs inLines recSealed sealRec recOut dropRec keepLine dropIn blocksIn
 bookHeard H = book 2 H
 
@@ -121,20 +127,18 @@ standing-stands b l s =
     ap (stands b false) (s .split) ∙ stands-append b (s .early) (give b ∷ s .late) false ∙ rw (eq-eqb b b refl) (still-stands b (s .late) (s .since))
 
 -- the record of the last W that gave b, or v where there is none
-unfoldable giver : ℕ → ℕ → Call → Reply → ℕ
-giver b v (Write r x k) (accepted (c ∷ l)) = cond (eqb c b) r v
-giver b v (Write r x k) (accepted []) = v
-giver b v (Write r x k) (refused n) = v
-giver b v Begin a = v
-giver b v (Erase r x) a = v
-giver b v (Seal r) a = v
-giver b v (Fork r) a = v
-giver b v (Delete r) a = v
-giver b v (Read r x) a = v
-giver b v Barrier a = v
-giver b v Compress a = v
-giver b v FreeList a = v
-giver b v (Estimate r) a = v
+unfoldable giverBy : ℕ → ℕ → Account → Reply → ℕ
+giverBy b v (placing r x k) (accepted (c ∷ l)) = cond (eqb c b) r v
+giverBy b v (placing r x k) (accepted []) = v
+giverBy b v (placing r x k) (refused n) = v
+giverBy b v (looking s cs res) a = v
+giverBy b v (opening cs d) a = v
+giverBy b v (freeing cs d) a = v
+giverBy b v marking a = v
+giverBy b v renewing a = v
+
+abbrev giver : ℕ → ℕ → Call → Reply → ℕ
+giver b v c a = giverBy b v (account c) a
 
 unfoldable lastGiver : ℕ → ℕ → List Entry → ℕ
 lastGiver b v [] = v
@@ -146,31 +150,26 @@ giver-append b v [] m = refl
 giver-append b v (e ∷ l) m = giver-append b (giver b v (e .call) (e .answer)) l m
 
 gives-it : (b r v : ℕ) (e : Entry) → Gave b r e → giver b v (e .call) (e .answer) ≡ r
-unfolding giver
+unfolding giverBy
 gives-it b r v e (x, k, rest, c, a) = rw (c, a, eq-eqb b b refl)
 
-gives-not : (b v : ℕ) (c : Call) (a : Reply) → ((q : ℕ) → Gave b q (record { call = c; answer = a }) → ⊥) → giver b v c a ≡ v
-unfolding giver
-gives-not b v (Write r x k) (accepted (d ∷ l)) n =
-    rw (ne-eqb d b (λ e. n r (x, k, l, refl, ap (λ (f : ℕ). accepted (f ∷ l)) e)))
-gives-not b v (Write r x k) (accepted []) n = refl
-gives-not b v (Write r x k) (refused m) n = refl
-gives-not b v Begin a n = refl
-gives-not b v (Erase r x) a n = refl
-gives-not b v (Seal r) a n = refl
-gives-not b v (Fork r) a n = refl
-gives-not b v (Delete r) a n = refl
-gives-not b v (Read r x) a n = refl
-gives-not b v Barrier a n = refl
-gives-not b v Compress a n = refl
-gives-not b v FreeList a n = refl
-gives-not b v (Estimate r) a n = refl
+gives-not : (b v : ℕ) (c : Call) (A : Account) (a : Reply) → Is c A → ((q : ℕ) → Gave b q (record { call = c; answer = a }) → ⊥) → giverBy b v A a ≡ v
+unfolding giverBy
+gives-not b v c (placing r x k) (accepted (d ∷ l)) i n =
+    rw (ne-eqb d b (λ e. n r (x, k, l, i, ap (λ (f : ℕ). accepted (f ∷ l)) e)))
+gives-not b v c (placing r x k) (accepted []) i n = refl
+gives-not b v c (placing r x k) (refused m) i n = refl
+gives-not b v c (looking s cs res) a i n = refl
+gives-not b v c (opening cs d) a i n = refl
+gives-not b v c (freeing cs d) a i n = refl
+gives-not b v c marking a i n = refl
+gives-not b v c renewing a i n = refl
 
 none-gives : (b v : ℕ) (l : List Entry) → ((q : ℕ) → Some (Gave b q) l → ⊥) → lastGiver b v l ≡ v
 unfolding lastGiver
 none-gives b v [] n = refl
 none-gives b v (e ∷ l) n =
-    ap (λ (w : ℕ). lastGiver b w l) (gives-not b v (e .call) (e .answer) (λ q g. n q (inl g))) ∙ none-gives b v l (λ q i. n q (inr i))
+    ap (λ (w : ℕ). lastGiver b w l) (gives-not b v (e .call) (account (e .call)) (e .answer) (is (e .call)) (λ q g. n q (inl g))) ∙ none-gives b v l (λ q i. n q (inr i))
 
 last-giver : (b r : ℕ) (l : List Entry) → LastGave b r l → lastGiver b 0 l ≡ r
 unfolding lastGiver
@@ -273,26 +272,26 @@ module _ (M : Machine) (T : M .Tables) (D : (l : List (M .Asked)) → Demand3 M 
   -- `birth-is`, of R, E and D: block 0 was given to record 1 once, and then to record 2; that is the birth that is named
   born-in-2 : (before : List (M .Asked)) → historyFrom M T before ≡ given-twice → (i : M .Asked) (v : ℕ) →
       Names 0 v (entryOf M (now before) i) → giver 0 2 (M .call i) (M .answer (now before) i) ≡ 2 → v ≡ 2
-  unfolding lastGiver giver
+  unfolding lastGiver giverBy
   born-in-2 before h i v n still =
       sym (last-giver 0 v (historyFrom M T (before ++ (i ∷ []))) (D before .1 .birth-is i 0 v n)) ∙
-      ap (lastGiver 0 0) (history-append M T before (i ∷ []) ∙ ap {B = List Entry} (λ H. H ++ (entryOf M (now before) i ∷ [])) h) ∙ still
+      ap (lastGiver 0 0) (history-append M before (i ∷ []) T ∙ ap {B = List Entry} (λ H. H ++ (entryOf M (now before) i ∷ [])) h) ∙ still
 
   pub R-names-2 : (before : List (M .Asked)) → historyFrom M T before ≡ given-twice → (i : M .Asked) (v : ℕ) → M .call i ≡ Read 2 0 →
       M .answer (now before) i ≡ accepted (0 ∷ v ∷ []) → v ≡ 2
-  unfolding giver itemsOf bornIn
+  unfolding giverBy itemsOf bornIn
   R-names-2 before h i v c a =
       born-in-2 before h i v (0 ∷ v ∷ [], a, subst (λ d. Some (λ j. j ≡ born 0 v) (itemsOf (spelling d) (0 ∷ v ∷ []))) (sym c) (inl refl)) (rw c refl)
 
   pub E-names-2 : (before : List (M .Asked)) → historyFrom M T before ≡ given-twice → (i : M .Asked) (v : ℕ) → M .call i ≡ Erase 2 0 →
       M .answer (now before) i ≡ accepted (0 ∷ v ∷ []) → v ≡ 2
-  unfolding giver itemsOf bornIn
+  unfolding giverBy itemsOf bornIn
   E-names-2 before h i v c a =
       born-in-2 before h i v (0 ∷ v ∷ [], a, subst (λ d. Some (λ j. j ≡ born 0 v) (itemsOf (spelling d) (0 ∷ v ∷ []))) (sym c) (inl refl)) (rw c refl)
 
   pub D-names-2 : (before : List (M .Asked)) → historyFrom M T before ≡ given-twice → (i : M .Asked) (v : ℕ) → M .call i ≡ Delete 2 →
       M .answer (now before) i ≡ accepted (0 ∷ v ∷ []) → v ≡ 2
-  unfolding giver itemsOf bornIn
+  unfolding giverBy itemsOf bornIn
   D-names-2 before h i v c a =
       born-in-2 before h i v (0 ∷ v ∷ [], a, subst (λ d. Some (λ j. j ≡ born 0 v) (itemsOf (spelling d) (0 ∷ v ∷ []))) (sym c) (inl refl)) (rw c refl)
 
@@ -375,6 +374,13 @@ abbrev given-too-soon : List Entry
 given-too-soon =
     one-on ++ (gave Barrier [] ∷ gave (Erase 1 0) (0 ∷ 1 ∷ []) ∷ gave (Write 1 0 0) (0 ∷ 1 ∷ []) ∷ gave (Erase 1 0) (0 ∷ 1 ∷ []) ∷ [])
 
+-- pages that hold blocks 0 and 1
+two-pages : (y w : ℕ) → put (put (λ x. 0) 0 1) 1 2 y ≡ w → (w ≡ 0) ⊎ ((w ≡ 1) ⊎ (w ≡ 2))
+two-pages y w e =
+    cases (put-page (put (λ x. 0) 0 1) 1 2 y w e)
+    (λ d. inr (inr (sym d)))
+    (λ d. cases (put-page (λ x. 0) 0 1 y w d) (λ f. inr (inl (sym f))) (λ f. inl (sym f)))
+
 -- page 0 was written and erased, page 1 was written
 pages-then : (y w : ℕ) → put (put (put (λ x. 0) 0 1) 1 2) 0 0 y ≡ w → (w ≡ 0) ⊎ (w ≡ 2)
 unfolding put
@@ -385,84 +391,133 @@ pages-then y w e =
     (λ z. inr (sym e ∙ rw (ne-eqb y 0 n, eq-eqb y 1 z) refl))
     (λ m. inl (sym e ∙ rw (ne-eqb y 0 n, ne-eqb y 1 m) refl)))
 
--- A holds, or does not
-abbrev Is : Bool → Type 0 → Type 0
-Is true A = A
-Is false A = A → ⊥
+one : {b : ℕ} → Pairwise (λ c d. c < d) (b ∷ [])
+one = (λ c i. absurd i, tt)
+
+both : Pairwise (λ c d. c < d) (0 ∷ 1 ∷ [])
+both = (λ c i. cases i (λ e. omega (arith, e)) (λ z. absurd z), one)
+
+-- these and no others are on a page of the book
+abbrev Paged : List Entry → List ℕ → Type 0
+Paged H these = (b : ℕ) → In b these ↔ OnPage (book 2 H) b
+
+-- after C, after the first Y, after the second
+paged-C : Paged (take 3 plugged) (0 ∷ [])
+unfolding bookHeard
+paged-C b = (
+  λ i. cases i (λ e. subst (λ d. OnPage (book 2 (take 3 plugged)) d) (sym e) (inl (inl (0, refl)))) (λ z. absurd z),
+  λ o. cases o
+      (λ q. cases q
+      (λ p. cases (put-page (λ y. 0) 0 1 (p .0) (suc b) (p .1)) (λ e. inl (omega (arith, e))) (λ e. absurd (omega (arith, e))))
+      (λ z. absurd z))
+      (λ z. absurd z),
+)
+
+paged-Y : Paged (take 5 plugged) (0 ∷ 1 ∷ [])
+unfolding bookHeard
+paged-Y b = (
+  λ i. cases i
+      (λ e. subst (λ d. OnPage (book 2 (take 5 plugged)) d) (sym e) (inl (inl (0, refl))))
+      (λ j. cases j (λ e. subst (λ d. OnPage (book 2 (take 5 plugged)) d) (sym e) (inl (inl (1, refl)))) (λ z. absurd z)),
+  λ o. cases o
+      (λ q. cases q
+      (λ p. cases (two-pages (p .0) (suc b) (p .1))
+      (λ e. absurd (omega (arith, e)))
+      (λ d. cases d (λ e. inl (omega (arith, e))) (λ e. inr (inl (omega (arith, e))))))
+      (λ z. absurd z))
+      (λ z. absurd z),
+)
+
+paged-YY : Paged (take 7 plugged) (1 ∷ [])
+unfolding bookHeard
+paged-YY b = (
+  λ i. cases i (λ e. subst (λ d. OnPage (book 2 (take 7 plugged)) d) (sym e) (inl (inl (1, refl)))) (λ z. absurd z),
+  λ o. cases o
+      (λ q. cases q (λ p. cases (pages-then (p .0) (suc b) (p .1)) (λ e. absurd (omega (arith, e))) (λ e. inl (omega (arith, e)))) (λ z. absurd z))
+      (λ z. absurd z),
+)
 
 module _ (M : Memory) (made : makeReply ten M ≡ accepted []) (l : List Own) where
-  abbrev own : List Own → List Entry
-  own k = historyFrom (ownStore ten) (makeAfter ten M) k
-
-  held-as : (k : List Own) (b : ℕ) (p : Bool) → Is p (OnPage (book 2 (own k)) b) → heldAfter ten (makeAfter ten M) k b ≡ p
-  held-as k b true o = plug ten M made k .holds b .1 o
-  held-as k b false n = cases (either (heldAfter ten (makeAfter ten M) k b)) (λ t. absurd (n (plug ten M made k .holds b .0 t))) (λ f. f)
-
-  module _ (h : historyFrom (ownStore ten) (makeAfter ten M) l ≡ plugged) (out : List ℕ) (long : 68 ≤ length out) where
-    -- `crash`, for a cut at byte n that leaves k calls up to the last whole barrier
-    reads-cut : (n k : ℕ) (p q : Bool) → 16 ≤ n → n ≤ 56 → placeOf n 0 0 0 plugged ≡ k →
-        Is p (OnPage (book 2 (take k plugged)) 0) → Is q (OnPage (book 2 (take k plugged)) 1) →
-        readReply ten (take n (run ten (makeAfter ten M) l .log)) out ≡ accepted (cond p (0 ∷ cond q (1 ∷ []) []) (cond q (1 ∷ []) []))
-    unfolding startOf bookHeard
-    reads-cut n k p q least most e on0 on1 =
-        let start : startFrom ten (makeAfter ten M) 0 l ≡ 2 = start-is ten M made l ∙ ap (startOf 0 0) h in
-        let end : usedAfter ten (makeAfter ten M) l ≡ 7 = used-is ten M made l ∙ ap (usedBy 0) h in
+  module _ (h : heard ten (makeAfter ten M) l ≡ plugged) (out : List ℕ) (long : 68 ≤ length out) where
+    -- `crash`, for a cut at byte n that leaves k calls up to the last whole barrier: a block on a page is read, one that is read is on a page, each once
+    reads-cut : (n k : ℕ) (these : List ℕ) → 16 ≤ n → n ≤ 56 → placeOf n 0 0 0 plugged ≡ k →
+        Pairwise (λ b c. b < c) these → Paged (take k plugged) these → readReply ten (take n (run ten (makeAfter ten M) l .log)) out ≡ accepted these
+    unfolding startBy bookHeard
+    reads-cut n k these least most e rises paged =
+        let start : startBy 0 (heard ten (makeAfter ten M) l) ≡ 2 = ap (startBy 0) h in
+        let end : usedAfter ten (makeAfter ten M) l ≡ 7 = ap (usedBy 0) h in
         let c : Cut ten (makeAfter ten M) l n = crash ten M made l n (omega (arith, start, least)) (omega (arith, end, most)) in
-        let told : own (c .early) ≡ take k plugged = cut-early ten M made l n k c (ap (placeOf n 0 0 0) h ∙ e) .2 ∙ ap (take k) h in
-        let t0 = held-as (c .early) 0 p (subst (λ H. Is p (OnPage (book 2 H) 0)) (sym told) on0) in
-        let t1 = held-as (c .early) 1 q (subst (λ H. Is q (OnPage (book 2 H) 1)) (sym told) on1) in
-        c .reads out (omega (arith, long)) ∙ ap accepted (rw (t0, t1) refl)
+        let told : heard ten (makeAfter ten M) (c .early) ≡ take k plugged =
+        cut-early ten (makeAfter ten M) l n k c (ap (placeOf n 0 0 0) h ∙ e) .2 ∙ ap (take k) h in
+        let (read, is, all) = c .reads out (omega (arith, long)) in
+        is ∙ ap accepted (rising-same read these (all .rising) rises (λ b. (
+          λ i. paged b .1 (subst (λ H. OnPage (book 2 H) b) told (all .held b .0 i)),
+          λ i. all .held b .1 (subst (λ H. OnPage (book 2 H) b) (sym told) (paged b .0 i)),
+        )))
 
     -- right at the end of C's words
     pub cut-16 : readReply ten (take 16 (run ten (makeAfter ten M) l .log)) out ≡ accepted (0 ∷ [])
-    unfolding placeOf passes? bookHeard
-    cut-16 = reads-cut 16 3 true false (omega arith) (omega arith) refl (inl (inl (0, refl))) off
-      where
-        off : OnPage (book 2 (take 3 plugged)) 1 → ⊥
-        off o = cases o (λ q. cases q (λ p. cases (put-page (λ y. 0) 0 1 (p .0) 2 (p .1)) (λ e. omega (arith, e)) (λ e. omega (arith, e))) (λ z. z)) (λ z. z)
+    unfolding placeOf passes? blocksIn
+    cut-16 = reads-cut 16 3 (0 ∷ []) (omega arith) (omega arith) refl one paged-C
 
     -- one byte of the Y is missing: back to the C
     pub cut-31 : readReply ten (take 31 (run ten (makeAfter ten M) l .log)) out ≡ accepted (0 ∷ [])
-    unfolding placeOf passes? bookHeard
-    cut-31 = reads-cut 31 3 true false (omega arith) (omega arith) refl (inl (inl (0, refl))) off
-      where
-        off : OnPage (book 2 (take 3 plugged)) 1 → ⊥
-        off o = cases o (λ q. cases q (λ p. cases (put-page (λ y. 0) 0 1 (p .0) 2 (p .1)) (λ e. omega (arith, e)) (λ e. omega (arith, e))) (λ z. z)) (λ z. z)
+    unfolding placeOf passes? blocksIn
+    cut-31 = reads-cut 31 3 (0 ∷ []) (omega arith) (omega arith) refl one paged-C
 
     -- at the Y's end, and inside the word after it
     pub cut-32 : readReply ten (take 32 (run ten (makeAfter ten M) l .log)) out ≡ accepted (0 ∷ 1 ∷ [])
-    unfolding placeOf passes? bookHeard
-    cut-32 = reads-cut 32 5 true true (omega arith) (omega arith) refl (inl (inl (0, refl))) (inl (inl (1, refl)))
+    unfolding placeOf passes? blocksIn
+    cut-32 = reads-cut 32 5 (0 ∷ 1 ∷ []) (omega arith) (omega arith) refl both paged-Y
 
     pub cut-35 : readReply ten (take 35 (run ten (makeAfter ten M) l .log)) out ≡ accepted (0 ∷ 1 ∷ [])
-    unfolding placeOf passes? bookHeard
-    cut-35 = reads-cut 35 5 true true (omega arith) (omega arith) refl (inl (inl (0, refl))) (inl (inl (1, refl)))
+    unfolding placeOf passes? blocksIn
+    cut-35 = reads-cut 35 5 (0 ∷ 1 ∷ []) (omega arith) (omega arith) refl both paged-Y
 
     -- the free of block 0 counts once the Y after it is whole
     pub cut-48 : readReply ten (take 48 (run ten (makeAfter ten M) l .log)) out ≡ accepted (1 ∷ [])
-    unfolding placeOf passes? bookHeard
-    cut-48 = reads-cut 48 7 false true (omega arith) (omega arith) refl off (inl (inl (1, refl)))
-      where
-        off : OnPage (book 2 (take 7 plugged)) 0 → ⊥
-        off o = cases o (λ q. cases q (λ p. cases (pages-then (p .0) 1 (p .1)) (λ e. omega (arith, e)) (λ e. omega (arith, e))) (λ z. z)) (λ z. z)
+    unfolding placeOf passes? blocksIn
+    cut-48 = reads-cut 48 7 (1 ∷ []) (omega arith) (omega arith) refl one paged-YY
 
   -- `kept`: block 0, held at the barrier, is not given before the next one, though it was freed since and is freed again after that
-  pub not-too-soon : historyFrom (ownStore ten) (makeAfter ten M) l ≡ given-too-soon → ⊥
-  unfolding placeOf passes? startOf bookHeard
+  pub not-too-soon : heard ten (makeAfter ten M) l ≡ given-too-soon → ⊥
+  unfolding placeOf passes? startBy bookHeard
   not-too-soon h =
-      let start : startFrom ten (makeAfter ten M) 0 l ≡ 0 = start-is ten M made l ∙ ap (startOf 0 0) h in
-      let end : usedAfter ten (makeAfter ten M) l ≡ 5 = used-is ten M made l ∙ ap (usedBy 0) h in
+      let start : startBy 0 (heard ten (makeAfter ten M) l) ≡ 0 = ap (startBy 0) h in
+      let end : usedAfter ten (makeAfter ten M) l ≡ 5 = ap (usedBy 0) h in
       let c : Cut ten (makeAfter ten M) l 40 = crash ten M made l 40 (omega (arith, start)) (omega (arith, end)) in
-      let at : placeOf 40 0 0 0 (own l) ≡ 3 = ap (placeOf 40 0 0 0) h in
-      let told : own (c .early) ≡ take 3 given-too-soon = cut-early ten M made l 40 3 c at .2 ∙ ap (take 3) h in
-      let t0 = held-as (c .early) 0 true (subst (λ H. OnPage (book 2 H) 0) (sym told) (inl (inl (0, refl)))) in
-      let mid = cut-mid ten M made l 40 3 c at (subst (λ H. Some Ended (drop 3 H) → ⊥) (sym h) no-Y) ∙ ap (drop 3) h in
-      c .kept 0 t0 (subst (Some (Gives 0)) (sym mid) (inr (inl (inl refl))))
+      let at : placeOf 40 0 0 0 (heard ten (makeAfter ten M) l) ≡ 3 = ap (placeOf 40 0 0 0) h in
+      let told : heard ten (makeAfter ten M) (c .early) ≡ take 3 given-too-soon = cut-early ten (makeAfter ten M) l 40 3 c at .2 ∙ ap (take 3) h in
+      let mid = cut-mid ten (makeAfter ten M) l 40 3 c at (subst (λ H. Some Ended (drop 3 H) → ⊥) (sym h) no-Y) ∙ ap (drop 3) h in
+      c .kept 0 (subst (λ H. OnPage (book 2 H) 0) (sym told) (inl (inl (0, refl)))) (subst (Some (Gives 0)) (sym mid) (inr (inl (inl refl))))
     where
       no-Y : Some Ended (drop 3 given-too-soon) → ⊥
       no-Y s =
           cases s (λ e. false≢true (ap syncs (e .0)))
           (λ t. cases t (λ e. false≢true (ap syncs (e .0))) (λ u. cases u (λ e. false≢true (ap syncs (e .0))) (λ z. z)))
+
+-- ── ANY MEMORY ──
+
+-- `fresh-sound`: with whatever bytes in its log and whatever buffer, no call on a fresh store is answered 4
+pub fresh-never-4 : (g : Geometry) (M : Memory) → makeReply g M ≡ accepted [] → (log out : List ℕ) (c : Call) →
+    reply g (lent (makeAfter g M .tables) log out) c ≡ refused 4 → ⊥
+fresh-never-4 g M made log out c = sound-not-4 g (lent (makeAfter g M .tables) log out) c (making-is g M made .0) (fresh-sound g M made log)
+
+-- `keeps-sound`: a call was not answered 4; then no call on what it left is, whether it was accepted or refused, with any buffer
+pub then-never-4 : (g : Geometry) (M : Memory) (c d : Call) (out : List ℕ) → Inside g → SoundStore g (M .tables) (M .log) →
+    reply g (withOut (after g M c) out) d ≡ refused 4 → ⊥
+then-never-4 g M c d out inside S = sound-not-4 g (withOut (after g M c) out) d inside (keeps-sound g M c S)
+
+-- `room`: on any tables, also such as no fresh store leads to, and with other log bytes than C left, no W right after C is refused 14
+pub lent-room-W : (g : Geometry) (t log other out more k : List ℕ) (r x kind : ℕ) → reply g (lent t log out) Compress ≡ accepted k →
+    reply g (lent (after g (lent t log out) Compress .tables) other more) (Write r x kind) ≡ refused 14 → ⊥
+lent-room-W g t log other out more k r x kind done =
+    room g .0 t (record { call = Compress; log = log; out = out }) (record { call = Write r x kind; log = other; out = more }) k refl done
+
+-- nor an E, a D or a Y of a store that keeps its own log
+pub own-room : (g : Geometry) (M : Memory) (out more k : List ℕ) (c : Call) → reply g (withOut M out) Compress ≡ accepted k →
+    reply g (withOut (after g (withOut M out) Compress) more) c ≡ refused 14 → ⊥
+own-room g M out more k c done = room g .1 M (record { call = Compress; out = out }) (record { call = c; out = more }) k refl done
 
 -- ── THE CHOICE AND 14, OVER HISTORIES ──
 
@@ -481,13 +536,6 @@ mark-moved = turn-ended ++ (gave (Write 1 2 1) (4 ∷ 1 ∷ []) ∷ gave (Erase 
 unfoldable writesHeard : List Entry → ℕ
 unfolding writesIn markBy next bookHeard
 writesHeard H = writesIn H
-
--- pages that hold blocks 0 and 1
-two-pages : (y w : ℕ) → put (put (λ x. 0) 0 1) 1 2 y ≡ w → (w ≡ 0) ⊎ ((w ≡ 1) ⊎ (w ≡ 2))
-two-pages y w e =
-    cases (put-page (put (λ x. 0) 0 1) 1 2 y w e)
-    (λ d. inr (inr (sym d)))
-    (λ d. cases (put-page (λ x. 0) 0 1 y w d) (λ f. inr (inl (sym f))) (λ f. inl (sym f)))
 
 third-page : (y w : ℕ) → put (put (put (put (λ x. 0) 0 1) 1 2) 2 5) 2 0 y ≡ w → (w ≡ 0) ⊎ ((w ≡ 1) ⊎ (w ≡ 2))
 unfolding put
