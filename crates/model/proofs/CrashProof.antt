@@ -101,7 +101,7 @@ after-C : (g : Geometry) (M : Memory) (a : Own) (n : ℕ) → Compacts (entryOf 
     usedThen n (a .call) (reply g (withOut M (a .out)) (a .call)) ≡ wordsUsed (ownStore g .after M a)
 after-C g M a n e = C-says (a .call) (reply g (withOut M (a .out)) (a .call)) n (wordsUsed M) e ∙ sym (words-told g (a ∷ []) M)
 
--- the calls up to the last accepted C, and those behind it
+-- the calls up to the last accepted C, and those after it
 pub record Since (g : Geometry) (M : Memory) (n : ℕ) (l : List Own) : Type 0 where
   pub front : List Own
   pub back : List Own
@@ -110,9 +110,9 @@ pub record Since (g : Geometry) (M : Memory) (n : ℕ) (l : List Own) : Type 0 w
   pub at : ((front ≡ []) × (startBy n (heard g M l) ≡ n)) ⊎
       ((calls : List Own) × (a : Own) × (front ≡ calls ++ (a ∷ [])) × Compacts (entryAfter g M calls a) × (startBy n (heard g M l) ≡ wordsAfter g M front))
 
--- where the calls behind hold no C
-behind-none : (g : Geometry) (N : Memory) (k : ℕ) (l : List Own) (s : Since g N k l) → s .front ≡ [] → Some Compacts (historyFrom (ownStore g) N l) → ⊥
-behind-none g N k l s z i =
+-- where the calls after it hold no C
+later-none : (g : Geometry) (N : Memory) (k : ℕ) (l : List Own) (s : Since g N k l) → s .front ≡ [] → Some Compacts (historyFrom (ownStore g) N l) → ⊥
+later-none g N k l s z i =
     s .none (subst (λ f. Some Compacts (historyFrom (ownStore g) (run g N f) (s .back))) (sym z)
     (subst (λ b. Some Compacts (historyFrom (ownStore g) N b)) (s .split ∙ ap (λ f. f ++ s .back) z) i))
 
@@ -130,14 +130,14 @@ since g (a ∷ l) M n =
       front = a ∷ [];
       back = l;
       split = refl;
-      none = behind-none g N (cond t v n) l s (z .0);
+      none = later-none g N (cond t v n) l s (z .0);
       at = inr ([], a, refl, y, z .1 ∙ ap (λ b. cond b v n) y ∙ after-C g M a n y);
     })
     (λ y. record {
       front = [];
       back = a ∷ l;
       split = refl;
-      none = λ i. cases i (λ c. false≢true (sym y ∙ c)) (behind-none g N (cond t v n) l s (z .0));
+      none = λ i. cases i (λ c. false≢true (sym y ∙ c)) (later-none g N (cond t v n) l s (z .0));
       at = inl (refl, z .1 ∙ ap (λ b. cond b v n) y);
     }))
     (λ z. record {
@@ -222,7 +222,8 @@ module _ (g : Geometry) (M : Memory) (l : List Own) (n : ℕ) (most : n ≤ 8 * 
       (λ z. cases z
       (λ w. false≢true (sym y ∙ subst (λ U. Synced (entryOf (ownStore g) U a)) (sym (run-append (ownStore g) early mid M)) w))
       (λ w. w)))
-      (λ i. k (inr (subst (λ U. Some Compacts (historyFrom (ownStore g) U r)) (ap (run g M) (sym (append-assoc early mid (a ∷ []))) ∙ run-one (early ++ mid) a) i))) f)
+      (λ i. k (inr (subst (λ U. Some Compacts (historyFrom (ownStore g) U r))
+      (ap (run g M) (sym (append-assoc early mid (a ∷ []))) ∙ run-one (early ++ mid) a) i))) f)
 
 -- ── reading what is left ──
 
@@ -257,9 +258,9 @@ passing-ext t u b (suc n) h =
     ap₂ (λ (x : Bool) (k : List ℕ). cond x (b ∷ k) k) (h b (omega arith)) (passing-ext t u (suc b) n (λ i l. h i (omega arith)))
 
 module _ (g : Geometry) (inside : Inside g) where
-  -- the used part of a sound store's log, and plain bytes behind it, cut
-  reads-cut : (E : Memory) → SoundStore g (E .tables) (E .log) → Whole g E → Ends (usedOf g E) → (tail : List ℕ) → NoBarrier (words tail) → (k : ℕ) (out : List ℕ) →
-      2 * blocks g + 64 ≤ length out →
+  -- the used part of a sound store's log, and plain bytes after it, cut
+  reads-cut : (E : Memory) → SoundStore g (E .tables) (E .log) → Whole g E → Ends (usedOf g E) → (tail : List ℕ) → NoBarrier (words tail) →
+      (k : ℕ) (out : List ℕ) → 2 * blocks g + 64 ≤ length out →
       readReply g (usedOf g E ++ take k tail) out ≡ accepted (passing (held (stateOf g (E .tables) .view)) 0 (blocks g))
   unfolding readable heldAtEnd heldBlocks marksOf
   reads-cut E S w e tail p k out h =
@@ -303,7 +304,7 @@ module _ (g : Geometry) (inside : Inside g) where
       abbrev k : ℕ
       k = n - 8 * wordsUsed E
 
-      -- the cut log: that of the last whole barrier, and some of the words behind it
+      -- the cut log: that of the last whole barrier, and some of the words after it
       cut-is : take n (run g M l .log) ≡ usedOf g E ++ take k (bytesOf (wroteAll g E (F .mid ++ F .late)))
       unfolding stateOf
       cut-is =
@@ -317,9 +318,11 @@ module _ (g : Geometry) (inside : Inside g) where
       quiet-words = plain-bytes (wroteAll g E (F .mid)) (plain-wrote g (F .mid) E (F .quiet))
 
       mid-used : wordsAfter g M (F .early ++ F .mid) ≡ wordsUsed E + length (wroteAll g E (F .mid))
-      mid-used = ap wordsUsed (run-append (ownStore g) (F .early) (F .mid) M) ∙ grown g (F .mid) E (quiet-keeps (historyFrom (ownStore g) E (F .mid)) (F .quiet)) .0
+      mid-used =
+          ap wordsUsed (run-append (ownStore g) (F .early) (F .mid) M) ∙
+          grown g (F .mid) E (quiet-keeps (historyFrom (ownStore g) E (F .mid)) (F .quiet)) .0
 
-      -- what is left behind the last whole barrier is plain
+      -- what is left after the last whole barrier is plain
       tail-is : (tail : List ℕ) × NoBarrier (words tail) × (take k (bytesOf (wroteAll g E (F .mid ++ F .late))) ≡ take k tail)
       unfolding wroteAll
       tail-is =
@@ -387,7 +390,8 @@ module _ (g : Geometry) (inside : Inside g) where
     not-given c l n e o G =
         let m = subst (λ d. NoneHolds (conditions g T d)) (G .call) n in
         let q = given-block g inside T (R .range) (G .k) (none-at (conditions g T (Write (G .r) (G .x) (G .k))) m 13) in
-        let f : block g T (G .k) ≡ b = same-first (block g T (G .k)) b _ (G .rest) (ap (result g T) (sym (G .call)) ∙ e ∙ same-list l (b ∷ G .rest) (G .answer)) in
+        let f : block g T (G .k) ≡ b =
+        same-first (block g T (G .k)) b _ (G .rest) (ap (result g T) (sym (G .call)) ∙ e ∙ same-list l (b ∷ G .rest) (G .answer)) in
         cases o
         (λ h. let z : ⊥ = omega (arith, q .1, ap (T .view .birth) f) in z)
         (λ i. q .2 (subst (λ d. In d (T .waiting)) (sym f) i))
@@ -418,7 +422,8 @@ module _ (g : Geometry) (inside : Inside g) where
           let R = sound-fine g (M .tables) (M .log) S in
           let c : syncs (a .call) ≡ false = not-true (syncs (a .call)) (λ y. n (inl (ap (λ r. wasAccepted r && syncs (a .call)) e ∙ y))) in
           cases i
-          (λ j. not-given T R b (a .call) l (A .0 .none) (A .1) o (gave-by b (a .call) (accepted l) (subst (λ r. Some (λ v. v ≡ give b) (eventsOf (a .call) r)) e j)))
+          (λ j. not-given T R b (a .call) l (A .0 .none) (A .1) o
+          (gave-by b (a .call) (accepted l) (subst (λ r. Some (λ v. v ≡ give b) (eventsOf (a .call) r)) e j)))
           (next (subst (λ U. (0 < U .view .birth b) ⊎ In b (U .waiting)) (sym (accepted-state g N (a .call) l e)) (stays T R b (a .call) (A .0 .none) c o)))
 
 -- ── the blocks that pass a test, rising ──

@@ -15,7 +15,8 @@ use Rattle.model.specs.Lists.{In, onPage}
 use Rattle.model.specs.Results.{paired}
 use Rattle.model.specs.Actions.{Action, Asks, slotOf, vacant}
 use Rattle.model.specs.State.{State, synced}
-use Rattle.model.specs.Calls.{Account, looking, opening, freeing, placing, marking, renewing, account, slot, pairs, freeList, logged, refusalsBy, conditions}
+use Rattle.model.specs.Calls.{Account, looking, opening, freeing, placing, marking, renewing, account, slot, pairs, freeList, logged}
+use Rattle.model.specs.Calls.{refusalsBy, conditions}
 use Rattle.model.specs.Book.{Book, accept}
 use Rattle.model.specs.declared.Spelling.{Spelling}
 use Rattle.model.specs.declared.Spelling.the-variants.{Numbers, Blocks}

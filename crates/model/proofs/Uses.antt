@@ -27,9 +27,12 @@ use Rattle.model.specs.RefusalMeans.{There}
 use Rattle.model.specs.Held.{waits, tally}
 use Rattle.model.specs.Results.{paired, blocksIn, born, bornIn, itemsOf}
 use Rattle.model.specs.Calls.{Account, looking, opening, freeing, placing, marking, renewing, account, spelling}
-use Rattle.model.specs.Book.{Some, Book, OnPage, emptyBook, enter, openLine, pageSet, inLine, setPage, inRecs, inLines, recSealed, sealRec, recOut, dropRec, keepLine, dropIn}
-use Rattle.model.specs.History.{Machine, Event, give, free, Entry, entryOf, stateFrom, historyFrom, events, book, syncs, unsynced, NotFreed, Standing, Demand3}
-use Rattle.model.specs.HistoryFacts.{HistoryFacts, givenIn, freedIn, different, onFirst, onRecs, onLines, Sealed, Gave, Names, LastGave, Synced, Frees, Gives, Lists}
+use Rattle.model.specs.Book.{Some, Book, OnPage, emptyBook, enter, openLine, pageSet, inLine, setPage, inRecs, inLines, recSealed, sealRec}
+use Rattle.model.specs.Book.{recOut, dropRec, keepLine, dropIn}
+use Rattle.model.specs.History.{Machine, Event, give, free, Entry, entryOf, stateFrom, historyFrom, events, book, syncs, unsynced}
+use Rattle.model.specs.History.{NotFreed, Standing, Demand3}
+use Rattle.model.specs.HistoryFacts.{HistoryFacts, givenIn, freedIn, different, onFirst, onRecs, onLines, Sealed, Gave, Names, LastGave}
+use Rattle.model.specs.HistoryFacts.{Synced, Frees, Gives, Lists}
 use Rattle.model.specs.Layout.{viewOf, stateOf}
 use Rattle.model.specs.Memory.{Memory, lent, wordsUsed, allConditions, reply, after, makeReply, makeAfter}
 use Rattle.model.specs.SoundStore.{SoundStore}
@@ -169,7 +172,8 @@ none-gives : (b v : ℕ) (l : List Entry) → ((q : ℕ) → Some (Gave b q) l �
 unfolding lastGiver
 none-gives b v [] n = refl
 none-gives b v (e ∷ l) n =
-    ap (λ (w : ℕ). lastGiver b w l) (gives-not b v (e .call) (account (e .call)) (e .answer) (is (e .call)) (λ q g. n q (inl g))) ∙ none-gives b v l (λ q i. n q (inr i))
+    ap (λ (w : ℕ). lastGiver b w l) (gives-not b v (e .call) (account (e .call)) (e .answer) (is (e .call)) (λ q g. n q (inl g))) ∙
+    none-gives b v l (λ q i. n q (inr i))
 
 last-giver : (b r : ℕ) (l : List Entry) → LastGave b r l → lastGiver b 0 l ≡ r
 unfolding lastGiver
@@ -438,46 +442,50 @@ paged-YY b = (
 )
 
 module _ (M : Memory) (made : makeReply ten M ≡ accepted []) (l : List Own) where
-  module _ (h : heard ten (makeAfter ten M) l ≡ plugged) (out : List ℕ) (long : 68 ≤ length out) where
-    -- `crash`, for a cut at byte n that leaves k calls up to the last whole barrier: a block on a page is read, one that is read is on a page, each once
-    reads-cut : (n k : ℕ) (these : List ℕ) → 16 ≤ n → n ≤ 56 → placeOf n 0 0 0 plugged ≡ k →
-        Pairwise (λ b c. b < c) these → Paged (take k plugged) these → readReply ten (take n (run ten (makeAfter ten M) l .log)) out ≡ accepted these
-    unfolding startBy bookHeard
-    reads-cut n k these least most e rises paged =
-        let start : startBy 0 (heard ten (makeAfter ten M) l) ≡ 2 = ap (startBy 0) h in
-        let end : usedAfter ten (makeAfter ten M) l ≡ 7 = ap (usedBy 0) h in
-        let c : Cut ten (makeAfter ten M) l n = crash ten M made l n (omega (arith, start, least)) (omega (arith, end, most)) in
-        let told : heard ten (makeAfter ten M) (c .early) ≡ take k plugged =
-        cut-early ten (makeAfter ten M) l n k c (ap (placeOf n 0 0 0) h ∙ e) .2 ∙ ap (take k) h in
-        let (read, is, all) = c .reads out (omega (arith, long)) in
-        is ∙ ap accepted (rising-same read these (all .rising) rises (λ b. (
-          λ i. paged b .1 (subst (λ H. OnPage (book 2 H) b) told (all .held b .0 i)),
-          λ i. all .held b .1 (subst (λ H. OnPage (book 2 H) b) (sym told) (paged b .0 i)),
-        )))
+  -- `crash`, for a cut at byte n that leaves k calls up to the last whole barrier: a block on a page is read, one that is read is on a page, each once
+  reads-cut : (H : List Entry) → heard ten (makeAfter ten M) l ≡ H → (out : List ℕ) → 68 ≤ length out → (n k : ℕ) (these : List ℕ) →
+      8 * startBy 0 H ≤ n → n ≤ 8 * usedBy 0 H → placeOf n 0 0 0 H ≡ k → Pairwise (λ b c. b < c) these → Paged (take k H) these →
+      readReply ten (take n (run ten (makeAfter ten M) l .log)) out ≡ accepted these
+  reads-cut H h out long n k these least most e rises paged =
+      let F = makeAfter ten M in
+      let c = crash ten M made l n (subst (λ K. 8 * startBy 0 K ≤ n) (sym h) least) (subst (λ K. n ≤ 8 * usedBy 0 K) (sym h) most) in
+      let told : heard ten F (c .early) ≡ take k H = cut-early ten F l n k c (ap (placeOf n 0 0 0) h ∙ e) .2 ∙ ap (take k) h in
+      let (read, is, all) = c .reads out (omega (arith, long)) in
+      is ∙ ap accepted (rising-same read these (all .rising) rises (λ b. (
+        λ i. paged b .1 (subst (λ K. OnPage (book 2 K) b) told (all .held b .0 i)),
+        λ i. all .held b .1 (subst (λ K. OnPage (book 2 K) b) (sym told) (paged b .0 i)),
+      )))
 
+  module _ (h : heard ten (makeAfter ten M) l ≡ plugged) (out : List ℕ) (long : 68 ≤ length out) where
     -- right at the end of C's words
     pub cut-16 : readReply ten (take 16 (run ten (makeAfter ten M) l .log)) out ≡ accepted (0 ∷ [])
-    unfolding placeOf passes? blocksIn
-    cut-16 = reads-cut 16 3 (0 ∷ []) (omega arith) (omega arith) refl one paged-C
+    unfolding placeOf passes? startBy blocksIn
+    cut-16 = reads-cut plugged h out long 16 3 (0 ∷ []) (omega arith) (omega arith) refl one paged-C
 
     -- one byte of the Y is missing: back to the C
     pub cut-31 : readReply ten (take 31 (run ten (makeAfter ten M) l .log)) out ≡ accepted (0 ∷ [])
-    unfolding placeOf passes? blocksIn
-    cut-31 = reads-cut 31 3 (0 ∷ []) (omega arith) (omega arith) refl one paged-C
+    unfolding placeOf passes? startBy blocksIn
+    cut-31 = reads-cut plugged h out long 31 3 (0 ∷ []) (omega arith) (omega arith) refl one paged-C
 
     -- at the Y's end, and inside the word after it
     pub cut-32 : readReply ten (take 32 (run ten (makeAfter ten M) l .log)) out ≡ accepted (0 ∷ 1 ∷ [])
-    unfolding placeOf passes? blocksIn
-    cut-32 = reads-cut 32 5 (0 ∷ 1 ∷ []) (omega arith) (omega arith) refl both paged-Y
+    unfolding placeOf passes? startBy blocksIn
+    cut-32 = reads-cut plugged h out long 32 5 (0 ∷ 1 ∷ []) (omega arith) (omega arith) refl both paged-Y
 
     pub cut-35 : readReply ten (take 35 (run ten (makeAfter ten M) l .log)) out ≡ accepted (0 ∷ 1 ∷ [])
-    unfolding placeOf passes? blocksIn
-    cut-35 = reads-cut 35 5 (0 ∷ 1 ∷ []) (omega arith) (omega arith) refl both paged-Y
+    unfolding placeOf passes? startBy blocksIn
+    cut-35 = reads-cut plugged h out long 35 5 (0 ∷ 1 ∷ []) (omega arith) (omega arith) refl both paged-Y
 
     -- the free of block 0 counts once the Y after it is whole
     pub cut-48 : readReply ten (take 48 (run ten (makeAfter ten M) l .log)) out ≡ accepted (1 ∷ [])
-    unfolding placeOf passes? blocksIn
-    cut-48 = reads-cut 48 7 (1 ∷ []) (omega arith) (omega arith) refl one paged-YY
+    unfolding placeOf passes? startBy blocksIn
+    cut-48 = reads-cut plugged h out long 48 7 (1 ∷ []) (omega arith) (omega arith) refl one paged-YY
+
+  -- "none where there is none" (6.10): W's word is whole, and no barrier is there yet
+  pub cut-8 : heard ten (makeAfter ten M) l ≡ one-on → (out : List ℕ) → 68 ≤ length out →
+      readReply ten (take 8 (run ten (makeAfter ten M) l .log)) out ≡ accepted []
+  unfolding placeOf passes? startBy bookHeard
+  cut-8 h out long = reads-cut one-on h out long 8 0 [] (omega arith) (omega arith) refl tt (λ b. (λ i. i, λ o. o))
 
   -- `kept`: block 0, held at the barrier, is not given before the next one, though it was freed since and is freed again after that
   pub not-too-soon : heard ten (makeAfter ten M) l ≡ given-too-soon → ⊥
