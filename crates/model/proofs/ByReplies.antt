@@ -37,6 +37,7 @@ use Rattle.model.proofs.ReadingProof.{own-simulation}
 
 -- ── of the model ──
 
+-- a held block has a birth
 pub held-born : (K : View) (b : ℕ) → held K b ≡ true → 0 < K .birth b
 unfolding held
 held-born K b e = cases (same? (K .birth b) 0) (λ z. absurd (false≢true (sym (ap not (eq-eqb (K .birth b) 0 z)) ∙ e))) (λ n. omega arith)

@@ -1,12 +1,11 @@
 -- A PLUG PULLED: the log of a store, cut at any byte. The statement is `Crash` in specs/Crash.antt.
 use mathlib.Core.Path.{_≡_, refl, sym, ap, ap₂, _∙_, subst}
 use mathlib.Core.Logic.{_⊎_, inl, inr}
-use mathlib.Core.Bool.{Bool, true, false, not, cond, _&&_, false≢true}
+use mathlib.Core.Bool.{Bool, true, false, cond, _&&_, false≢true}
 use mathlib.Core.List.{List, [], _∷_, _++_, append-assoc, append-nil}
 use Prim.Native.Nat.{ℕ, zero, suc, _+_, _-_, _*_, _%_, _≤_, _<_}
 use native.Mathlib.Omega.{arith}
-use lib.ListN.{length, getD, take}
-use borrow.Author.Tests.{eq-eqb}
+use lib.ListN.{length, take}
 use lib.Seq.{take-take, take-append-add, length-take-le, take-all}
 use Rattle.answer.specs.Reply.{Reply, accepted, refused}
 use Rattle.answer.specs.Refusal.{NoneHolds}
@@ -21,7 +20,6 @@ use Rattle.log.proofs.Writing.{length-bytes, bytes-append}
 use Rattle.log.proofs.Appending.{words-append}
 use Rattle.log.proofs.SettledFacts.{settled-judged, settled-cut, every-accepted}
 use Rattle.model.specs.Book.{Some}
-use Rattle.model.specs.View.{View}
 use Rattle.model.specs.Lists.{In, Pairwise}
 use Rattle.model.specs.Sound.{Sound}
 use Rattle.model.specs.Actions.{Action, Asks, done}
@@ -30,7 +28,7 @@ use Rattle.model.specs.State.{State}
 use Rattle.model.specs.Calls.{Account, looking, opening, freeing, placing, marking, renewing, account, renews, refusalsBy, wordsBy, leftBy, freed}
 use Rattle.model.specs.Calls.{block, writing, conditions, result, acted, given, effect}
 use Rattle.model.specs.Layout.{stateOf}
-use Rattle.model.specs.Memory.{Memory, wordsUsed, reply, makeReply, makeAfter}
+use Rattle.model.specs.Memory.{Memory, wordsUsed, reply, makeAfter}
 use Rattle.model.specs.SoundStore.{SoundStore}
 use Rattle.model.specs.History.{give, entryOf, eventsOf, historyFrom, wasAccepted, syncsBy, syncs, synced?}
 use Rattle.model.specs.HistoryFacts.{Synced, Gives}
@@ -59,13 +57,11 @@ use Rattle.model.proofs.Along.{
   quiet-keeps,
   usedOf,
   Whole,
-  wrote,
   wroteAll,
   refused-tables,
   joined,
   grown,
   wrote-append,
-  Plain,
   plain-bytes,
   plain-wrote,
   Ends,

@@ -11,7 +11,7 @@ use lib.ListN.{length, take, drop, getD}
 use borrow.Author.Tests.{eq-eqb, ne-eqb}
 use Rattle.answer.specs.Reply.{Reply, accepted, refused}
 use Rattle.answer.specs.Refusal.{NoneBefore}
-use Rattle.answer.proofs.Cases.{cases, either, same?}
+use Rattle.answer.proofs.Cases.{cases, same?}
 use Rattle.geometry.specs.declared.Geometry.{Geometry}
 use Rattle.geometry.specs.Limits.{geometryOf, Inside, blocks}
 use Rattle.choice.specs.First.{Ahead}
@@ -32,7 +32,7 @@ use Rattle.model.specs.Book.{recOut, dropRec, keepLine, dropIn}
 use Rattle.model.specs.History.{Machine, Event, give, free, Entry, entryOf, stateFrom, historyFrom, events, book, syncs, unsynced}
 use Rattle.model.specs.History.{NotFreed, Standing, Demand3}
 use Rattle.model.specs.HistoryFacts.{HistoryFacts, givenIn, freedIn, different, onFirst, onRecs, onLines, Sealed, Gave, Names, LastGave}
-use Rattle.model.specs.HistoryFacts.{Synced, Frees, Gives, Lists}
+use Rattle.model.specs.HistoryFacts.{Gives}
 use Rattle.model.specs.Layout.{viewOf, stateOf}
 use Rattle.model.specs.Memory.{Memory, lent, wordsUsed, allConditions, reply, after, makeReply, makeAfter}
 use Rattle.model.specs.SoundStore.{SoundStore}
@@ -43,7 +43,7 @@ use Rattle.model.specs.Crash.{Ended, heard, usedAfter, startBy, Cut}
 use Rattle.model.specs.HistoryChoice.{isW, writesIn, markBy, MayBeGiven, IsChosen, HistoryChoice}
 use Rattle.model.specs.Estimate.{behind, BirthsAbove}
 use Rattle.model.specs.declared.Call.{Call}
-use Rattle.model.specs.declared.Call.the-variants.{Begin, Write, Erase, Seal, Fork, Delete, Read, Barrier, Compress, FreeList, Estimate}
+use Rattle.model.specs.declared.Call.the-variants.{Begin, Write, Erase, Seal, Delete, Read, Barrier, Compress, FreeList, Estimate}
 use Rattle.model.proofs.ListFacts.{rising-same}
 use Rattle.model.proofs.EachCall.{Is, is}
 use Rattle.model.proofs.Keeps.{making-is}

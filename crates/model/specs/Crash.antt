@@ -55,7 +55,7 @@ unfoldable pub startBy : ℕ → List Entry → ℕ
 startBy n [] = n
 startBy n (e ∷ l) = startBy (cond (compacts? e) (usedThen n (e .call) (e .answer)) n) l
 
--- these are "the held blocks, rising" (6.4), after the calls l
+-- these are "the held blocks, rising" (6.4), of the fresh store M after the calls l
 pub record AllHeld (g : Geometry) (M : Memory) (l : List Own) (these : List ℕ) : Type 0 where
   pub rising : Pairwise (λ b c. b < c) these
   pub held : (b : ℕ) → In b these ↔ HeldAfter g M l b
