@@ -32,15 +32,15 @@ module _ (p : ℕ → Bool) (b q : ℕ) (told : Told p b q) where
         shorter : (k : ℕ) → 2 ^ (32 - k) ≤ 2 ^ 32
         shorter k = let e : 32 - k ≤ 32 = omega arith in pow-mono e
 
-    inside : b % 32 + trailingZeros 32 q < 32
-    inside =
+    pub gap-inside : b % 32 + trailingZeros 32 q < 32
+    gap-inside =
         cases (lt? (trailingZeros 32 q) (32 - b % 32)) (λ h. omega arith) (λ h. absurd (true-false (tz-at 32 q some wide .1) (bit-high (32 - b % 32) q (trailingZeros 32 q) fits h)))
 
     pub gap-below : (j : ℕ) → j < trailingZeros 32 q → p (b + j) ≡ false
-    gap-below j h = told j (omega (arith, inside)) ∙ tz-below 32 q j h
+    gap-below j h = told j (omega (arith, gap-inside)) ∙ tz-below 32 q j h
 
     pub gap-at : p (b + trailingZeros 32 q) ≡ true
-    gap-at = told (trailingZeros 32 q) inside ∙ tz-at 32 q some wide .1
+    gap-at = told (trailingZeros 32 q) gap-inside ∙ tz-at 32 q some wide .1
 
 same-word : (b j : ℕ) → b % 32 + j < 32 → (b + j) / 32 ≡ b / 32
 same-word b j h = omega arith
@@ -59,3 +59,8 @@ module _ (words : List ℕ) (b : ℕ) {q : ℕ} where
   told-held f e j h =
       rw (e, same-word b j h, same-bit b j h)
       (sym (bit-shift (2 ^ 32 - 1 - getD words (b / 32) 0) (b % 32) j ∙ bit-not 32 (getD words (b / 32) 0) (b % 32 + j) f h))
+
+-- no block of a word that is 0 may be given
+pub word-none : (words : List ℕ) (b : ℕ) → getD words (b / 32) 0 ≡ 0 → freeIn words b ≡ false
+unfolding freeIn
+word-none words b e = rw e (no-bit (b % 32))

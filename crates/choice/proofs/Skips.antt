@@ -6,6 +6,7 @@ use Prim.Native.Nat.{ℕ, suc, _+_, _-_, _*_, _≤_, _<_}
 use native.Mathlib.Nat.{mul-le-mul-right, suc-mul}
 use native.Mathlib.Omega.{arith}
 use lib.Dec.{eqb}
+use lib.Bits.{bitOr, or-add-and, and-le-r, or-comm}
 use lib.ListN.{getD}
 use mir.Val.{Fits}
 use mir.Syntax.{w32, w64}
@@ -40,6 +41,16 @@ pub four-more : (f : ℕ → ℕ) (k n : ℕ) {x : ℕ} → ((i : ℕ) → k ≤
 four-more f k n h e i l u =
     cases (lt? i n) (λ b. h i l b)
     (λ b. let s : n + (i - n) ≡ i = omega arith in ap f (sym s) ∙ e (i - n) (omega arith))
+
+-- two numbers that have no 1 together are both 0
+or-none : (a b : ℕ) → bitOr a b ≡ 0 → (a ≡ 0) × (b ≡ 0)
+or-none a b e = (omega (arith, or-add-and a b, and-le-r a b), omega (arith, or-add-and b a, or-comm a b, and-le-r b a))
+
+-- one number more that is 0
+pub one-more : (f : ℕ → ℕ) {k bits : ℕ} → (bits ≡ 0 → (i : ℕ) → i < k → f i ≡ 0) → bitOr bits (f k) ≡ 0 → (i : ℕ) → i < k + 1 → f i ≡ 0
+one-more f {k} {bits} h e i l =
+    let z = or-none bits (f k) e in
+    cases (lt? i k) (h (z .0) i) (λ u. let s : i ≡ k = omega arith in rw s (z .1))
 
 -- a number that fits 32 bits fits 64
 pub wider : (x : ℕ) → Fits w32 x → Fits w64 x

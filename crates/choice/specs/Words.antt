@@ -36,10 +36,6 @@ unfoldable pub wordsAgree : List ℕ → (ℕ → Bool) → ℕ → ℕ → Bool
 wordsAgree words p n zero = true
 wordsAgree words p n (suc k) = wordsAgree words p n k && eqb (getD words k 0) (wordOf p (32 * k) (min 32 (n - 32 * k)))
 
--- bit k of a number is 1 where word k, of 64, is not 0; it may be 1 where it is
-abbrev pub Marked : List ℕ → ℕ → Type 0
-Marked words some = (k : ℕ) → k < 64 → bit some k ≡ false → getD words k 0 ≡ 0
-
 -- what the search asks of its caller: ranges
 pub record Searchable (words marks : List ℕ) (arenas per counter kind : ℕ) : Type 0 where
   pub arenas-least : 0 < arenas

@@ -3,8 +3,7 @@ ghost use mathlib.Core.Path.{_≡_};
 ghost use Prim.Native.Nat.{ℕ, _+_, _-_, _*_, _/_, _%_, _^_, _<_, _≤_, min};
 ghost use mathlib.Core.Bool.{true, false, not};
 ghost use lib.ListN.{length, getD};
-ghost use Rattle.choice.specs.Words.{freeIn, markIn, firstOf, bornFree, wordOf, wordsAgree, Marked, Searchable};
-ghost use Rattle.choice.specs.First.{Full};
+ghost use Rattle.choice.specs.Words.{freeIn, markIn, firstOf, bornFree, wordOf, wordsAgree, Searchable};
 ghost use Rattle.choice.specs.Search.{chosen};
 ghost use Rattle.choice.specs.Turn.{next, turned};
 
@@ -154,147 +153,67 @@ fn start_arena(arenas: usize, counter: usize, kind: usize) -> usize
     if once < arenas { once } else { once - arenas }
 }
 
-// Which of 64 words are not 0, as bits: one pass, compiled to wide steps. Where there are not 64, any may be.
-fn some_of(words: &[u32]) -> u64
-    ensures { λ r. ⌜ Marked (now (words .entry)) r ⌝ }
+// How many of `most` blocks from block b on come before the first free one in the word of b; `most` where that word has none of them.
+fn look(words: &[u32], b: usize, most: usize) -> usize
+    requires { ⌜ (b < 32 * length (now words)) × (b ≤ 16384) ⌝ }
+    ensures range { λ r. ⌜ r ≤ most ⌝ }
+    ensures none { λ r. ⌜ ((j : ℕ) → j < r → b % 32 + j < 32 → freeIn (now (words .entry)) (b + j) ≡ false) ⌝ }
+    ensures hit { λ r. ⌜ (r < most → (b % 32 + r < 32) × (freeIn (now (words .entry)) (b + r) ≡ true)) ⌝ }
 {
-    if words.len() != 64 {
-        return 0xffff_ffff_ffff_ffff;
+    let rest = rest_of(words[b >> 5], b);
+    if rest != 0 {
+        return least(u32::trailing_zeros(rest) as usize, most);
     }
-    let low = word_of(words, 0) as u64;
-    let high = word_of(words, 32) as u64;
-    !(low | (high << 32))
+    most
 }
 
-// A block of the words behind word k, up to which none of them may be given: the first that may be, or 2,048.
-fn first_behind(words: &[u32], some: u64, k: usize) -> usize
-    requires { ⌜ (k < 64) × (length (now words) ≡ 64) × Marked (now words) some ⌝ }
-    ensures range { λ r. ⌜ (32 * k + 32 ≤ r) × (r ≤ 2048) ⌝ }
-    ensures none { λ r. ⌜ ((b : ℕ) → 32 * k + 32 ≤ b → b < r → freeIn (now (words .entry)) b ≡ false) ⌝ }
+// How many of `most` blocks from block b on come before the first word after that of b which is not 0; `most` where there is none.
+fn jump(words: &[u32], b: usize, most: usize) -> usize
+    requires { ⌜ (0 < most) × (b + most ≤ 16384) × (b + most ≤ 32 * length (now words)) ⌝ }
+    ensures range { λ r. ⌜ (0 < r) × (r ≤ most) ⌝ }
+    ensures none { λ r. ⌜ ((j : ℕ) → j < r → 32 ≤ b % 32 + j → freeIn (now (words .entry)) (b + j) ≡ false) ⌝ }
 {
-    let later = (some >> (k as u32)) >> 1;
-    let j = (k + 1 + (u64::trailing_zeros(later) as usize)) & 63;
-    let there = 32 * j + (u32::trailing_zeros(words[j]) as usize);
-    if later != 0 { there } else { 2048 }
+    let k = next_word(words, (b >> 5) + 1, (b + most + 31) >> 5, 0);
+    least(32 * k - b, most)
 }
 
-// A block from lo on, up to which none may be given: the first that may be, or 2,048; lo itself where there are not 64 words. Both words
-// are read before it is known which counts: in a nearly full store a branch here would often be foretold wrong.
-fn first_from(words: &[u32], some: u64, lo: usize) -> usize
-    requires { ⌜ (lo < 32 * length (now words)) × (lo ≤ 16384) × Marked (now words) some ⌝ }
-    ensures range { λ r. ⌜ (lo ≤ r) × (r ≤ lo + 2048) ⌝ }
-    ensures none { λ r. ⌜ ((b : ℕ) → lo ≤ b → b < r → freeIn (now (words .entry)) b ≡ false) ⌝ }
+// Is none of the blocks below `all` free? One pass over the words, compiled to wide steps.
+fn none_free(words: &[u32], all: usize) -> bool
+    requires { ⌜ (all ≤ 16384) × (all ≤ 32 * length (now words)) ⌝ }
+    ensures { λ r. ⌜ (r ≡ true → (b : ℕ) → b < all → freeIn (now (words .entry)) b ≡ false) ⌝ }
 {
-    if words.len() != 64 {
-        return lo;
+    let n = (all + 31) >> 5;
+    let mut bits: u32 = 0;
+    let mut k: usize = 0;
+    while k < n {
+        bits = bits | words[k];
+        k += 1;
     }
-    let k = lo >> 5;
-    let rest = rest_of(words[k], lo);
-    let near = lo + (u32::trailing_zeros(rest) as usize);
-    let far = first_behind(words, some, k);
-    if rest != 0 { near } else { far }
+    bits == 0
 }
 
-// The same round: from lo on and below `all`, or else from 0 on.
-fn first_round(words: &[u32], some: u64, lo: usize, all: usize) -> usize
-    requires { ⌜ (lo < all) × (all ≤ 16384) × (all ≤ 32 * length (now words)) × Marked (now words) some ⌝ }
-    ensures on { λ r. ⌜ ((b : ℕ) → lo ≤ b → b < all → b < r → freeIn (now (words .entry)) b ≡ false) ⌝ }
-    ensures round { λ r. ⌜ (r < lo → (b : ℕ) → lo ≤ b → b < all → freeIn (now (words .entry)) b ≡ false) ⌝ }
-    ensures front { λ r. ⌜ (r < lo → (b : ℕ) → b < r → freeIn (now (words .entry)) b ≡ false) ⌝ }
-    ensures none { λ r. ⌜ (all ≤ r → (b : ℕ) → b < all → freeIn (now (words .entry)) b ≡ false) ⌝ }
+// The first arena after `arena` that has a free block; `arenas` where none of those after it has one. It adds up the arenas' ends and
+// does not divide.
+fn arena_after(words: &[u32], arenas: usize, per: usize, arena: usize) -> usize
+    requires { ⌜ (arena < arenas) × (arenas ≤ 16) × (0 < per) × (per ≤ 1024) × (arenas * per ≤ 32 * length (now words)) ⌝ }
+    ensures range { λ r. ⌜ (arena < r) × (r ≤ arenas) ⌝ }
+    ensures none { λ r. ⌜ ((b : ℕ) → arena * per + per ≤ b → b < r * per → freeIn (now (words .entry)) b ≡ false) ⌝ }
 {
-    let here = first_from(words, some, lo);
-    let front = first_from(words, some, 0);
-    if here < all { here } else { front }
-}
-
-// The arena of a block, found by halves: neither a division nor a branch.
-fn arena_of(b: usize, per: usize) -> usize
-    requires { ⌜ (b < 16 * per) × (per ≤ 1024) ⌝ }
-    ensures { λ r. ⌜ (r * per ≤ b) × (b < r * per + per) ⌝ }
-{
-    let mut arena: usize = 0;
-    let mut start: usize = 0;
-    let mut width: usize = 16;
-    while 1 < width {
-        width = (width + 1) >> 1;
-        if start + width * per <= b {
-            arena += width;
-            start += width * per;
-        }
+    let first = arena * per + per;
+    let free = first_given(words, first, arenas * per);
+    let mut next = arena + 1;
+    let mut end = first + per;
+    while end <= free {
+        next += 1;
+        end += per;
     }
-    arena
+    next
 }
 
-// How many arenas from `arena` on, round, are passed over: none of them has a free block.
-fn arenas_passed(words: &[u32], some: u64, arenas: usize, per: usize, arena: usize) -> usize
-    requires { ⌜ (arena < arenas) × (arenas ≤ 16) × (0 < per) × (per ≤ 1024) × (arenas * per ≤ 32 * length (now words)) × Marked (now words) some ⌝ }
-    ensures range { λ r. ⌜ r ≤ arenas ⌝ }
-    ensures full { λ r. ⌜ ((i : ℕ) → i < r → Full (freeIn (now (words .entry))) per ((arena + i) % arenas)) ⌝ }
-{
-    let free = first_round(words, some, arena * per, arenas * per);
-    if arenas * per <= free {
-        return arenas;
-    }
-    let a = arena_of(free, per);
-    if a < arena {
-        a + arenas - arena
-    } else {
-        a - arena
-    }
-}
-
-// How many blocks of the arena that begins at `start` are passed over, from its mark on and round: none of them is free.
-fn blocks_passed(words: &[u32], some: u64, start: usize, per: usize, mark: usize) -> usize
-    requires { ⌜ (mark < per) × (start + per ≤ 16384) × (start + per ≤ 32 * length (now words)) × Marked (now words) some ⌝ }
-    ensures range { λ r. ⌜ (r ≤ per) × (mark + r < per + per) ⌝ }
-    ensures behind { λ r. ⌜ ((b : ℕ) → start + mark ≤ b → b < start + per → b < start + mark + r → freeIn (now (words .entry)) b ≡ false) ⌝ }
-    ensures front { λ r. ⌜ ((b : ℕ) → start ≤ b → b + per < start + mark + r → freeIn (now (words .entry)) b ≡ false) ⌝ }
-{
-    let behind = first_from(words, some, start + mark) - start;
-    let front = least(first_from(words, some, start) - start, mark);
-    if behind < per {
-        behind - mark
-    } else {
-        per - mark + front
-    }
-}
-
-// The first free block from arena `first` on, round; in each arena from its mark on, round. `words` are the free words of the tables, a
-// bit a block; `marks` are the arenas' marks. Each turn of the inner loop goes to the first free block before the end of the arena, or
-// round. Before each loop, by the words that are not 0, all that holds no free block is passed over at once.
-fn choose_far(words: &[u32], marks: &[u32], arenas: usize, per: usize, first: usize) -> Found
-    requires { ⌜ Searchable (now words) (now marks) arenas per first 0 ⌝ }
-    ensures { λ r. ⌜ r ≡ chosen (freeIn (now (words .entry))) (markIn (now (marks .entry))) arenas per first ⌝ }
-{
-    let some = some_of(words);
-    let mut tried = arenas_passed(words, some, arenas, per, first);
-    let mut arena = round_of(arenas, first + tried);
-    let found = 'search: loop {
-        if arenas <= tried {
-            break 'search Found::Nothing;
-        }
-        let start = arena * per;
-        let mark = marks[arena] as usize;
-        let mut seen = blocks_passed(words, some, start, per, mark);
-        let mut at = round_of(per, mark + seen);
-        while seen < per {
-            let most = least(per - at, per - seen);
-            let block = start + at;
-            let free = first_given(words, block, block + most);
-            if free < block + most {
-                break 'search Found::At(arena, at + (free - block));
-            }
-            at = next_of(per, at + most - 1);
-            seen += most;
-        }
-        tried += 1;
-        arena = next_of(arenas, arena);
-    };
-    found
-}
-
-// The first free block: from the arena of the counter and the kind on. What is left of the word of that arena's mark mostly has it.
+// The first free block: from the arena of the counter and the kind on, round; in each arena from its mark on, round. `words` are the free
+// words of the tables, a bit a block; `marks` are the arenas' marks. Each turn of the inner loop looks at what is left of one word, from
+// `at` up to `end`; the first `more` blocks of the arena come after. Where that word has no free block, either no word has one, and the
+// search ends, or the step passes over the words that are 0. The step of the outer loop passes over the arenas that have no free block.
 pub fn choose(
     words: &[u32],
     marks: &[u32],
@@ -306,17 +225,37 @@ pub fn choose(
     requires { ⌜ Searchable (now words) (now marks) arenas per counter kind ⌝ }
     ensures { λ r. ⌜ r ≡ chosen (freeIn (now (words .entry))) (markIn (now (marks .entry))) arenas per (counter + kind) ⌝ }
 {
-    let first = start_arena(arenas, counter, kind);
-    let mark = marks[first] as usize;
-    let block = first * per + mark;
-    let rest = rest_of(words[block >> 5], block);
-    if rest != 0 {
-        let o = mark + (u32::trailing_zeros(rest) as usize);
-        if o < per {
-            return Found::At(first, o);
+    let mut arena = start_arena(arenas, counter, kind);
+    let mut tried: usize = 0;
+    let found = 'search: loop {
+        if arenas <= tried {
+            break 'search Found::Nothing;
         }
-    }
-    choose_far(words, marks, arenas, per, first)
+        let mark = marks[arena] as usize;
+        let mut at = mark;
+        let mut end = per;
+        let mut more = mark;
+        while at < end {
+            let block = arena * per + at;
+            let near = look(words, block, end - at);
+            if near < end - at {
+                break 'search Found::At(arena, at + near);
+            }
+            if none_free(words, arenas * per) {
+                break 'search Found::Nothing;
+            }
+            at += jump(words, block, end - at);
+            if end <= at {
+                at = 0;
+                end = more;
+                more = 0;
+            }
+        }
+        let next = arena_after(words, arenas, per, arena);
+        tried += next - arena;
+        arena = round_of(arenas, next);
+    };
+    found
 }
 
 // The free word of the n blocks whose births stand from `at` on: for the last word, where the blocks end within it.
