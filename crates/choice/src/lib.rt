@@ -7,13 +7,13 @@ ghost use Rattle.choice.specs.Words.{freeIn, markIn, firstOf, bornFree, 
 ghost use Rattle.choice.specs.Search.{chosen};
 ghost use Rattle.choice.specs.Turn.{next, turned};
 
-// A free block, by its arena and how far behind the arena's first block it stands; or none.
+// A free block, by its arena and how far after the arena's first block it stands; or none.
 pub enum Found {
     At(usize, usize),
     Nothing,
 }
 
-// The number behind i among the n numbers from 0 on, round to 0. Compares and does not divide.
+// The number after i among the n numbers from 0 on, round to 0. Compares and does not divide.
 pub fn next_of(n: usize, i: usize) -> usize
     requires { ⌜ (i < n) × (n ≤ 2048) ⌝ }
     ensures is { λ r. ⌜ r ≡ next n i ⌝ }
@@ -56,7 +56,7 @@ fn are_four(words: &[u32], at: usize, skip: u32) -> bool
         & (words[at + 3] == skip)
 }
 
-// A word up to which all words from k on are `skip`, and no word behind end: four at a time.
+// A word up to which all words from k on are `skip`, and no word after end: four at a time.
 fn pass_fours(words: &[u32], k: usize, end: usize, skip: u32) -> usize
     requires { ⌜ (k ≤ end) × (end ≤ length (now words)) ⌝ }
     ensures range { λ r. ⌜ (k ≤ r) × (r ≤ end) ⌝ }
@@ -290,7 +290,7 @@ pub fn word_of(births: &[u32], at: usize) -> u32
     word
 }
 
-// Do the 64 words agree with the births of n blocks: a bit is 1 where the birth is 0, and 0 behind the last block?
+// Do the 64 words agree with the births of n blocks: a bit is 1 where the birth is 0, and 0 after the last block?
 pub fn words_agree(words: &[u32], births: &[u32], n: usize) -> bool
     requires { ⌜ (64 ≤ length (now words)) × (n ≤ 2048) × (n ≤ length (now births)) ⌝ }
     ensures { λ r. ⌜ r ≡ wordsAgree (now (words .entry)) (bornFree (now (births .entry))) n 64 ⌝ }
