@@ -1,4 +1,4 @@
--- The refusals for what is lent, each exactly, and what a making leaves.
+-- The refusals, each exactly, and what a making leaves.
 use mathlib.Core.Path.{_≡_, refl, sym, ap, _∙_, subst}
 use mathlib.Core.Bool.{Bool, true, false, not}
 use mathlib.Core.List.{List, [], _∷_}
@@ -23,12 +23,14 @@ use Rattle.model.specs.Calls.{conditions, result, written, effect}
 use Rattle.model.specs.Layout.{need, freeWord, stateOf, stored, made}
 use Rattle.model.specs.Memory.{Memory, short?, sound?, writtenAt, reply, after, makeReply, makeAfter}
 use Rattle.model.specs.SoundStore.{MadeFor, SoundStore}
+use Rattle.model.specs.RefusalMeans.{sentences, Say}
 use Rattle.model.specs.declared.Call.{Call}
-use Rattle.model.proofs.Reflect.{Says}
 use Rattle.model.proofs.Demands.{all-ordered}
-use Rattle.model.proofs.Keeps.{making-is, made-tables}
+use Rattle.model.proofs.Keeps.{making-is, made-tables, sound-fine}
 use Rattle.model.proofs.MadeFacts.{made-length, made-for, made-zero, made-free, made-beyond}
 use Rattle.model.proofs.SoundTest.{sound-iff}
+use Rattle.model.proofs.RefusalMeaning.{conditions-say}
+use Rattle.model.proofs.RefusedExactly.{say-first, say-none}
 use Rattle.ledger.specs.MemoryMeans.{Enough, TooShort, MadeLeft, MakingMeans, CallMeans, MemoryMeans}
 use Rattle.ledger.proofs.Exactly.{Means, less, negated, either-of, outside, apart, not-accepted, here, later}
 use Rattle.ledger.proofs.LogMeaning.{beyond}
@@ -106,21 +108,38 @@ making-means g M =
 
 -- ── a call ──
 
+-- "4: tables that are not sound" (7.1)
+pub is-unsound : (g : Geometry) → Inside g → (t log : List ℕ) → Means (not (sound? g t log)) (SoundStore g t log → ⊥) (SoundStore g t log)
+is-unsound g i t log = let s = sound-iff g i t log in negated (record { holds = s .0; passes = s .1 })
+
 call-means : (g : Geometry) (M : Memory) (c : Call) → CallMeans g M c
 unfolding reply after
 call-means g M c =
     let T : State = stateOf g (M .tables) in
     let l : List ℕ = result g T c in
-    let three : List Condition = (4, not (sound? g (M .tables) (M .log))) ∷ conditions g T c in
+    let four : List Condition = conditions g T c in
+    let three : List Condition = (4, not (sound? g (M .tables) (M .log))) ∷ four in
     let two : List Condition = (3, short? g M) ∷ three in
-    let o = all-ordered g M c in
-    let sound : Inside g → Says (sound? g (M .tables) (M .log)) (SoundStore g (M .tables) (M .log)) =
-    λ i. let s = sound-iff g i (M .tables) (M .log) in record { holds = s .0; passes = s .1 } in
+    let after-2 = all-ordered g M c .1 in
+    let after-3 = after-2 .1 in
+    let after-4 = after-3 .1 in
+    let say : Inside g → SoundStore g (M .tables) (M .log) → Say four (sentences g T c) =
+    λ i s. conditions-say g i T (sound-fine g (M .tables) (M .log) s) c in
     record {
-      two = here (outside g) 2 two l (o .1);
-      three = later (outside g) 2 two l (refused 3) (apart (λ e. omega arith)) (λ i. here (is-short g M) 3 three l (o .1 .1));
+      two = here (outside g) 2 two l after-2;
+      three = later (outside g) 2 two l (refused 3) (apart (λ e. omega arith)) (λ i. here (is-short g M) 3 three l after-3);
       four = later (outside g) 2 two l (refused 4) (apart (λ e. omega arith))
-          (λ i. later (is-short g M) 3 three l (refused 4) (apart (λ e. omega arith)) (λ k. here (negated (sound i)) 4 (conditions g T c) l (o .1 .1 .1)));
+          (λ i. later (is-short g M) 3 three l (refused 4) (apart (λ e. omega arith))
+          (λ k. here (is-unsound g i (M .tables) (M .log)) 4 four l after-4));
+      later = λ n h.
+          later (outside g) 2 two l (refused n) (apart (λ e. omega arith))
+          (λ i. later (is-short g M) 3 three l (refused n) (apart (λ e. omega arith))
+          (λ k. later (is-unsound g i (M .tables) (M .log)) 4 four l (refused n) (apart (λ e. omega arith))
+          (λ s. say-first four (sentences g T c) l n (say i s))));
+      done = λ m.
+          later (outside g) 2 two l (accepted m) not-accepted
+          (λ i. later (is-short g M) 3 three l (accepted m) not-accepted
+          (λ k. later (is-unsound g i (M .tables) (M .log)) 4 four l (accepted m) not-accepted (λ s. say-none four (sentences g T c) l m (say i s))));
       refusal = λ n e. ap (λ (r : Reply). record {
         tables = leaves r (M .tables) (stored g (effect g T c) (M .tables));
         log = leaves r (M .log) (writeAt (M .log) (writtenAt T c) (bytesOf (written g T c)));
@@ -128,6 +147,6 @@ call-means g M c =
       }) e;
     }
 
--- MEMORY: the refusals for what is lent, and what a making leaves
+-- MEMORY: every refusal, and what a making leaves
 pub memory-means : MemoryMeans
 memory-means g M = (making-means g M, call-means g M)

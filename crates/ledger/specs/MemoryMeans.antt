@@ -1,15 +1,19 @@
--- THE REFUSALS FOR WHAT IS LENT, of a making (2, 3) and of a call (2, 3, 4), each exactly when (rules 2.1, 7.1, 8), and what a making leaves (2.3).
+-- THE REFUSALS, of a making (2, 3) and of a call (2 to 14), each exactly when, and acceptance (rules 2.1, 7.1, 8), on any memory; what a making leaves (2.3).
 use mathlib.Core.Path.{_≡_}
 use mathlib.Core.Logic.{_↔_, _⊎_}
-use mathlib.Core.List.{[]}
+use mathlib.Core.List.{List, []}
 use Prim.Native.Nat.{ℕ, _+_, _*_, _/_, _%_, _^_, _≤_, _<_}
 use lib.ListN.{length, getD}
 use Rattle.answer.specs.Reply.{accepted, refused}
 use Rattle.geometry.specs.declared.Geometry.{Geometry}
 use Rattle.geometry.specs.Limits.{Inside, blocks}
 use Rattle.ledger.specs.LogMeans.{Within}
+use Rattle.model.specs.State.{State}
+use Rattle.model.specs.Calls.{result}
+use Rattle.model.specs.Layout.{stateOf}
 use Rattle.model.specs.Memory.{Memory, reply, after, makeReply, makeAfter}
 use Rattle.model.specs.SoundStore.{MadeFor, SoundStore}
+use Rattle.model.specs.RefusalMeans.{sentences, First, NoneTrue}
 use Rattle.model.specs.declared.Call.{Call}
 
 -- how many numbers the tables of a geometry are
@@ -43,12 +47,23 @@ pub record MakingMeans (g : Geometry) (M : Memory) : Type 0 where
   pub log : makeAfter g M .log ≡ M .log
   pub out : makeAfter g M .out ≡ M .out
 
--- ── a call: RefusalMeans has the conditions from 5 on ──
+-- ── a call ──
+
+-- the state that the tables hold
+abbrev pub held : Geometry → Memory → State
+held g M = stateOf g (M .tables)
 
 pub record CallMeans (g : Geometry) (M : Memory) (c : Call) : Type 0 where
   pub two : (reply g M c ≡ refused 2) ↔ (Inside g → ⊥)
   pub three : (reply g M c ≡ refused 3) ↔ (Inside g × TooShort g M)
   pub four : (reply g M c ≡ refused 4) ↔ (Inside g × (Enough g M × (SoundStore g (M .tables) (M .log) → ⊥)))
+  -- 5 to 14: the first of the call's sentences that is true (RefusalMeans has them in the rules' words) has this number
+  pub later : (n : ℕ) → 4 < n →
+      (reply g M c ≡ refused n) ↔ (Inside g × (Enough g M × (SoundStore g (M .tables) (M .log) × First n (sentences g (held g M) c))))
+  -- none of them is true
+  pub done : (l : List ℕ) →
+      (reply g M c ≡ accepted l) ↔
+      (Inside g × (Enough g M × (SoundStore g (M .tables) (M .log) × (NoneTrue (sentences g (held g M) c) × (result g (held g M) c ≡ l)))))
   pub refusal : (n : ℕ) → reply g M c ≡ refused n → after g M c ≡ M
 
 abbrev pub MemoryMeans : Type 0
