@@ -1,7 +1,7 @@
 -- A refusal, exactly: conditions one behind the other, and of each what it means that it is true, and that it is false.
 use mathlib.Core.Path.{_≡_, sym, ap}
 use mathlib.Core.Logic.{_↔_, _⊎_, inl, inr}
-use mathlib.Core.Bool.{Bool, true, false, not, _||_, or-true, true≢false}
+use mathlib.Core.Bool.{Bool, true, false, not, _&&_, _||_, or-true, true≢false}
 use mathlib.Core.List.{List, _∷_}
 use Prim.Native.Nat.{ℕ, _≤_, _<_}
 use native.Mathlib.Omega.{arith}
@@ -43,6 +43,19 @@ either-of {t} {u} {P} {N} {Q} {O} a b = record {
   denies = record {
     holds = λ e. cases (either t) (λ y. absurd (true≢false (sym (rw y at e)))) (λ n. (a .denies .holds (ap not n), b .denies .holds (rw n at e)));
     passes = λ p. rw (not-true t (a .denies .passes (p .0))) (b .denies .passes (p .1));
+  };
+}
+
+-- both; what the second means may go by the first
+pub both-of : {t u : Bool} {P N Q O : Type 0} → Means t P N → (P → Means u Q O) → Means (t && u) (P × Q) (P → O)
+both-of {t} {u} {P} {N} {Q} {O} a b = record {
+  says = record {
+    holds = λ e. cases (either t) (λ y. let p = a .says .holds y in (p, b p .says .holds (rw y at e))) (λ n. absurd (true≢false (sym (rw n at e))));
+    passes = λ w. rw (a .says .passes (w .0)) (b (w .0) .says .passes (w .1));
+  };
+  denies = record {
+    holds = λ e p. b p .denies .holds (rw (a .says .passes p) at e);
+    passes = λ f. cases (either t) (λ y. let p = a .says .holds y in rw y (b p .denies .passes (f p))) (λ n. rw n);
   };
 }
 

@@ -2,6 +2,7 @@
 pub mod Serving
 pub mod Onward
 pub mod Hosting
+pub mod HostMeaning
 pub mod TranscriptLine
 pub mod TranscriptLines
 pub mod TranscriptParts
