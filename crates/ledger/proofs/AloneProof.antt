@@ -5,51 +5,53 @@ use mathlib.Core.Bool.{true, false}
 use mathlib.Core.List.{List, [], _∷_, _++_, map}
 use Prim.Native.Nat.{ℕ, _+_}
 use Rattle.answer.specs.Reply.{Reply, accepted, refused}
-use Rattle.answer.specs.Refusal.{leaves, NoneBefore}
-use Rattle.answer.proofs.Decided.{decide-accepted}
+use Rattle.answer.specs.Refusal.{NoneBefore}
 use Rattle.geometry.specs.declared.Geometry.{Geometry}
 use Rattle.geometry.specs.Limits.{Inside, blocks}
 use Rattle.model.specs.Calls.{result}
-use Rattle.model.specs.Book.{Book, OnPage, accept, enter}
+use Rattle.model.specs.Book.{Book, OnPage, enter}
 use Rattle.model.specs.Results.{numbersOf}
 use Rattle.model.specs.State.{State, fresh}
-use Rattle.model.specs.History.{Entry, eventsOf, events, firstGiven, entryOf, told, bookFrom, book, stateFrom, historyFrom, unsynced}
+use Rattle.model.specs.Memory.{makeAfter}
+use Rattle.model.specs.History.{Entry, events, entryOf, told, bookFrom, book, stateFrom, historyFrom, unsynced}
 use Rattle.model.specs.HistoryFacts.{HistoryFacts, givenIn, freedIn, different, Sealed, Names, LastGave}
 use Rattle.model.specs.Model.{Screened, screenedConditions, answer, modelAfter, model}
 use Rattle.model.specs.declared.Call.{Call}
 use Rattle.model.proofs.ByNumber.{earlier-iff}
 use Rattle.model.proofs.ModelFacts.{all-ordered}
 use Rattle.model.proofs.Fine.{Fine}
+use Rattle.model.proofs.Keeps.{making-is}
 use Rattle.model.proofs.StepFacts.{fresh-fine}
 use Rattle.model.proofs.WholeList.{WholeList, each-list}
 use Rattle.model.proofs.WholeListProof.{whole-list}
 use Rattle.model.proofs.HistoryFactsProof.{history-facts}
-use Rattle.ledger.specs.Ledger.{Ledger, account, refusalsOf, says, keeps, step}
+use Rattle.ledger.specs.Ledger.{Ledger, account, refusalsOf, says, step}
+use Rattle.ledger.specs.Told.{noted, BookKept}
 use Rattle.ledger.specs.Alone.{clerk, LedgerDemand, LedgerBook}
 use Rattle.ledger.proofs.Tells.{Tells, fresh-tells}
-use Rattle.ledger.proofs.ToldProof.{plain, plain-told, noted-step, after-told}
+use Rattle.ledger.proofs.ToldProof.{plain, plain-told, noted-step, after-told, book-entered}
+use Rattle.ledger.proofs.StoreToldProof.{made-book}
+use Rattle.ledger.proofs.OwnToldProof.{own-book, fresh-owned}
 
 -- ── the book inside the ledger is the book ──
 
 book-step : (g : Geometry) (L : Ledger) (c : Call) → step g L c .book ≡ enter (g .pages) (L .book) (told (entryOf (clerk g) L c))
-unfolding step enter keeps says
-book-step g L c = go (says g L c) refl
-  where
-    go : (r : Reply) → says g L c ≡ r → leaves r L (keeps g L c) .book ≡ enter (g .pages) (L .book) (told (record { call = c; answer = r }))
-    go (refused n) e = refl
-    go (accepted l) e =
-        Rattle.ledger.proofs.EachTold.told c .block g L (L .book) ∙
-        ap (λ (m : List ℕ). accept (g .pages) (L .book) c (firstGiven (eventsOf c (accepted m)))) (decide-accepted (refusalsOf g L c) (numbersOf (account g L c .result)) l e .1)
+unfolding step noted
+book-step g L c = book-entered g L c (says g L c) (λ l e. e)
 
-book-from : (g : Geometry) (l : List Call) (L : Ledger) → stateFrom (clerk g) L l .book ≡ bookFrom (g .pages) (L .book) (historyFrom (clerk g) L l)
-book-from g [] L = refl
-book-from g (c ∷ l) L =
-    book-from g l (step g L c) ∙ ap (λ (B : Book). bookFrom (g .pages) B (historyFrom (clerk g) (step g L c) l)) (book-step g L c)
+book-from : (g : Geometry) (L : Ledger) → BookKept g (clerk g) L (L .book) (stateFrom (clerk g) L)
+book-from g L [] = refl
+book-from g L (c ∷ l) =
+    book-from g (step g L c) l ∙ ap (λ (B : Book). bookFrom (g .pages) B (historyFrom (clerk g) (step g L c) l)) (book-step g L c)
 
 -- THE BOOK INSIDE THE LEDGER IS THE BOOK
 pub ledger-book : LedgerBook
 unfolding Rattle.ledger.specs.Ledger.fresh
-ledger-book g l = book-from g l Rattle.ledger.specs.Ledger.fresh
+ledger-book = record {
+  alone = λ g. book-from g Rattle.ledger.specs.Ledger.fresh;
+  lent = made-book;
+  own = λ g M e. own-book g (making-is g M e .0) (makeAfter g M) Rattle.ledger.specs.Ledger.fresh (fresh-owned g M e);
+}
 
 -- ── beside the model: the calls are those that meet none of 2, 3 and 4 ──
 

@@ -18,12 +18,12 @@ use Rattle.model.specs.declared.Call.{Call}
 use Rattle.ledger.specs.Ledger.{Ledger, refusalsOf, says}
 use Rattle.ledger.specs.Told.{tooShort, saysTo, stepsTo, LedgerSays}
 use Rattle.ledger.proofs.EachTold.{told}
-use Rattle.ledger.proofs.StoreToldProof.{store-told, store-left}
+use Rattle.ledger.proofs.StoreToldProof.{store-told}
 use Rattle.ledger.proofs.OwnToldProof.{own-store-told}
 
 -- WHAT THE LEDGER SAYS IS WHAT THE STORE DOES
 pub ledger-says : LedgerSays
-ledger-says = (store-told, store-left, own-store-told)
+ledger-says = record { lent = store-told; own = own-store-told }
 
 -- all that the ledger refuses for comes behind 4 in the order of the refusals
 pub refusals-ordered : (g : Geometry) (L : Ledger) (c : Call) → Ordered 4 (refusalsOf g L c)
