@@ -1,7 +1,7 @@
 -- What the functions on logs answer and touch.
 use mathlib.Core.Path.{_≡_, refl, sym, ap, ap₂, _∙_, subst}
 use mathlib.Core.Logic.{_↔_, Iff·trans}
-use mathlib.Core.Bool.{Bool, true, not, _&&_}
+use mathlib.Core.Bool.{Bool, true, false, not, _&&_}
 use mathlib.Core.List.{List, [], _∷_, _++_, append-assoc}
 use Prim.Native.Nat.{ℕ, zero, suc, _+_, _-_, _*_, _/_, _%_, _≤_, _<_}
 use native.Mathlib.Nat.{div-div-eq-div-mul, div-one}
@@ -18,16 +18,17 @@ use Rattle.log.specs.Word.{spell, wordBytes, bytesOf, words, writeAt}
 use Rattle.log.specs.Marks.{heldIn, passing, heldBlocks}
 use Rattle.log.specs.Read.{free, Result, readLog}
 use Rattle.log.specs.Entries.{Entry, allocate, release, barrier!, allocateRun, releaseRun, allWords, AllAllowed, behind, behindAll}
-use Rattle.log.specs.Settled.{settled, SettledIs}
+use Rattle.log.specs.Settled.{settled}
 use Rattle.log.specs.Tool.{judged, turnedAway, verdictBy, readable, marksOf, heldAtEnd, alike?, everyReply, readReply, readOut, compareConditions, compareVerdict, compactWords, compactReply, compactOut}
 use Rattle.log.proofs.Writing.{length-write, length-bytes}
 use Rattle.log.proofs.RoundTrip.{AllFit, words-bytes, compressed-fits, compressed-length}
 use Rattle.log.proofs.EntriesFacts.{reads-iff}
 use Rattle.log.proofs.AlikeFacts.{alike-iff, compressed-alike}
-use Rattle.log.proofs.SettledFacts.{settled-is, settled-only}
+use Rattle.log.proofs.SettledFacts.{settled-is}
 use Rattle.log.proofs.Tools.{pass-length}
 use Rattle.model.proofs.Reflect.{Says, _&_}
-use Rattle.ledger.specs.LogMeans.{Given, Within, Bytes, IsLog, holds, ReadMeans, CompareMeans, CompactMeans, ToolsMean}
+use Rattle.ledger.specs.LogMeans.{Given, Within, Bytes, IsLog, holds, SettledBytes, ReadMeans, CompareMeans, CompactMeans, ToolsMean}
+use Rattle.ledger.proofs.BarrierBytes.{settled-by-bytes, settled-alone}
 use Rattle.ledger.proofs.Exactly.{Means, less, negated, outside, apart, not-accepted, here, later}
 
 -- ── what is changed of a piece of memory ──
@@ -76,7 +77,7 @@ spelled a b c d e f g h ha hb hc hd he hf hg hh =
     let t : a % 256 ≡ a = omega arith in
     simp (rest 0x1_0000_0000_0000, rest 0x100_0000_0000, rest 0x1_0000_0000, rest 0x100_0000, rest 0x1_0000, rest 0x100, rest 1, div-one, low, t)
 
-bytes-words : (l : List ℕ) → Bytes l → length l % 8 ≡ 0 → bytesOf (words l) ≡ l
+pub bytes-words : (l : List ℕ) → Bytes l → length l % 8 ≡ 0 → bytesOf (words l) ≡ l
 unfolding words
 bytes-words [] k h = refl
 bytes-words (a ∷ []) k h = absurd (omega arith)
@@ -168,7 +169,7 @@ module _ (g : Geometry) (n least : ℕ) (log : List ℕ) (bytes : Bytes log) (l 
 -- ── reading: what is settled of the log, every word of it ──
 
 -- a part of bytes is bytes
-front-byte : (l m : List ℕ) → Bytes (l ++ m) → Bytes l
+pub front-byte : (l m : List ℕ) → Bytes (l ++ m) → Bytes l
 front-byte [] m k i = omega arith
 front-byte (b ∷ l) m k zero = k zero
 front-byte (b ∷ l) m k (suc i) = front-byte l m (λ n. k (suc n)) i
@@ -209,8 +210,8 @@ module _ (g : Geometry) (log out : List ℕ) (bytes : Bytes log) where
       }
 
   -- only one part is what is settled
-  read-means : (p : List ℕ) → SettledIs log p → ReadMeans g log p out
-  read-means p s = subst (λ (q : List ℕ). ReadMeans g log q out) (sym (settled-only log p s)) settled-means
+  read-means : (p : List ℕ) → SettledBytes log p → ReadMeans g log p out
+  read-means p s = subst (λ (q : List ℕ). ReadMeans g log q out) (sym (settled-alone log p s)) settled-means
 
 -- ── comparing ──
 
@@ -222,6 +223,12 @@ by-judged : (r : Reply) (t u : Bool) → verdictBy r t ≡ judged u → (l : Lis
 by-judged (accepted l) t u e = (l, refl, cc)
 by-judged (refused m) t u e = absurd (let z : _≡_ {A = ℕ} 0 1 = cc in omega arith)
 
+-- tests that are true together are the same
+alike : (t u : Bool) → (t ≡ true → u ≡ true) → (u ≡ true → t ≡ true) → t ≡ u
+alike true u f g = sym (f refl)
+alike false true f g = g refl
+alike false false f g = refl
+
 compare-means : (g : Geometry) (a b : List ℕ) → Bytes a → Bytes b → CompareMeans g a b
 unfolding compareVerdict
 compare-means g a b ba bb =
@@ -229,27 +236,27 @@ compare-means g a b ba bb =
     let both : Inside g → Means (not (readable g a && readable g b)) ((IsLog g a × IsLog g b) → ⊥) (IsLog g a × IsLog g b) =
     λ i. negated (is-readable g i a ba & is-readable g i b bb) in
     let r : Reply = decide (compareConditions g a b) [] in
+    let passed : (l : List ℕ) → (r ≡ accepted l) ↔ (Inside g × ((IsLog g a × IsLog g b) × ([] ≡ l))) = λ l.
+    later (outside g) 2 cs [] (accepted l) not-accepted (λ i. later (both i) 7 [] [] (accepted l) not-accepted (λ e. (accepted-same, ap accepted))) in
+    let judged-by : Inside g → (x : IsLog g a) (y : IsLog g b) → (alike? g a b ≡ true) ↔ (holds g a x ≡ holds g b y) = λ i x y.
+    let k = alike-iff g a b i (is-readable g i a ba .passes x) (is-readable g i b bb .passes y) in
+    (λ z. sym (held-is g i a x) ∙ k .0 z ∙ held-is g i b y, λ z. k .1 (held-is g i a x ∙ z ∙ sym (held-is g i b y))) in
     record {
       two = Iff·trans (by-verdict r (alike? g a b) 2) (here (outside g) 2 cs [] (omega arith));
       seven = Iff·trans (by-verdict r (alike? g a b) 7) (later (outside g) 2 cs [] (refused 7) (apart (λ e. omega arith)) (λ i. here (both i) 7 [] [] tt));
-      done = λ t e.
-          let (l, d, same) = by-judged r (alike? g a b) t e in
-          let (i, w) = later (outside g) 2 cs [] (accepted l) not-accepted
-          (λ i. later (both i) 7 [] [] (accepted l) not-accepted (λ e. (accepted-same, ap accepted))) .0 d in
-          let (x, y) = w .0 in
-          let k = alike-iff g a b i (is-readable g i a ba .passes x) (is-readable g i b bb .passes y) in (
-            i,
-            (
-              x,
-              (
-                y,
-                (
-                  λ z. sym (held-is g i a x) ∙ k .0 (same ∙ z) ∙ held-is g i b y,
-                  λ z. sym same ∙ k .1 (held-is g i a x ∙ z ∙ sym (held-is g i b y)),
-                ),
-              ),
-            ),
-          );
+      done = λ t. (
+        λ e.
+            let (l, d, same) = by-judged r (alike? g a b) t e in
+            let (i, (logs, none)) = passed l .0 d in
+            let (x, y) = logs in
+            let k = judged-by i x y in
+            (i, (x, (y, (λ z. k .0 (same ∙ z), λ z. sym same ∙ k .1 z)))),
+        λ w.
+            let (i, (x, (y, k))) = w in
+            let j = judged-by i x y in
+            ap (λ (v : Reply). verdictBy v (alike? g a b)) (passed [] .1 (i, ((x, y), refl))) ∙
+            ap judged (alike (alike? g a b) t (λ z. k .1 (j .0 z)) (λ z. j .1 (k .0 z))),
+      );
     }
 
 -- ── compressing ──
@@ -289,8 +296,12 @@ module _ (g : Geometry) (log out : List ℕ) (bytes : Bytes log) where
         two = by-2 g (length out) (8 * g .words) log bytes (length ws ∷ []);
         three = by-3 g (length out) (8 * g .words) log bytes (length ws ∷ []);
         seven = by-7 g (length out) (8 * g .words) log bytes (length ws ∷ []);
+        done = (
+          λ w. let (l, e) = w in let (i, k, v) = by-none g (length out) (8 * g .words) log bytes (length ws ∷ []) l .0 e in (i, k, v .0),
+          λ w. let (i, k, e) = w in (length ws ∷ [], by-none g (length out) (8 * g .words) log bytes (length ws ∷ []) (length ws ∷ []) .1 (i, k, (e, refl))),
+        );
         refusal = λ n e. left (refused n) e;
-        done = λ l e.
+        gives = λ l e.
             let (i, k, w) = by-none g (length out) (8 * g .words) log bytes (length ws ∷ []) l .0 e in
             subst (λ (o : List ℕ). (n : ℕ) × ((l ≡ n ∷ []) × (Within 0 (8 * n) out o ×
             ((e : IsLog g log) × ((f : IsLog g (take (8 * n) o)) × (holds g (take (8 * n) o) f ≡ holds g log e)))))) (sym (left (accepted l) e))
@@ -299,4 +310,9 @@ module _ (g : Geometry) (log out : List ℕ) (bytes : Bytes log) where
 
 -- THE FUNCTIONS ON LOGS, whatever is lent
 pub tools-mean : ToolsMean
-tools-mean g log bytes = (λ part out s. read-means g log out bytes part s, (λ other b. compare-means g log other bytes b, λ out. compact-means g log out bytes))
+tools-mean g log bytes = record {
+  settles = (settled log, settled-by-bytes log);
+  reads = λ part out s. read-means g log out bytes part s;
+  compares = λ other b. compare-means g log other bytes b;
+  compacts = λ out. compact-means g log out bytes;
+}

@@ -1,9 +1,9 @@
 -- WHAT THE FUNCTIONS ON LOGS ANSWER AND TOUCH (rules 6.4 to 6.8, 7.1, 7.3), told of what is lent before and after.
 use mathlib.Core.Path.{_≡_}
-use mathlib.Core.Logic.{_↔_}
+use mathlib.Core.Logic.{_⊎_, _↔_}
 use mathlib.Core.Bool.{Bool, true}
 use mathlib.Core.List.{List, [], _∷_, _++_}
-use Prim.Native.Nat.{ℕ, _+_, _*_, _≤_, _<_}
+use Prim.Native.Nat.{ℕ, pred, _+_, _*_, _≤_, _<_}
 use lib.ListN.{length, take, drop, getD}
 use Rattle.answer.specs.Reply.{accepted, refused}
 use Rattle.geometry.specs.declared.Geometry.{Geometry}
@@ -11,7 +11,6 @@ use Rattle.geometry.specs.Limits.{Inside, blocks}
 use Rattle.log.specs.Word.{bytesOf}
 use Rattle.log.specs.Marks.{heldIn, passing}
 use Rattle.log.specs.Read.{free}
-use Rattle.log.specs.Settled.{SettledIs}
 use Rattle.log.specs.Entries.{Entry, allWords, AllAllowed, behindAll}
 use Rattle.log.specs.Tool.{Compared, judged, turnedAway, readReply, readOut, compareVerdict, compactReply, compactOut}
 
@@ -45,9 +44,22 @@ pub record IsLog (g : Geometry) (log : List ℕ) : Type 0 where
 abbrev pub holds : (g : Geometry) (log : List ℕ) → IsLog g log → List ℕ
 holds g log e = passing (heldIn (behindAll free (e .entries))) 0 (blocks g)
 
+-- ── what of it counts when it is read, told of bytes (6.9) ──
+
+-- the whole word n is "equal to 3" (6.9), and so a barrier: seven bytes 0 and the byte 3. A word that ends with the byte 3, as 0x8003 does, is none
+abbrev pub BarrierAt : List ℕ → ℕ → Type 0
+BarrierAt log n = take 8 (drop (8 * n) log) ≡ 0 ∷ 0 ∷ 0 ∷ 0 ∷ 0 ∷ 0 ∷ 0 ∷ 3 ∷ []
+
+-- `part` is what counts: "what is recorded up to the last whole word equal to 3" (6.9), nothing where there is no such word
+pub record SettledBytes (log part : List ℕ) : Type 0 where
+  pub count : ℕ
+  pub is : part ≡ take (8 * count) log
+  pub ends : (count ≡ 0) ⊎ BarrierAt log (pred count)
+  pub last : (n : ℕ) → count ≤ n → BarrierAt log n → ⊥
+
 -- ── reading: 2, 3, 7, each exactly when ──
 
--- `part` is what is settled of the log: "Now only what is recorded up to the last whole word equal to 3 counts" (6.9)
+-- `part` is what is settled of the log
 pub record ReadMeans (g : Geometry) (log part out : List ℕ) : Type 0 where
   pub two : (readReply g log out ≡ refused 2) ↔ (Inside g → ⊥)
   pub three : (readReply g log out ≡ refused 3) ↔ (Inside g × (length out < 2 * blocks g + 64))
@@ -64,8 +76,8 @@ pub record CompareMeans (g : Geometry) (a b : List ℕ) : Type 0 where
   pub two : (compareVerdict g a b ≡ turnedAway 2) ↔ (Inside g → ⊥)
   pub seven : (compareVerdict g a b ≡ turnedAway 7) ↔ (Inside g × ((IsLog g a × IsLog g b) → ⊥))
   -- alike: they end with the same held blocks (6.7)
-  pub done : (t : Bool) → compareVerdict g a b ≡ judged t →
-      Inside g × ((e : IsLog g a) × ((f : IsLog g b) × ((t ≡ true) ↔ (holds g a e ≡ holds g b f))))
+  pub done : (t : Bool) →
+      (compareVerdict g a b ≡ judged t) ↔ (Inside g × ((e : IsLog g a) × ((f : IsLog g b) × ((t ≡ true) ↔ (holds g a e ≡ holds g b f)))))
 
 -- ── compressing: 2, 3, 7; every word counts ──
 
@@ -73,14 +85,20 @@ pub record CompactMeans (g : Geometry) (log out : List ℕ) : Type 0 where
   pub two : (compactReply g log out ≡ refused 2) ↔ (Inside g → ⊥)
   pub three : (compactReply g log out ≡ refused 3) ↔ (Inside g × (length out < 8 * g .words))
   pub seven : (compactReply g log out ≡ refused 7) ↔ (Inside g × (8 * g .words ≤ length out) × (IsLog g log → ⊥))
+  pub done : ((l : List ℕ) × (compactReply g log out ≡ accepted l)) ↔ (Inside g × (8 * g .words ≤ length out) × IsLog g log)
   pub refusal : (n : ℕ) → compactReply g log out ≡ refused n → compactOut g log out ≡ out
   -- the number of the words at the buffer's start, which are a log that holds the same blocks; nothing behind them is changed
-  pub done : (l : List ℕ) → compactReply g log out ≡ accepted l →
+  pub gives : (l : List ℕ) → compactReply g log out ≡ accepted l →
       (n : ℕ) × ((l ≡ n ∷ []) × (Within 0 (8 * n) out (compactOut g log out) ×
       ((e : IsLog g log) × ((f : IsLog g (take (8 * n) (compactOut g log out))) × (holds g (take (8 * n) (compactOut g log out)) f ≡ holds g log e)))))
 
 -- the three functions, whatever is lent
+pub record ToolMeans (g : Geometry) (log : List ℕ) : Type 0 where
+  -- one part of the log counts when it is read
+  pub settles : (part : List ℕ) × SettledBytes log part
+  pub reads : (part out : List ℕ) → SettledBytes log part → ReadMeans g log part out
+  pub compares : (other : List ℕ) → Bytes other → CompareMeans g log other
+  pub compacts : (out : List ℕ) → CompactMeans g log out
+
 abbrev pub ToolsMean : Type 0
-ToolsMean = (g : Geometry) (log : List ℕ) → Bytes log →
-    ((part out : List ℕ) → SettledIs log part → ReadMeans g log part out) ×
-    (((other : List ℕ) → Bytes other → CompareMeans g log other) × ((out : List ℕ) → CompactMeans g log out))
+ToolsMean = (g : Geometry) (log : List ℕ) → Bytes log → ToolMeans g log
