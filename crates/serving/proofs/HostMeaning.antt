@@ -1,8 +1,8 @@
 -- A part served for a host: each refusal exactly, and acceptance. The statement is `HostsMean` in specs/HostMeans.antt.
-use mathlib.Core.Path.{_≡_, refl, sym, ap, _∙_}
+use mathlib.Core.Path.{_≡_, sym, ap}
 use mathlib.Core.Bool.{Bool, not, _&&_}
 use mathlib.Core.List.{List, [], _∷_}
-use Prim.Native.Nat.{ℕ, _≤_, _<_}
+use Prim.Native.Nat.{ℕ, _<_}
 use native.Mathlib.Omega.{arith}
 use lib.Dec.{eqb}
 use lib.ListN.{length, getD}
@@ -12,10 +12,9 @@ use Rattle.answer.specs.Reply.{Reply, accepted, refused}
 use Rattle.answer.specs.Refusal.{Condition, leaves}
 use Rattle.answer.proofs.Decided.{accepted-same}
 use Rattle.geometry.specs.declared.Geometry.{Geometry}
-use Rattle.geometry.specs.Limits.{Inside, fits}
+use Rattle.geometry.specs.Limits.{Inside}
 use Rattle.log.specs.Word.{writeAt}
 use Rattle.model.specs.Memory.{sound?}
-use Rattle.model.specs.SoundStore.{SoundStore}
 use Rattle.ledger.proofs.Exactly.{Means, less, either-of, both-of, outside, apart, not-accepted, here, later}
 use Rattle.ledger.proofs.MemoryMeaning.{is-unsound}
 use Rattle.serving.specs.Part.{Part, longest}

@@ -8,3 +8,4 @@ pub mod TranscriptLines
 pub mod TranscriptParts
 pub mod TranscriptProof
 pub mod TranscriptHost
+pub mod Uses
