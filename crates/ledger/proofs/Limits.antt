@@ -1,0 +1,43 @@
+-- EACH LIMIT FROM BOTH SIDES, as lines and their replies: the last that is inside, and the first that is outside. 999,999 and 12 stand in RefusalPairs.
+use mathlib.Core.Path.{refl}
+use mathlib.Core.List.{[], _∷_}
+use Rattle.ledger.proofs.Computed.{Goes, prints}
+
+-- "arenas 1 to 16; blocks per arena 1 to 1,024, in all N = product, at most 2,048; pages 1 to 256; records 1 to 64; turn 1 to 4,096; log words from
+-- 2 × N + 2 to 8,192" (2.1)
+pub of-geometry : Goes
+    (("store 0 4 2 4 8 10", "- 2") ∷ ("store 1 4 2 4 8 10", "+") ∷ ("store 16 4 2 4 8 130", "+") ∷ ("store 17 4 2 4 8 138", "- 2")
+    ∷ ("store 1 0 2 4 8 2", "- 2") ∷ ("store 1 1 2 4 8 4", "+") ∷ ("store 1 1024 2 4 8 2050", "+") ∷ ("store 1 1025 2 4 8 2052", "- 2")
+    ∷ ("store 2 1024 2 4 8 4098", "+") ∷ ("store 3 683 2 4 8 4100", "- 2")
+    ∷ ("store 1 4 0 4 8 10", "- 2") ∷ ("store 1 4 1 4 8 10", "+") ∷ ("store 1 4 256 4 8 10", "+") ∷ ("store 1 4 257 4 8 10", "- 2")
+    ∷ ("store 1 4 2 0 8 10", "- 2") ∷ ("store 1 4 2 1 8 10", "+") ∷ ("store 1 4 2 64 8 10", "+") ∷ ("store 1 4 2 65 8 10", "- 2")
+    ∷ ("store 1 4 2 4 0 10", "- 2") ∷ ("store 1 4 2 4 1 10", "+") ∷ ("store 1 4 2 4 4096 10", "+") ∷ ("store 1 4 2 4 4097 10", "- 2")
+    ∷ ("store 1 4 2 4 8 9", "- 2") ∷ ("store 1 4 2 4 8 10", "+") ∷ ("store 1 4 2 4 8 8192", "+") ∷ ("store 1 4 2 4 8 8193", "- 2")
+    ∷ ("store 2 1024 2 4 8 4097", "- 2")
+    ∷ [])
+unfolding prints
+of-geometry = refl
+
+-- "Numbers are decimal, 1 to 7 digits, without a leading zero but 0 itself", "Single spaces separate" (10.4); "a line of at most 80 bytes" (10.1): no call is
+-- that long, and a longer line has one reply too
+pub of-lines : Goes
+    (("store 1 4 2 4 8 10", "+")
+    ∷ ("D 9999999", "- 8") ∷ ("D 10000000", "- 1") ∷ ("D 0", "- 8") ∷ ("D 00", "- 1") ∷ ("D 01", "- 1") ∷ ("D", "- 1") ∷ ("D 1 1", "- 1")
+    ∷ ("store 9999999 9999999 9999999 9999999 9999999 9999999", "- 2") ∷ ("store 9999999 9999999 9999999 9999999 9999999 99999999", "- 1")
+    ∷ ("B ", "- 1") ∷ (" B", "- 1") ∷ ("D  1", "- 1") ∷ ("D\t1", "- 1") ∷ ("B\r", "- 1") ∷ ("b", "- 1") ∷ ("X", "- 1")
+    ∷ ("D 1                                                                             ", "- 1")
+    ∷ ("D 1                                                                              ", "- 1")
+    ∷ ("B", "+ 1")
+    ∷ [])
+unfolding prints
+of-lines = refl
+
+-- "5: page not below the page count. 6: kind above 2. 8: r is not in the store." (7.1): two pages, one record
+pub of-calls : Goes
+    (("store 3 2 2 1 8 14", "+")
+    ∷ ("W 1 0 0", "- 8") ∷ ("B", "+ 1") ∷ ("W 2 0 0", "- 8") ∷ ("W 0 0 0", "- 8")
+    ∷ ("W 1 1 2", "+ 4:1") ∷ ("W 1 1 3", "- 6") ∷ ("W 1 2 2", "- 5") ∷ ("R 1 1", "+ 4:1") ∷ ("R 1 2", "- 5") ∷ ("E 1 2", "- 5") ∷ ("E 1 1", "+ 4:1")
+    ∷ ("B", "- 11") ∷ ("D 1", "+") ∷ ("B", "+ 2")
+    ∷ [])
+unfolding prints
+of-calls = refl
