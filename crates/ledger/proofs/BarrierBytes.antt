@@ -110,7 +110,7 @@ settled-by-bytes log = record {
   count = upToBarrier (words log);
   is = refl;
   ends = cases (up-ends (words log)) inl (λ b. inr (in-bytes (pred (upToBarrier (words log))) log b));
-  last = λ n h b. up-last (words log) n h (in-words n log b);
+  last = λ n h b. up-last (words log) n (omega (arith, h)) (in-words n log b);
 }
 
 -- and nothing else is

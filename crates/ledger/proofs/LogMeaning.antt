@@ -27,7 +27,10 @@ use Rattle.log.proofs.AlikeFacts.{alike-iff, compressed-alike}
 use Rattle.log.proofs.SettledFacts.{settled-is}
 use Rattle.log.proofs.Tools.{pass-length}
 use Rattle.model.proofs.Reflect.{Says, _&_}
-use Rattle.ledger.specs.LogMeans.{Given, Within, Bytes, IsLog, holds, SettledBytes, ReadMeans, CompareMeans, CompactMeans, ToolsMean}
+use Rattle.ledger.specs.LogMeans.{Given, Within, Bytes, IsLog, holds, SettledBytes, ReadMeans, CompareMeans, Compacted, CompactMeans, ToolsMean}
+use Rattle.ledger.specs.Ledger.{compressedOf}
+use Rattle.log.specs.Compress.{compressed}
+use Rattle.ledger.proofs.CallsTold.{compressed-of}
 use Rattle.ledger.proofs.BarrierBytes.{settled-by-bytes, settled-alone}
 use Rattle.ledger.proofs.Exactly.{Means, less, negated, outside, apart, not-accepted, here, later}
 
@@ -283,6 +286,12 @@ module _ (g : Geometry) (log out : List ℕ) (bytes : Bytes log) where
       (ap (readable g) new-is ∙ alike .1) in
       (f, sym (held-is g i new f) ∙ ap (heldAtEnd g) new-is ∙ sym (alike .2) ∙ held-is g i log e)
 
+  its-words : Inside g → (e : IsLog g log) → ws ≡ compressedOf g (heldIn (behindAll free (e .entries)))
+  unfolding compactWords marksOf
+  its-words i e =
+      ap (λ (r : Result). compressed (g .arenas) (g .per) (heldIn (r .1))) (log-read g i log e) ∙
+      sym (compressed-of g (heldIn (behindAll free (e .entries))))
+
   room : Inside g → 8 * g .words ≤ length out → 8 * length ws ≤ length out
   unfolding compactWords
   room i k = omega (arith, compressed-length (g .arenas) (g .per) (heldIn (marksOf g log)), i .words-least)
@@ -303,9 +312,18 @@ module _ (g : Geometry) (log out : List ℕ) (bytes : Bytes log) where
         refusal = λ n e. left (refused n) e;
         gives = λ l e.
             let (i, k, w) = by-none g (length out) (8 * g .words) log bytes (length ws ∷ []) l .0 e in
-            subst (λ (o : List ℕ). (n : ℕ) × ((l ≡ n ∷ []) × (Within 0 (8 * n) out o ×
-            ((e : IsLog g log) × ((f : IsLog g (take (8 * n) o)) × (holds g (take (8 * n) o) f ≡ holds g log e)))))) (sym (left (accepted l) e))
-            (length ws, (sym (w .1), (within 0 (8 * length ws) out (bytesOf ws) (omega (arith, length-bytes ws)) (room i k), (w .0, anew i (w .0)))));
+            let (f, alike) = anew i (w .0) in (
+              length ws,
+              (
+                sym (w .1),
+                subst (Compacted g log (length ws) out) (sym (left (accepted l) e)) (record {
+                  within = within 0 (8 * length ws) out (bytesOf ws) (omega (arith, length-bytes ws)) (room i k);
+                  words = λ x. new-is ∙ ap bytesOf (its-words i x);
+                  again = f;
+                  same = λ x. alike ∙ sym (held-is g i log (w .0)) ∙ held-is g i log x;
+                }),
+              ),
+            );
       }
 
 -- THE FUNCTIONS ON LOGS, whatever is lent

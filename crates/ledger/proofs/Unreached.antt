@@ -15,7 +15,8 @@ use Rattle.log.specs.Tool.{readable, marksOf}
 use Rattle.model.specs.Table.{via, firstLink, all}
 use Rattle.model.specs.Held.{held, waits, available}
 use Rattle.model.specs.Lists.{elem, below?, rows}
-use Rattle.model.specs.Check.{imp, once?, takes?, prev?, base?, two?, linked?, like?, fits?, page?, ownAt, owns, allOwn, goneAt, gone, list?, slot?, empty?, good?}
+use Rattle.model.specs.Check.{imp, once?, takes?, prev?, base?, two?, linked?, like?, fits?, page?}
+use Rattle.model.specs.Check.{ownAt, owns, allOwn, goneAt, gone, list?, slot?, empty?, good?}
 use Rattle.model.specs.Layout.{freeWord, field, numbers, viewOf, stateOf}
 use Rattle.model.specs.Memory.{numbers?, range?, logHolds?, waiting?, free?, sound?}
 use Rattle.model.specs.SoundStore.{SoundStore}

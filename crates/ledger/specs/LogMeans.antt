@@ -12,6 +12,7 @@ use Rattle.log.specs.Word.{bytesOf}
 use Rattle.log.specs.Marks.{heldIn, passing}
 use Rattle.log.specs.Read.{free}
 use Rattle.log.specs.Entries.{Entry, allWords, AllAllowed, behindAll}
+use Rattle.ledger.specs.Ledger.{compressedOf}
 use Rattle.log.specs.Tool.{Compared, judged, turnedAway, readReply, readOut, compareVerdict, compactReply, compactOut}
 
 -- ── what is changed of a piece of memory ──
@@ -81,16 +82,23 @@ pub record CompareMeans (g : Geometry) (a b : List ℕ) : Type 0 where
 
 -- ── compressing: 2, 3, 7; every word counts ──
 
+-- n words are written at the start of a buffer
+pub record Compacted (g : Geometry) (log : List ℕ) (n : ℕ) (old new : List ℕ) : Type 0 where
+  pub within : Within 0 (8 * n) old new
+  -- "one entry for each longest run of held blocks inside an arena … then a barrier" (6.8)
+  pub words : (e : IsLog g log) → take (8 * n) new ≡ bytesOf (compressedOf g (heldIn (behindAll free (e .entries))))
+  -- they are a log again, of the same blocks
+  pub again : IsLog g (take (8 * n) new)
+  pub same : (e : IsLog g log) → holds g (take (8 * n) new) again ≡ holds g log e
+
 pub record CompactMeans (g : Geometry) (log out : List ℕ) : Type 0 where
   pub two : (compactReply g log out ≡ refused 2) ↔ (Inside g → ⊥)
   pub three : (compactReply g log out ≡ refused 3) ↔ (Inside g × (length out < 8 * g .words))
   pub seven : (compactReply g log out ≡ refused 7) ↔ (Inside g × (8 * g .words ≤ length out) × (IsLog g log → ⊥))
   pub done : ((l : List ℕ) × (compactReply g log out ≡ accepted l)) ↔ (Inside g × (8 * g .words ≤ length out) × IsLog g log)
   pub refusal : (n : ℕ) → compactReply g log out ≡ refused n → compactOut g log out ≡ out
-  -- the number of the words at the buffer's start, which are a log that holds the same blocks; nothing behind them is changed
-  pub gives : (l : List ℕ) → compactReply g log out ≡ accepted l →
-      (n : ℕ) × ((l ≡ n ∷ []) × (Within 0 (8 * n) out (compactOut g log out) ×
-      ((e : IsLog g log) × ((f : IsLog g (take (8 * n) (compactOut g log out))) × (holds g (take (8 * n) (compactOut g log out)) f ≡ holds g log e)))))
+  -- the number of the words at the buffer's start: those of the compressed log of the blocks that are held (6.8); nothing after them is changed
+  pub gives : (l : List ℕ) → compactReply g log out ≡ accepted l → (n : ℕ) × ((l ≡ n ∷ []) × Compacted g log n out (compactOut g log out))
 
 -- the three functions, whatever is lent
 pub record ToolMeans (g : Geometry) (log : List ℕ) : Type 0 where

@@ -21,7 +21,8 @@ use Rattle.serving.proofs.HostMeaning.{hosts-mean}
 pub nine-made : (text : List ℕ) (at : ℕ) (M : Memory) (replies : List ℕ) →
     hostReply text at (record { run = 1 ∷ 1 ∷ 4 ∷ 2 ∷ 4 ∷ 8 ∷ 9 ∷ []; memory = M; replies = replies }) ≡ refused 2
 nine-made text at M replies =
-    hosts-mean text at (record { run = 1 ∷ 1 ∷ 4 ∷ 2 ∷ 4 ∷ 8 ∷ 9 ∷ []; memory = M; replies = replies }) .two .1 (omega arith, λ i. omega (arith, i .words-least))
+    hosts-mean text at (record { run = 1 ∷ 1 ∷ 4 ∷ 2 ∷ 4 ∷ 8 ∷ 9 ∷ []; memory = M; replies = replies }) .two .1
+    (omega arith, λ i. omega (arith, i .words-least))
 
 module _ (text : List ℕ) (at : ℕ) (H : Lent) where
   -- from left to right: as long as no store was made, its numbers do not matter
