@@ -38,13 +38,12 @@ pub fn record_of(c: Call) -> u32
 }
 
 // One call, with the link of the record that it is on: whoever calls has found it. A call costs what it touches: no table is scanned that it does not
-// change. Of the hints nothing is asked or promised.
+// change.
 pub fn perform(
     g: Geometry,
     t: &mut [u32],
     log: &mut [u8],
     out: &mut [u32],
-    hints: &mut [u8; 1024],
     c: Call,
     link: usize,
 ) -> Answer
@@ -55,11 +54,11 @@ pub fn perform(
     ensures out { λ r. ⌜ now (out .exit) ≡ outLeft g (now (t .entry)) (now (out .entry)) c ⌝ }
 {
     match c {
-        Call::Begin => begin(g, t, out, hints),
+        Call::Begin => begin(g, t, out),
         Call::Write(n, page, kind) => write(g, t, log, out, n, link, page, kind),
         Call::Erase(n, page) => erase(g, t, log, out, n, link, page),
-        Call::Seal(n) => seal(g, t, out, hints, n, link),
-        Call::Fork(n) => fork(g, t, out, hints, n, link),
+        Call::Seal(n) => seal(g, t, out, n, link),
+        Call::Fork(n) => fork(g, t, out, n, link),
         Call::Delete(n) => delete(g, t, log, out, n, link),
         Call::Read(n, page) => read(g, t, out, n, link, page),
         Call::Barrier => barrier(g, t, log),

@@ -1,4 +1,4 @@
-// The calls that open a record: B, S, F. Each leaves a hint where the new record stands; S and F get the link of theirs.
+// The calls that open a record: B, S, F. S and F get the link of theirs.
 pub mod grow;
 pub mod verdict;
 
@@ -16,10 +16,9 @@ use crate::verdict::room;
 use crate::verdict::sealing;
 use answer::Answer;
 use geometry::Geometry;
-use tables::find::hint_slot;
 
 // B: an empty open record in a new line.
-pub fn begin(g: Geometry, t: &mut [u32], out: &mut [u32], hints: &mut [u8; 1024]) -> Answer
+pub fn begin(g: Geometry, t: &mut [u32], out: &mut [u32]) -> Answer
     requires { ⌜ Ready g (now t) × OutLong g (now out) ⌝ }
     ensures reply { λ r. ⌜ replyOf r (now (out .exit)) ≡ replied g (now (t .entry)) Begin ⌝ }
     ensures tables { λ r. ⌜ now (t .exit) ≡ tablesLeft g (now (t .entry)) Begin ⌝ }
@@ -30,7 +29,6 @@ pub fn begin(g: Geometry, t: &mut [u32], out: &mut [u32], hints: &mut [u8; 1024]
         Verdict::Refused(k) => Answer::Refused(k),
         Verdict::Accept(_, f) => {
             let number = begin_at(t, g, f);
-            hint_slot(hints, number, f);
             out[0] = number;
             Answer::Done(1)
         }
@@ -38,14 +36,7 @@ pub fn begin(g: Geometry, t: &mut [u32], out: &mut [u32], hints: &mut [u8; 1024]
 }
 
 // S: the record is sealed, and an open one with its pages follows it.
-pub fn seal(
-    g: Geometry,
-    t: &mut [u32],
-    out: &mut [u32],
-    hints: &mut [u8; 1024],
-    n: u32,
-    link: usize,
-) -> Answer
+pub fn seal(g: Geometry, t: &mut [u32], out: &mut [u32], n: u32, link: usize) -> Answer
     requires { ⌜ Ready g (now t) × OutLong g (now out) × LinkOf g (now t) n link ⌝ }
     ensures reply { λ r. ⌜ replyOf r (now (out .exit)) ≡ replied g (now (t .entry)) (Seal n) ⌝ }
     ensures tables { λ r. ⌜ now (t .exit) ≡ tablesLeft g (now (t .entry)) (Seal n) ⌝ }
@@ -56,7 +47,6 @@ pub fn seal(
         Verdict::Refused(k) => Answer::Refused(k),
         Verdict::Accept(s, f) => {
             let number = seal_at(t, g, f, s);
-            hint_slot(hints, number, f);
             out[0] = number;
             Answer::Done(1)
         }
@@ -64,14 +54,7 @@ pub fn seal(
 }
 
 // F: a new line with an open record that has the pages of a sealed one.
-pub fn fork(
-    g: Geometry,
-    t: &mut [u32],
-    out: &mut [u32],
-    hints: &mut [u8; 1024],
-    n: u32,
-    link: usize,
-) -> Answer
+pub fn fork(g: Geometry, t: &mut [u32], out: &mut [u32], n: u32, link: usize) -> Answer
     requires { ⌜ Ready g (now t) × OutLong g (now out) × LinkOf g (now t) n link ⌝ }
     ensures reply { λ r. ⌜ replyOf r (now (out .exit)) ≡ replied g (now (t .entry)) (Fork n) ⌝ }
     ensures tables { λ r. ⌜ now (t .exit) ≡ tablesLeft g (now (t .entry)) (Fork n) ⌝ }
@@ -82,7 +65,6 @@ pub fn fork(
         Verdict::Refused(k) => Answer::Refused(k),
         Verdict::Accept(s, f) => {
             let number = fork_at(t, g, f, s);
-            hint_slot(hints, number, f);
             out[0] = number;
             Answer::Done(1)
         }

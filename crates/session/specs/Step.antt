@@ -13,9 +13,13 @@ use Rattle.geometry.specs.declared.Geometry.{Geometry}
 use Rattle.geometry.specs.Limits.{Inside, geometryOf}
 use Rattle.model.specs.Memory.{Memory, reply, after, makeReply, makeAfter}
 use Rattle.model.specs.SoundStore.{SoundStore}
+use Rattle.model.specs.Actions.{slotOf}
+use Rattle.model.specs.Layout.{viewOf}
 use Rattle.script.specs.declared.parse.Parsed.{Parsed}
 use Rattle.script.specs.declared.parse.Parsed.the-variants.{Store, Asks, No}
 use Rattle.script.specs.declared.parse.Six.{Six}
+use Rattle.tables.specs.Hints.{noted}
+use Rattle.tables.specs.Ready.{recordOf}
 use Rattle.session.specs.declared.Session.{Session}
 use Rattle.session.specs.declared.Stepped.{Stepped}
 
@@ -44,6 +48,12 @@ unfoldable pub stepSession : Session → Memory → Parsed → Session
 stepSession s M (Store x) = startedBy (makeReply (geometryIn x) M) s (geometryIn x)
 stepSession s M (Asks c) = s
 stepSession s M No = s
+
+-- and what it leaves in the hints: a call notes the link by which its record is found, 0 for none
+unfoldable pub stepHints : Session → List ℕ → Parsed → List ℕ → List ℕ
+stepHints s t (Store x) hints = hints
+stepHints s t (Asks c) hints = cond (eqb (s .made) 0) hints (noted hints (recordOf c) (slotOf (viewOf (s .g) t) (recordOf c)))
+stepHints s t No hints = hints
 
 -- what the runner keeps: memory enough for every geometry inside its limits, and, once there is a store, soundness
 pub record Kept (s : Session) (t bytes numbers : List ℕ) : Type 0 where

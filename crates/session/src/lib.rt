@@ -1,10 +1,10 @@
-// A script's run on memory that the runner owns: a line in, an answer out. Soundness is kept, not checked anew.
+// A script's run on memory that the runner owns: a line in, an answer out. Soundness is kept, not checked again.
 ghost use mathlib.Core.Path.{_≡_};
 ghost use Rattle.answer.specs.Reply.{replyOf};
 ghost use Rattle.answer.specs.declared.Answer.the-variants.{Refused};
 ghost use Rattle.model.specs.Memory.{lent};
 ghost use Rattle.script.specs.declared.parse.Parsed.the-variants.{Store, Asks};
-ghost use Rattle.session.specs.Step.{stepReply, stepMemory, stepSession, Kept, Few, Stepping};
+ghost use Rattle.session.specs.Step.{stepReply, stepMemory, stepSession, stepHints, Kept, Few, Stepping};
 use answer::Answer;
 use engine::perform;
 use engine::record_of;
@@ -13,6 +13,7 @@ use model::Call;
 use script::parse::Parsed;
 use script::parse::Six;
 use store::make::make;
+use tables::find::hint_slot;
 use tables::find::slot_by;
 use tables::find::wide;
 
@@ -88,7 +89,7 @@ fn store_line(s: Session, x: Six, t: &mut [u32], log: &[u8], out: &[u32]) -> Ste
     }
 }
 
-// A call: 4 before a store exists, else the engine acts at once.
+// A call: 4 before a store exists, else the engine acts at once. Where the call's record was found is noted: its next call looks there first.
 fn call_line(
     s: Session,
     c: Call,
@@ -98,18 +99,21 @@ fn call_line(
     hints: &mut [u8; 1024],
 ) -> Stepped
     requires { ⌜ Kept s (now t) (now log) (now out) ⌝ }
-    ensures { λ r. ⌜ Stepping s (lent (now (t .entry)) (now (log .entry)) (now (out .entry))) (Asks c) r (lent (now (t .exit)) (now (log .exit)) (now (out .exit))) ⌝ }
+    ensures line { λ r. ⌜ Stepping s (lent (now (t .entry)) (now (log .entry)) (now (out .entry))) (Asks c) r (lent (now (t .exit)) (now (log .exit)) (now (out .exit))) ⌝ }
+    ensures hints { λ r. ⌜ now (hints .exit) ≡ stepHints s (now (t .entry)) (Asks c) (now (hints .entry)) ⌝ }
 {
     if s.made == 0 {
         return refuse(s, 4);
     }
     let g = s.g;
-    let link = slot_by(t, g, hints, record_of(c));
-    let answer = perform(g, t, log, out, hints, c, link);
+    let n = record_of(c);
+    let link = slot_by(t, g, hints, n);
+    hint_slot(hints, n, link);
+    let answer = perform(g, t, log, out, c, link);
     Stepped { session: s, answer }
 }
 
-// One line, by what it says. Of the hints, where records may stand, nothing is asked or promised.
+// One line, by what it says. Of the hints, where records may stand, nothing is asked.
 pub fn step(
     s: Session,
     said: Parsed,
@@ -126,6 +130,7 @@ pub fn step(
     ensures out { λ r. ⌜ now (out .exit) ≡ stepMemory s (lent (now (t .entry)) (now (log .entry)) (now (out .entry))) said .out ⌝ }
     ensures kept { λ r. ⌜ Kept (r .session) (now (t .exit)) (now (log .exit)) (now (out .exit)) ⌝ }
     ensures few { λ r. ⌜ Few (r .answer) ⌝ }
+    ensures hints { λ r. ⌜ now (hints .exit) ≡ stepHints s (now (t .entry)) said (now (hints .entry)) ⌝ }
 {
     if let Parsed::Store(x) = said {
         return store_line(s, x, t, log, out);

@@ -39,6 +39,5 @@ pub fn call(
         return Answer::Refused(4);
     }
     let link = slot_of(tables, g, record_of(c));
-    let mut hints = [0u8; 1024];
-    perform(g, tables, log, out, &mut hints, c, link)
+    perform(g, tables, log, out, c, link)
 }

@@ -10,7 +10,7 @@ enum-told : tie.Need-enum-told
 enum-told c = search needs
 
 begin-requires : tie.Need-begin-requires
-begin-requires c κs = let p = c .before .before .before .before .before .before .before .before .pre in (p .0, p .2)
+begin-requires c κs = let p = c .before .before .before .before .before .before .before .pre in (p .0, p .2)
 
 enum-known-c : tie.Need-enum-known-c
 enum-known-c c = search needs
@@ -33,16 +33,16 @@ enum-known-c-3 c = search needs
 
 seal-requires : tie.Need-seal-requires
 seal-requires c κs =
-    let s = c .before .before .before .before .before .before .before .before .before in
-    (s .pre .0, s .pre .2, its-link (s .args .g) (s .args .t .now) (c .before .before .before .before .c3 .given .1) (s .args .link) (s .pre .3))
+    let s = c .before .before .before .before .before .before .before .before in
+    (s .pre .0, s .pre .2, its-link (s .args .g) (s .args .t .now) (c .before .before .before .c3 .given .1) (s .args .link) (s .pre .3))
 
 enum-known-c-4 : tie.Need-enum-known-c-4
 enum-known-c-4 c = search needs
 
 fork-requires : tie.Need-fork-requires
 fork-requires c κs =
-    let s = c .before .before .before .before .before .before .before .before .before in
-    (s .pre .0, s .pre .2, its-link (s .args .g) (s .args .t .now) (c .before .before .before .before .c4 .given .1) (s .args .link) (s .pre .3))
+    let s = c .before .before .before .before .before .before .before .before in
+    (s .pre .0, s .pre .2, its-link (s .args .g) (s .args .t .now) (c .before .before .before .c4 .given .1) (s .args .link) (s .pre .3))
 
 enum-known-c-5 : tie.Need-enum-known-c-5
 enum-known-c-5 c = search needs
@@ -94,10 +94,10 @@ same-length-2 c = search needs
 
 returns : tie.Need-returns
 returns c =
-    let s = c .before .before .before .before .before .before .before .before .before .before .before .before .before in
+    let s = c .before .before .before .before .before .before .before .before .before .before .before .before in
     let a = s .args in
     let e = c .before .before .before .before .begin .ensures in
-    of-call (a .g) (a .t .now) (a .log .now) (a .out .now) (c .before .before .before .before .before .before .before .before .enum-told .given .1) _ _ _ _
+    of-call (a .g) (a .t .now) (a .log .now) (a .out .now) (c .before .before .before .before .before .before .before .enum-told .given .1) _ _ _ _
     (e .0, (e .1 .0, (log-stays (a .g) (a .t .now) _ (a .log .now) refl, e .1 .1)))
 
 same-length-3 : tie.Need-same-length-3
@@ -142,10 +142,10 @@ same-length-10 c = search needs
 
 returns-4 : tie.Need-returns-4
 returns-4 c =
-    let s = c .before .before .before .before .before .before .before .before .before .before .before .before .before .before in
+    let s = c .before .before .before .before .before .before .before .before .before .before .before .before .before in
     let a = s .args in
     let e = c .before .before .before .before .seal .ensures in
-    of-call (a .g) (a .t .now) (a .log .now) (a .out .now) (c .before .before .before .before .before .before .before .before .before .c3 .given .1) _ _ _ _
+    of-call (a .g) (a .t .now) (a .log .now) (a .out .now) (c .before .before .before .before .before .before .before .before .c3 .given .1) _ _ _ _
     (e .0, (e .1 .0, (log-stays (a .g) (a .t .now) _ (a .log .now) refl, e .1 .1)))
 
 same-length-11 : tie.Need-same-length-11
@@ -156,10 +156,10 @@ same-length-12 c = search needs
 
 returns-5 : tie.Need-returns-5
 returns-5 c =
-    let s = c .before .before .before .before .before .before .before .before .before .before .before .before .before .before in
+    let s = c .before .before .before .before .before .before .before .before .before .before .before .before .before in
     let a = s .args in
     let e = c .before .before .before .before .fork .ensures in
-    of-call (a .g) (a .t .now) (a .log .now) (a .out .now) (c .before .before .before .before .before .before .before .before .before .c4 .given .1) _ _ _ _
+    of-call (a .g) (a .t .now) (a .log .now) (a .out .now) (c .before .before .before .before .before .before .before .before .c4 .given .1) _ _ _ _
     (e .0, (e .1 .0, (log-stays (a .g) (a .t .now) _ (a .log .now) refl, e .1 .1)))
 
 same-length-13 : tie.Need-same-length-13

@@ -19,9 +19,6 @@ fork-at-requires c κs =
     let n = Answers.fork-needs (s .pre .0) _ _ _ _ (c .before .before .before .before .forking .ensures) (c .before .before .verdict2 .given .1) in
     (s .pre .0, n .0, n .1, n .2, n .3)
 
-hint-slot-requires : tie.Need-hint-slot-requires
-hint-slot-requires c κs = search needs
-
 slice-write-out : tie.Need-slice-write-out
 slice-write-out c = search needs
 
@@ -39,7 +36,7 @@ same-length-3 c = search needs
 
 returns-2 : tie.Need-returns-2
 returns-2 c =
-    let at-fork = c .before .before .before .before in
+    let at-fork = c .before .before in
     let at-verdict = at-fork .before .before .before in
     let at-forking = at-verdict .before .before in
     let s = at-forking .before .before .before .before in
@@ -54,7 +51,6 @@ fork-spec =
     enum-known-verdict
     enum-known-verdict-2
     fork-at-requires
-    hint-slot-requires
     slice-write-out
     same-length
     returns

@@ -19,9 +19,6 @@ seal-at-requires c κs =
     let n = Answers.seal-needs (s .pre .0) _ _ _ _ (c .before .before .before .before .sealing .ensures) (c .before .before .verdict2 .given .1) in
     (s .pre .0, n .0, n .1, n .2, n .3)
 
-hint-slot-requires : tie.Need-hint-slot-requires
-hint-slot-requires c κs = search needs
-
 slice-write-out : tie.Need-slice-write-out
 slice-write-out c = search needs
 
@@ -39,7 +36,7 @@ same-length-3 c = search needs
 
 returns-2 : tie.Need-returns-2
 returns-2 c =
-    let at-seal = c .before .before .before .before in
+    let at-seal = c .before .before in
     let at-verdict = at-seal .before .before .before in
     let at-sealing = at-verdict .before .before in
     let s = at-sealing .before .before .before .before in
@@ -54,7 +51,6 @@ seal-spec =
     enum-known-verdict
     enum-known-verdict-2
     seal-at-requires
-    hint-slot-requires
     slice-write-out
     same-length
     returns

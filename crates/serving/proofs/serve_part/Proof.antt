@@ -63,7 +63,7 @@ put-reply-requires c κs =
     let at-if2 = at-step .before .before .before .before .before .before in
     let at-loop = at-if2 .before .before in
     let e = at-step .step .ensures .1 .1 .1 .1 .1 in
-    room _ (e .1) _ _ _ (omega (arith, at-loop .loop .inv .same, at-if2 .if2 .left, at-loop .before .if1 .left)) (e .0 .out)
+    room _ (e .1 .0) _ _ _ (omega (arith, at-loop .loop .inv .same, at-if2 .if2 .left, at-loop .before .if1 .left)) (e .0 .out)
 
 add-i : tie.Need-add-i Inv-loop μ-loop
 add-i c =

@@ -90,7 +90,7 @@ slot-of-requires c κs =
 
 perform-requires : tie.Need-perform-requires
 perform-requires c κs =
-    let at-slot-of = c .before .before .before .before in
+    let at-slot-of = c .before .before .before in
     let at-record-of = at-slot-of .before in
     let at-if2 = at-record-of .before .before in
     let at-is-sound = at-if2 .before in
@@ -118,7 +118,7 @@ same-length-9 c = search needs
 returns-4 : tie.Need-returns-4
 returns-4 c =
     let at-perform = c .before .before .before .before .before .before in
-    let at-if2 = at-perform .before .before .before .before .before .before .before .before in
+    let at-if2 = at-perform .before .before .before .before .before .before .before in
     let at-is-sound = at-if2 .before in
     let at-if1 = at-is-sound .before .before .before in
     let at-is-short = at-if1 .before in

@@ -1,7 +1,8 @@
--- The lowest ten bits of a number are below 1,024.
+-- The lowest ten bits of a number are what is left of it modulo 1,024.
+use mathlib.Core.Path.{_∙_}
 use borrow.Author.Needs.{needs}
 use native.Mathlib.Omega.{arith}
-use lib.Bits.{mask-lt}
+use lib.Bits.{and-mask, mask-lt}
 use Rattle.tables.proofs.find.hint_at.Statement.{statement}
 use Rattle.tables.proofs.find.hint_at.Tie as tie
 
@@ -9,7 +10,7 @@ wide-requires : tie.Need-wide-requires
 wide-requires c κs = search needs
 
 returns : tie.Need-returns
-returns c = omega (arith, c .wide .ensures, mask-lt (c .before .args .n) 10)
+returns c = let n = c .before .args .n in (c .wide .ensures ∙ and-mask n 10, omega (arith, c .wide .ensures, mask-lt n 10))
 
 pub hint-at-spec : {M : Type 1} → statement M
 hint-at-spec = tie.close (tie.spec wide-requires returns)

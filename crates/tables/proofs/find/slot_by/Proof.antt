@@ -1,4 +1,4 @@
--- The slot of a number: the one of its hint, if the number stands there, or by the column.
+-- The slot of a number: the one of its hint, if the number stands there, or as it is found without one.
 use borrow.Author.Needs.{needs}
 use native.Mathlib.Omega.{arith}
 use Rattle.tables.proofs.Seeks
@@ -17,26 +17,27 @@ element-copy-out-hinted c = search needs
 hinted-requires : tie.Need-hinted-requires
 hinted-requires c κs = search needs
 
-add-if3 : tie.Need-add-if3
-add-if3 c = search needs
+sub-if4 : tie.Need-sub-if4
+sub-if4 c = search needs
 
-mul-if3 : tie.Need-mul-if3
-mul-if3 c = search needs
+add-if4 : tie.Need-add-if4
+add-if4 c = search needs
 
-shared-slice-read-if3 : tie.Need-shared-slice-read-if3
-shared-slice-read-if3 c = search needs
+mul-if4 : tie.Need-mul-if4
+mul-if4 c = search needs
 
-add-result : tie.Need-add-result
-add-result c = search needs
+shared-slice-read-if4 : tie.Need-shared-slice-read-if4
+shared-slice-read-if4 c = search needs
 
 returns-2 : tie.Need-returns-2
 returns-2 c =
-    let at-if2 = c .before .before in
-    let at-if1 = at-if2 .before .before .before .before .before in
-    Seeks.own-found _ _ (at-if1 .before .before .pre) _ _ (at-if1 .if1 .left) (at-if2 .if2 .taken) (c .if3 .taken)
+    let at-if3 = c .before .before in
+    let at-if2 = at-if3 .before .before in
+    let at-if1 = at-if2 .before .before .before .before in
+    Seeks.hint-found _ _ (at-if1 .before .before .pre) _ _ (at-if1 .if1 .left) (at-if2 .if2 .taken) (at-if3 .if3 .taken) (c .if4 .taken)
 
-slot-among-requires : tie.Need-slot-among-requires
-slot-among-requires c κs = search needs
+slot-of-requires : tie.Need-slot-of-requires
+slot-of-requires c κs = search needs
 
 returns-3 : tie.Need-returns-3
 returns-3 c = search needs
@@ -49,10 +50,10 @@ slot-by-spec =
     hint-at-requires
     element-copy-out-hinted
     hinted-requires
-    add-if3
-    mul-if3
-    shared-slice-read-if3
-    add-result
+    sub-if4
+    add-if4
+    mul-if4
+    shared-slice-read-if4
     returns-2
-    slot-among-requires
+    slot-of-requires
     returns-3)
