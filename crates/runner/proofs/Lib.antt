@@ -1,3 +1,5 @@
--- What the runner keeps from part to part.
-pub mod Lasting
+-- What the runner keeps from part to part and from read to read, and that it prints the transcript.
+pub mod Feeds
+pub mod Answering
 pub mod Running
+pub mod PrintedProof

@@ -8,6 +8,7 @@ use lib.Dec.{eqb}
 use lib.ListN.{length, take, replicate, length-replicate}
 use lib.Seq.{length-take-le}
 use Rattle.session.specs.declared.Session.{Session}
+use Rattle.runner.specs.Turn.{mostRead, wholeAfter}
 use Rattle.session.specs.Step.{Kept}
 
 pub record Running (s : Session) (t log out replies text : List ℕ) (n : ℕ) : Type 0 where
@@ -47,13 +48,17 @@ running s e =
     }
 
 -- a script that is not whole got at least a byte
-pub some-more : (more : ℕ) (b : Bool) → (eqb more 0 || b) ≡ false → 0 < more
-some-more zero b e = absurd (true≢false e)
-some-more (suc k) b e = omega arith
+some-byte : (more : ℕ) (b : Bool) → (eqb more 0 || b) ≡ false → 0 < more
+some-byte zero b e = absurd (true≢false e)
+some-byte (suc k) b e = omega arith
+
+some-more : (more all : ℕ) → wholeAfter more all ≡ false → 0 < more
+unfolding wholeAfter
+some-more more all e = some-byte more (eqb all mostRead) e
 
 -- so each read that finds the script not whole brings its end nearer
-pub turn-less : (whole old : Bool) (n more : ℕ) → not old ≡ true → (whole ≡ false → 0 < more) → n + more ≤ 65536 →
+pub turn-less : (whole old : Bool) (n more : ℕ) → not old ≡ true → whole ≡ wholeAfter more (n + more) → n + more ≤ 65536 →
     cond whole 0 1 + (65536 - (n + more)) < cond old 0 1 + (65536 - n)
-turn-less true false n more e h l = omega arith
-turn-less false false n more e h l = omega (arith, h refl)
+turn-less true false n more e w l = omega arith
+turn-less false false n more e w l = omega (arith, some-more more (n + more) (sym w))
 turn-less w true n more e h l = absurd (true≢false (sym e))

@@ -1,8 +1,8 @@
 // Reading the script as it comes.
 ghost use mathlib.Core.Path.{_≡_};
-ghost use mathlib.Core.Bool.{false};
-ghost use Prim.Native.Nat.{_+_, _≤_, _<_};
+ghost use Prim.Native.Nat.{_+_, _≤_};
 ghost use lib.ListN.{length};
+ghost use Rattle.runner.specs.Turn.{wholeAfter, feedEnd, partEnd};
 use crate::sentence::say;
 use libc::EAGAIN;
 use libc::EINTR;
@@ -16,7 +16,7 @@ pub struct Input {
     pub more: usize,
 }
 
-// One read, behind the first bytes of `text`.
+// One read, after the first `from` bytes of `text`.
 fn read_once(fd: i32, text: &mut [u8], from: usize) -> Input
     requires { ⌜ from ≤ length (now text) ⌝ }
     ensures { λ r. ⌜ from + r .more ≤ length (now (text .entry)) ⌝ }
@@ -42,7 +42,7 @@ fn after_failure(fd: i32) -> i32 {
     }
     let again = os::open_read(b"/dev/stdin");
     if again < 0 {
-        say(b"standard input has nothing yet, is set not to wait, and cannot be opened anew");
+        say(b"standard input has nothing yet, is set not to wait, and cannot be opened again");
     }
     again
 }
@@ -75,16 +75,19 @@ pub fn read_more(fd: i32, text: &mut [u8], from: usize) -> Input
     given_up()
 }
 
-// Whether a script of `all` bytes so far, `more` of them from the last read, is whole: at the end of the input, or at 65,536 bytes.
+// The most bytes of a script that are read.
+pub const MOST: usize = 65536;
+
+// Whether a script of `all` bytes so far, `more` of them from the last read, is whole: at the end of the input, or at the most that is read.
 pub fn is_whole(more: usize, all: usize) -> bool
-    ensures { λ r. ⌜ (r ≡ false → 0 < more) ⌝ }
+    ensures { λ r. ⌜ r ≡ wholeAfter more all ⌝ }
 {
-    (more == 0) | (all == 65536)
+    (more == 0) | (all == MOST)
 }
 
 // Where the last whole line of `text` ends, of which the bytes from `from` on are new; 0 where no line ends among these.
 fn lines_end(text: &[u8], from: usize) -> usize
-    ensures { λ r. ⌜ r ≤ length (now (text .entry)) ⌝ }
+    ensures { λ r. ⌜ r ≡ feedEnd (now (text .entry)) from (length (now (text .entry))) ⌝ }
 {
     let mut end = text.len();
     while end > from {
@@ -96,9 +99,10 @@ fn lines_end(text: &[u8], from: usize) -> usize
     0
 }
 
-// How far a text can be answered, of which the bytes from `from` on are new: to the end of its last whole line, or, once the script is whole, to its end.
+// How far a text is answered, of which the bytes from `from` on are new: to the end of its last whole line, or, once the script is whole, to its end.
 pub fn part_end(text: &[u8], from: usize, whole: bool) -> usize
-    ensures { λ r. ⌜ r ≤ length (now (text .entry)) ⌝ }
+    ensures is { λ r. ⌜ r ≡ partEnd (now (text .entry)) from whole ⌝ }
+    ensures range { λ r. ⌜ r ≤ length (now (text .entry)) ⌝ }
 {
     if whole {
         return text.len();

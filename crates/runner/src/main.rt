@@ -3,9 +3,13 @@ mod input;
 mod output;
 mod sentence;
 
-ghost use Prim.Native.Nat.{_+_, _≤_};
+ghost use Prim.Native.Nat.{_≤_};
 ghost use lib.ListN.{length};
+ghost use Rattle.model.specs.Memory.{lent};
+ghost use Rattle.serving.specs.Part.{begun};
 ghost use Rattle.session.specs.Step.{Kept};
+ghost use Rattle.runner.specs.Turn.{Answers};
+use input::MOST;
 use input::is_whole;
 use input::part_end;
 use input::read_more;
@@ -16,14 +20,14 @@ use serving::serve_part;
 use session::Session;
 use session::start;
 
-// How far a text is answered, and where replies go on; below 0 the last could not be written.
+// How far a text is answered, what the run has then, and where replies go on; below 0 the last could not be written.
 struct Answered {
     session: Session,
     at: usize,
     fd: i32,
 }
 
-// Answers the lines of a text from `at` on.
+// Answers the lines of a text from `at` on, part after part.
 fn answer(
     fd: i32,
     text: &[u8],
@@ -36,7 +40,7 @@ fn answer(
 ) -> Answered
     requires { ⌜ Kept session (now t) (now log) (now out) ⌝ }
     requires { ⌜ 65536 ≤ length (now replies) ⌝ }
-    ensures { λ r. ⌜ Kept (r .session) (now (t .exit)) (now (log .exit)) (now (out .exit)) ⌝ }
+    ensures { λ r. ⌜ Answers (now (text .entry)) (now (replies .entry)) (begun at session (lent (now (t .entry)) (now (log .entry)) (now (out .entry)))) r (lent (now (t .exit)) (now (log .exit)) (now (out .exit))) (now (replies .exit)) ⌝ }
 {
     let mut kept = session;
     let mut output = fd;
@@ -65,7 +69,7 @@ fn main() {
     let mut log = [0u8; 65536];
     let mut out = [0u32; 4160];
     let mut replies = [0u8; 65536];
-    let mut text = [0u8; 65536];
+    let mut text = [0u8; MOST];
     let mut session = start();
     let mut from = STDIN_FILENO;
     let mut to = STDOUT_FILENO;

@@ -43,7 +43,7 @@ fn after_failure(fd: i32) -> i32 {
     }
     let again = os::open_append(b"/dev/stdout");
     if again < 0 {
-        say(b"standard output takes nothing now, is set not to wait, and cannot be opened anew");
+        say(b"standard output takes nothing now, is set not to wait, and cannot be opened again");
     }
     again
 }

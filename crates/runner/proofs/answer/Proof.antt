@@ -1,26 +1,29 @@
--- `answer`: what lasts from part to part, and each part gets on by a line.
-use mathlib.Core.Path.{refl, sym, _∙_}
-use Prim.Native.Nat.{_-_, _≤_}
+-- `answer`: the parts served so far are the first of the text's, and each part gets on by a line.
+use mathlib.Core.Path.{refl, sym}
+use Prim.Native.Nat.{_-_}
 use lib.ListN.{length}
 use lib.Seq.{length-take-le}
-use Rattle.runner.proofs.Lasting.{Lasting}
+use Rattle.model.specs.Memory.{lent}
+use Rattle.serving.specs.Part.{begun}
 use Rattle.serving.proofs.Onward.{gets-further}
+use Rattle.runner.proofs.Answering.{Answering, begins, goes-on, at-end, at-failure}
 use borrow.Author.Needs.{needs}
 use native.Mathlib.Omega.{arith}
 use Rattle.runner.proofs.answer.Statement.{statement}
 use Rattle.runner.proofs.answer.Tie as tie
 
 abbrev Inv-loop : tie.InvT-loop
-Inv-loop fd text at t₀ log₀ out₀ replies₀ kept₀ output₀ done₀ t log out replies kept output done = Lasting t₀ log₀ out₀ replies₀ kept t log out replies
+Inv-loop fd text at t₀ log₀ out₀ replies₀ kept₀ output₀ done₀ t log out replies kept output done =
+    Answering text (begun done₀ kept₀ (lent t₀ log₀ out₀)) t₀ log₀ out₀ replies₀ kept t log out replies done
 
 abbrev μ-loop : tie.MeasureT-loop
 μ-loop fd text at t₀ log₀ out₀ replies₀ kept₀ output₀ done₀ t log out replies kept output done = length text - done
 
 loop-holds : tie.Need-loop-holds Inv-loop μ-loop
-loop-holds c = record { tables = refl; words = refl; numbers = refl; text = refl; kept = c .before .before .before .before .before .pre .0 }
+loop-holds c = begins _ _ _ _ _ _ _ _ refl (c .before .before .before .before .before .pre .0)
 
 serve-part-requires : tie.Need-serve-part-requires Inv-loop μ-loop
-serve-part-requires c κs = c .before .before .before .before .before .loop .inv .kept
+serve-part-requires c κs = c .before .before .before .before .before .loop .inv .stands .kept
 
 slice-reshare-prefix-write-replies : tie.Need-slice-reshare-prefix-write-replies Inv-loop μ-loop
 slice-reshare-prefix-write-replies c = omega (arith, c .before .before .before .before .before .before .before .before .serve-part .ensures .range, c .before .before .before .before .before .before .before .before .serve-part .kept .1 .1 .1 .1 .1 .1 .0)
@@ -35,21 +38,19 @@ loop-less : tie.Need-loop-less Inv-loop μ-loop
 loop-less c =
     let p = c .before .before .before .before .before .before .before .before .before .before .before .before .serve-part in
     let l = c .before .before .before .before .before .before .before .before .before .before .before .before .before .before .before .before .before .before .loop in
-    let t = c .before .before .before .before .before .before .before .before .before .before .before .before .before .before .before .before .before .loop-test .taken in
-    let further = gets-further _ _ _ _ (p .ensures .at) t (omega (arith, l .inv .text, c .before .before .before .before .before .before .before .before .before .before .before .before .before .before .before .before .before .before .before .before .before .before .before .before .pre .1)) in
-    omega (arith, t, further)
+    let h = c .before .before .before .before .before .before .before .before .before .before .before .before .before .before .before .before .before .loop-test .taken in
+    let long = c .before .before .before .before .before .before .before .before .before .before .before .before .before .before .before .before .before .before .before .before .before .before .before .before .pre .1 in
+    let further = gets-further _ _ _ _ (p .ensures .at) h (omega (arith, l .inv .stands .same, long)) in
+    omega (arith, h, further)
 
 loop-again : tie.Need-loop-again Inv-loop μ-loop
 loop-again c =
     let p = c .before .before .before .before .before .before .before .before .before .before .before .before .serve-part in
-    let l = c .before .before .before .before .before .before .before .before .before .before .before .before .before .before .before .before .before .before .loop .inv in
-    record {
-      tables = p .kept .1 .1 .1 .0 ∙ l .tables;
-      words = p .kept .1 .1 .1 .1 .0 ∙ l .words;
-      numbers = p .kept .1 .1 .1 .1 .1 .0 ∙ l .numbers;
-      text = p .kept .1 .1 .1 .1 .1 .1 .0 ∙ l .text;
-      kept = p .ensures .kept;
-    }
+    let k = p .kept .1 .1 .1 in
+    let l = c .before .before .before .before .before .before .before .before .before .before .before .before .before .before .before .before .before .before .loop in
+    let h = c .before .before .before .before .before .before .before .before .before .before .before .before .before .before .before .before .before .loop-test .taken in
+    let long = c .before .before .before .before .before .before .before .before .before .before .before .before .before .before .before .before .before .before .before .before .before .before .before .before .pre .1 in
+    goes-on _ _ _ _ _ _ _ _ _ _ _ _ (l .inv) (p .result) _ _ _ _ (p .ensures) h (omega (arith, long)) (k .0) (k .1 .0) (k .1 .1 .0) (k .1 .1 .1 .0)
 
 same-length : tie.Need-same-length Inv-loop μ-loop
 same-length c = search needs
@@ -64,7 +65,7 @@ same-length-4 : tie.Need-same-length-4 Inv-loop μ-loop
 same-length-4 c = search needs
 
 returns : tie.Need-returns Inv-loop μ-loop
-returns c = search needs
+returns c = at-end _ _ _ _ _ _ _ _ _ _ _ _ (c .before .loop .inv) _ refl refl (c .loop-test .left)
 
 same-length-5 : tie.Need-same-length-5 Inv-loop μ-loop
 same-length-5 c = search needs
@@ -79,7 +80,14 @@ same-length-8 : tie.Need-same-length-8 Inv-loop μ-loop
 same-length-8 c = search needs
 
 returns-2 : tie.Need-returns-2 Inv-loop μ-loop
-returns-2 c = search needs
+returns-2 c =
+    let p = c .before .before .before .before .before .before .before .before .before .before .before .before .serve-part in
+    let k = p .kept .1 .1 .1 in
+    let l = c .before .before .before .before .before .before .before .before .before .before .before .before .before .before .before .before .before .before .loop in
+    let h = c .before .before .before .before .before .before .before .before .before .before .before .before .before .before .before .before .before .loop-test .taken in
+    let long = c .before .before .before .before .before .before .before .before .before .before .before .before .before .before .before .before .before .before .before .before .before .before .before .before .pre .1 in
+    at-failure _ _ _ _ _ _ _ _ _ _ _ _ (l .inv) (p .result) _ _ _ _ (p .ensures) h (omega (arith, long)) (k .0) (k .1 .0) (k .1 .1 .0) (k .1 .1 .1 .0)
+    _ refl refl (c .if1 .taken)
 
 pub answer-spec : {M : Type 1} → statement M
 answer-spec =

@@ -46,7 +46,7 @@ part-end-requires : tie.Need-part-end-requires Inv-loop μ-loop
 part-end-requires c κs = search needs
 
 array-share-prefix-text-2 : tie.Need-array-share-prefix-text-2 Inv-loop μ-loop
-array-share-prefix-text-2 c = within _ _ _ (c .part-end .ensures) (array-share-prefix-text (c .before .before))
+array-share-prefix-text-2 c = within _ _ _ (c .part-end .ensures .1) (array-share-prefix-text (c .before .before))
 
 slice-aggregate-answer : tie.Need-slice-aggregate-answer Inv-loop μ-loop
 slice-aggregate-answer c = sym (length-take-le _ _ (array-share-prefix-text-2 (c .before)))
@@ -89,7 +89,7 @@ loop-again c =
       buffer = a .kept .1 .1 .1 .1 .1 .1 .1 .0 ∙ l .buffer;
       script = m .kept .1 .0 ∙ l .script;
       read = omega (arith, m .ensures, l .script);
-      kept = a .ensures;
+      kept = a .ensures .kept;
     }
 
 returns-3 : tie.Need-returns-3 Inv-loop μ-loop
