@@ -1,6 +1,6 @@
 // What the line at a position says and where it ends, found together.
 ghost use mathlib.Core.Path.{_≡_};
-ghost use Prim.Native.Nat.{_+_, _≤_, _<_};
+ghost use Prim.Native.Nat.{_+_, _-_, _≤_};
 ghost use lib.ListN.{length, drop};
 ghost use Rattle.script.specs.Parse.{numberFrom};
 ghost use Rattle.script.specs.Said.{saidAt, behindFirst, Agrees, Tells, Begun, Next, nearOf};
@@ -141,9 +141,11 @@ fn one_number(text: &[u8], at: usize, letter: u8) -> Near
 
 // The call at a position, if its numbers are short and 17 bytes are left: no call with such numbers has more, with its line feed.
 fn near_at(text: &[u8], at: usize) -> Near
-    requires { ⌜ at < length (now text) ⌝ }
     ensures { λ r. ⌜ Tells r (saidAt (now (text .entry)) at) ⌝ }
 {
+    if text.len() <= at {
+        return Near::No;
+    }
     if text.len() - at < 17 {
         return Near::No;
     }
@@ -155,12 +157,11 @@ fn near_at(text: &[u8], at: usize) -> Near
     one_number(text, at, letter)
 }
 
-// What the line at a position says, and where it ends. The parts of what `by_line` found are taken one by one: handed on whole, what is said would
+// What the line at a position says, and where it ends; beyond the text's end there is a line of no byte, which is no call. The parts of what `by_line` found are taken one by one: handed on whole, what is said would
 // stand in memory on both ways, and be read there in other widths than it was written.
 pub fn said_at(text: &[u8], at: usize) -> Said
-    requires { ⌜ at < length (now text) ⌝ }
     ensures is { λ r. ⌜ r ≡ saidAt (now (text .entry)) at ⌝ }
-    ensures range { λ r. ⌜ (at ≤ r .end) × (r .end ≤ length (now (text .entry))) ⌝ }
+    ensures range { λ r. ⌜ (at ≤ r .end) × (r .end ≤ at + (length (now (text .entry)) - at)) ⌝ }
 {
     let near = near_at(text, at);
     let Near::Asks(c, end) = near else {

@@ -49,7 +49,7 @@ returns-2 c =
     when-full (a .text .now) _ (a .t .now) (a .log .now) (a .out .now) (a .replies .now) (l .s) (l .t) (l .log) (l .out) (l .replies) (l .used) (l .i) (l .inv) (omega (arith, c .if2 .taken))
 
 said-at-requires : tie.Need-said-at-requires Inv-loop μ-loop
-said-at-requires c κs = c .before .loop-test .taken
+said-at-requires c κs = search needs
 
 step-requires : tie.Need-step-requires Inv-loop μ-loop
 step-requires c κs = c .before .before .before .before .before .before .before .loop .inv .kept

@@ -1,4 +1,4 @@
--- `said_at` meets its contract: what is found in one pass is said, any other line is read by its end; a line ends inside its text.
+-- `said_at` meets its contract: what is found in one pass is said, any other line is read by its end; a line ends inside its text, or where it was looked for.
 use native.Mathlib.Omega.{arith}
 use borrow.Author.Needs.{needs}
 use Rattle.script.specs.Said.{saidAt}
@@ -19,11 +19,11 @@ by-line-requires : tie.Need-by-line-requires
 by-line-requires c κs = search needs
 
 returns : tie.Need-returns
-returns c = said-inside _ _ _ (c .before .before .before .before .before .pre) (c .by-line .ensures)
+returns c = said-inside _ _ _ (c .by-line .ensures)
 
 returns-2 : tie.Need-returns-2
 returns-2 c = let a = c .before .before .before .before .before .args in
-    said-inside (a .text .now) (a .at) _ (c .before .before .before .before .before .pre) (tells-is _ (saidAt (a .text .now) (a .at)) _ _ (c .before .near .given .1) (c .before .before .before .near-at .ensures))
+    said-inside (a .text .now) (a .at) _ (tells-is _ (saidAt (a .text .now) (a .at)) _ _ (c .before .near .given .1) (c .before .before .before .near-at .ensures))
 
 pub said-at-spec : {M : Type 1} → statement M
 said-at-spec =

@@ -1,0 +1,2 @@
+-- Numbers as arguments spell them.
+pub mod Spelling

@@ -1,0 +1,2 @@
+-- The log tool's arguments.
+pub mod Spelled
