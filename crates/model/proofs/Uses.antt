@@ -511,7 +511,7 @@ pub fresh-never-4 : (g : Geometry) (M : Memory) → makeReply g M ≡ accepted [
     reply g (lent (makeAfter g M .tables) log out) c ≡ refused 4 → ⊥
 fresh-never-4 g M made log out c = sound-not-4 g (lent (makeAfter g M .tables) log out) c (making-is g M made .0) (fresh-sound g M made log)
 
--- `keeps-sound`: a call was not answered 4; then no call on what it left is, whether it was accepted or refused, with any buffer
+-- `keeps-sound`: whatever was called on a sound memory, accepted or refused, no call on what it left is answered 4, with any buffer
 pub then-never-4 : (g : Geometry) (M : Memory) (c d : Call) (out : List ℕ) → Inside g → SoundStore g (M .tables) (M .log) →
     reply g (withOut (after g M c) out) d ≡ refused 4 → ⊥
 then-never-4 g M c d out inside S = sound-not-4 g (withOut (after g M c) out) d inside (keeps-sound g M c S)
@@ -522,7 +522,7 @@ pub lent-room-W : (g : Geometry) (t log other out more k : List ℕ) (r x kind :
 lent-room-W g t log other out more k r x kind done =
     room g .0 t (record { call = Compress; log = log; out = out }) (record { call = Write r x kind; log = other; out = more }) k refl done
 
--- nor an E, a D or a Y of a store that keeps its own log
+-- nor any call of a store that keeps its own log
 pub own-room : (g : Geometry) (M : Memory) (out more k : List ℕ) (c : Call) → reply g (withOut M out) Compress ≡ accepted k →
     reply g (withOut (after g (withOut M out) Compress) more) c ≡ refused 14 → ⊥
 own-room g M out more k c done = room g .1 M (record { call = Compress; out = out }) (record { call = c; out = more }) k refl done
