@@ -1,2 +1,3 @@
 -- Laws of the engine.
 pub mod Untouched
+pub mod Looking

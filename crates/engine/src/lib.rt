@@ -1,8 +1,11 @@
 // The eleven calls on tables that are known to be sound. Internal: `store` is what users call.
+pub mod looks;
+
 ghost use mathlib.Core.Path.{_≡_};
 ghost use Rattle.answer.specs.Reply.{replyOf};
 ghost use Rattle.tables.specs.Ready.{Ready, OutLong, LogLong, LinkOf, recordOf};
 ghost use Rattle.tables.specs.Outcome.{replied, tablesLeft, logLeft, outLeft};
+ghost use Rattle.engine.specs.Looks.{lookCall};
 use answer::Answer;
 use deleting::delete::delete;
 use deleting::estimate::estimate;
@@ -65,5 +68,18 @@ pub fn perform(
         Call::Compress => compress_log(g, t, log, out),
         Call::FreeList => free_list(g, t, out),
         Call::Estimate(n) => estimate(g, t, out, n, link),
+    }
+}
+
+// A look at tables that are lent to be read, with the link of the record that it is on.
+pub fn look(g: Geometry, t: &[u32], out: &mut [u32], c: looks::Look, link: usize) -> Answer
+    requires { ⌜ Ready g (now t) × OutLong g (now out) × LinkOf g (now t) (recordOf (lookCall c)) link ⌝ }
+    ensures reply { λ r. ⌜ replyOf r (now (out .exit)) ≡ replied g (now (t .entry)) (lookCall c) ⌝ }
+    ensures out { λ r. ⌜ now (out .exit) ≡ outLeft g (now (t .entry)) (now (out .entry)) (lookCall c) ⌝ }
+{
+    match c {
+        looks::Look::Read(n, page) => read(g, t, out, n, link, page),
+        looks::Look::FreeList => free_list(g, t, out),
+        looks::Look::Estimate(n) => estimate(g, t, out, n, link),
     }
 }

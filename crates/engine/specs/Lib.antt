@@ -1,0 +1,2 @@
+-- The calls that only look.
+pub mod Looks

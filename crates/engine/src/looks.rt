@@ -1,0 +1,48 @@
+// The calls that only look, as a type of their own: they need tables and log only to be read.
+ghost use mathlib.Core.Path.{_≡_};
+ghost use Rattle.tables.specs.Ready.{recordOf};
+ghost use Rattle.engine.specs.Looks.{lookCall, lookIn, seenCalls};
+use model::Call;
+
+// The calls that only look.
+pub enum Look {
+    Read(u32, u32),
+    FreeList,
+    Estimate(u32),
+}
+
+// The look that a call is, or that it is none.
+pub enum Seen {
+    For(Look),
+    Nothing,
+}
+
+// The number of the record that a look is on, 0 for none.
+pub fn record_seen(c: Look) -> u32
+    ensures { λ r. ⌜ r ≡ recordOf (lookCall c) ⌝ }
+{
+    match c {
+        Look::Read(n, _) => n,
+        Look::FreeList => 0,
+        Look::Estimate(n) => n,
+    }
+}
+
+// The look that a call is: those that change something are none.
+pub fn look_of(c: Call) -> Seen
+    ensures { λ r. ⌜ seenCalls r ≡ lookIn c ⌝ }
+{
+    match c {
+        Call::Begin => Seen::Nothing,
+        Call::Write(_, _, _) => Seen::Nothing,
+        Call::Erase(_, _) => Seen::Nothing,
+        Call::Seal(_) => Seen::Nothing,
+        Call::Fork(_) => Seen::Nothing,
+        Call::Delete(_) => Seen::Nothing,
+        Call::Read(n, page) => Seen::For(Look::Read(n, page)),
+        Call::Barrier => Seen::Nothing,
+        Call::Compress => Seen::Nothing,
+        Call::FreeList => Seen::For(Look::FreeList),
+        Call::Estimate(n) => Seen::For(Look::Estimate(n)),
+    }
+}
