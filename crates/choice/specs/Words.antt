@@ -5,6 +5,7 @@ use mathlib.Core.List.{List}
 use Prim.Native.Nat.{ℕ, zero, suc, _+_, _-_, _*_, _/_, _%_, _^_, _<_, _≤_, min}
 use lib.Dec.{eqb}
 use lib.ListN.{length, getD}
+use Rattle.geometry.specs.Limits.{maxArenas, maxPer}
 
 -- bit i of a number, the lowest is bit 0
 unfoldable pub bit : ℕ → ℕ → Bool
@@ -39,9 +40,9 @@ wordsAgree words p n (suc k) = wordsAgree words p n k && eqb (getD words k 0) (w
 -- what the search asks of its caller: ranges
 pub record Searchable (words marks : List ℕ) (arenas per counter kind : ℕ) : Type 0 where
   pub arenas-least : 0 < arenas
-  pub arenas-most : arenas ≤ 16
+  pub arenas-most : arenas ≤ maxArenas
   pub per-least : 0 < per
-  pub per-most : per ≤ 1024
+  pub per-most : per ≤ maxPer
   pub words-long : arenas * per ≤ 32 * length words
   pub marks-long : arenas ≤ length marks
   pub marks-low : (a : ℕ) → a < arenas → getD marks a 0 < per

@@ -12,7 +12,8 @@ use Rattle.answer.specs.Refusal.{decide}
 use Rattle.geometry.specs.declared.Geometry.{Geometry}
 use Rattle.geometry.specs.declared.Making.{Making}
 use Rattle.geometry.specs.declared.Making.the-variants.{Made, Refused}
-use Rattle.geometry.specs.Limits.{blocks, geometryOf, Inside, within, fits, makingOf}
+use Rattle.geometry.specs.Limits.{minArenas, maxArenas, minPer, maxPer, maxBlocks, minPages, maxPages, minRecords, maxRecords}
+use Rattle.geometry.specs.Limits.{minTurn, maxTurn, minWords, maxWords, blocks, geometryOf, Inside, within, fits, makingOf}
 use Rattle.geometry.specs.Making.{replyOf, making}
 
 -- ── tests ──
@@ -46,12 +47,12 @@ fits-inside g e =
     let d = and-true _ _ (c .1) in
     let f = and-true _ _ (d .1) in
     let h = and-true _ _ (f .1) in
-    let wa = within-true 1 (g .arenas) 16 (a .0) in
-    let wb = within-true 1 (g .per) 1024 (b .0) in
-    let wd = within-true 1 (g .pages) 256 (d .0) in
-    let wf = within-true 1 (g .records) 64 (f .0) in
-    let wh = within-true 1 (g .turn) 4096 (h .0) in
-    let ww = within-true (2 * blocks g + 2) (g .words) 8192 (h .1) in
+    let wa = within-true minArenas (g .arenas) maxArenas (a .0) in
+    let wb = within-true minPer (g .per) maxPer (b .0) in
+    let wd = within-true minPages (g .pages) maxPages (d .0) in
+    let wf = within-true minRecords (g .records) maxRecords (f .0) in
+    let wh = within-true minTurn (g .turn) maxTurn (h .0) in
+    let ww = within-true (minWords (blocks g)) (g .words) maxWords (h .1) in
     record {
       arenas-least = wa .0;
       arenas-most = wa .1;
@@ -72,13 +73,13 @@ pub inside-fits : (g : Geometry) → Inside g → fits g ≡ true
 unfolding fits
 inside-fits g i =
     rw (
-      is-within 1 (g .arenas) 16 (i .arenas-least) (i .arenas-most),
-      is-within 1 (g .per) 1024 (i .per-least) (i .per-most),
-      le-leb (blocks g) 2048 (i .blocks-most),
-      is-within 1 (g .pages) 256 (i .pages-least) (i .pages-most),
-      is-within 1 (g .records) 64 (i .records-least) (i .records-most),
-      is-within 1 (g .turn) 4096 (i .turn-least) (i .turn-most),
-      is-within (2 * blocks g + 2) (g .words) 8192 (i .words-least) (i .words-most),
+      is-within minArenas (g .arenas) maxArenas (i .arenas-least) (i .arenas-most),
+      is-within minPer (g .per) maxPer (i .per-least) (i .per-most),
+      le-leb (blocks g) maxBlocks (i .blocks-most),
+      is-within minPages (g .pages) maxPages (i .pages-least) (i .pages-most),
+      is-within minRecords (g .records) maxRecords (i .records-least) (i .records-most),
+      is-within minTurn (g .turn) maxTurn (i .turn-least) (i .turn-most),
+      is-within (minWords (blocks g)) (g .words) maxWords (i .words-least) (i .words-most),
     )
 
 -- the test is true exactly inside the limits

@@ -16,21 +16,84 @@ abbrev pub geometryOf : ℕ → ℕ → ℕ → ℕ → ℕ → ℕ → Geometry
 geometryOf arenas per pages records turn words =
     record { arenas = arenas; per = per; pages = pages; records = records; turn = turn; words = words }
 
+-- ── the limits ──
+
+abbrev pub minArenas : ℕ
+minArenas = 1
+
+abbrev pub maxArenas : ℕ
+maxArenas = 16
+
+abbrev pub minPer : ℕ
+minPer = 1
+
+abbrev pub maxPer : ℕ
+maxPer = 1024
+
+abbrev pub maxBlocks : ℕ
+maxBlocks = 2048
+
+abbrev pub minPages : ℕ
+minPages = 1
+
+abbrev pub maxPages : ℕ
+maxPages = 256
+
+abbrev pub minRecords : ℕ
+minRecords = 1
+
+abbrev pub maxRecords : ℕ
+maxRecords = 64
+
+abbrev pub minTurn : ℕ
+minTurn = 1
+
+abbrev pub maxTurn : ℕ
+maxTurn = 4096
+
+abbrev pub maxWords : ℕ
+maxWords = 8192
+
+-- the least number of log words for n blocks
+abbrev pub minWords : ℕ → ℕ
+minWords n = 2 * n + 2
+
+-- all six at their least, and at their most
+abbrev pub least : Geometry
+least = geometryOf minArenas minPer minPages minRecords minTurn (minWords (minArenas * minPer))
+
+abbrev pub largest : Geometry
+largest = geometryOf maxArenas 128 maxPages maxRecords maxTurn maxWords
+
+-- ── memory enough for every geometry ──
+
+-- numbers of the tables
+abbrev pub mostTables : ℕ
+mostTables = 43008
+
+-- bytes of the log: 8 a word
+abbrev pub mostLog : ℕ
+mostLog = 65536
+
+-- numbers of the result buffer
+abbrev pub mostOut : ℕ
+mostOut = 4160
+
 -- inside the limits
 pub record Inside (g : Geometry) : Type 0 where
-  pub arenas-least : 1 ≤ g .arenas
-  pub arenas-most : g .arenas ≤ 16
-  pub per-least : 1 ≤ g .per
-  pub per-most : g .per ≤ 1024
-  pub blocks-most : blocks g ≤ 2048
-  pub pages-least : 1 ≤ g .pages
-  pub pages-most : g .pages ≤ 256
-  pub records-least : 1 ≤ g .records
-  pub records-most : g .records ≤ 64
-  pub turn-least : 1 ≤ g .turn
-  pub turn-most : g .turn ≤ 4096
-  pub words-least : 2 * blocks g + 2 ≤ g .words
-  pub words-most : g .words ≤ 8192
+  pub arenas-least : minArenas ≤ g .arenas
+  pub arenas-most : g .arenas ≤ maxArenas
+  pub per-least : minPer ≤ g .per
+  pub per-most : g .per ≤ maxPer
+  pub blocks-most : blocks g ≤ maxBlocks
+  pub pages-least : minPages ≤ g .pages
+  pub pages-most : g .pages ≤ maxPages
+  pub records-least : minRecords ≤ g .records
+  pub records-most : g .records ≤ maxRecords
+  pub turn-least : minTurn ≤ g .turn
+  pub turn-most : g .turn ≤ maxTurn
+  pub words-least : minWords (blocks g) ≤ g .words
+  pub words-most : g .words ≤ maxWords
 
 -- x lies from lo to hi
 unfoldable pub within : ℕ → ℕ → ℕ → Bool
@@ -39,10 +102,11 @@ within lo x hi = leb lo x && leb x hi
 -- the same limits as a test
 unfoldable pub fits : Geometry → Bool
 fits g =
-    within 1 (g .arenas) 16 &&
-    (within 1 (g .per) 1024 &&
-    (leb (blocks g) 2048 &&
-    (within 1 (g .pages) 256 && (within 1 (g .records) 64 && (within 1 (g .turn) 4096 && within (2 * blocks g + 2) (g .words) 8192)))))
+    within minArenas (g .arenas) maxArenas &&
+    (within minPer (g .per) maxPer &&
+    (leb (blocks g) maxBlocks &&
+    (within minPages (g .pages) maxPages &&
+    (within minRecords (g .records) maxRecords && (within minTurn (g .turn) maxTurn && within (minWords (blocks g)) (g .words) maxWords)))))
 
 -- the geometry of six numbers inside their limits, and refusal 2 of any other
 unfoldable pub makingOf : ℕ → ℕ → ℕ → ℕ → ℕ → ℕ → Making

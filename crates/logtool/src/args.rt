@@ -1,16 +1,17 @@
 // The arguments: a command, arenas and blocks per arena, files.
 use crate::number::Number;
 use crate::number::read_number;
+use geometry::Geometry;
 
 // A log depends on arenas and blocks per arena alone. The other numbers of a geometry are any inside their limits;
 // the log words are the most, which are enough for every number of blocks.
-pub const PAGES: usize = 1;
+pub const PAGES: usize = Geometry::MIN_PAGES;
 
-pub const RECORDS: usize = 1;
+pub const RECORDS: usize = Geometry::MIN_RECORDS;
 
-pub const TURN: usize = 1;
+pub const TURN: usize = Geometry::MIN_TURN;
 
-pub const WORDS: usize = 8192;
+pub const WORDS: usize = Geometry::MAX_WORDS;
 
 // Which arguments name files.
 pub const FILE: usize = 4;

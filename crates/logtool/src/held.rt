@@ -10,6 +10,7 @@ use crate::reply::print_numbers;
 use crate::reply::print_refusal;
 use crate::sentence::refused;
 use answer::Answer;
+use geometry::Geometry;
 use log::tool::read_held;
 
 // The held blocks of a log, by way of `out`.
@@ -31,7 +32,6 @@ pub fn print_held(arenas: usize, per: usize) {
         return;
     }
     let n = content.length;
-    // Enough for every geometry: 2 × 2,048 + 64 numbers.
-    let mut out = [0u32; 4160];
+    let mut out = [0u32; Geometry::MOST_OUT];
     print_blocks(arenas, per, &space[..n], &mut out);
 }

@@ -1,4 +1,5 @@
 -- What the runner keeps from part to part and from read to read, and that it prints the transcript.
+pub mod Waiting
 pub mod Feeds
 pub mod Answering
 pub mod Running

@@ -15,7 +15,8 @@ use Rattle.serving.specs.Part.{Part, begun, longest}
 use Rattle.serving.specs.Transcribed.{partsMost, looked, Ends}
 use Rattle.serving.proofs.Serving.{taken}
 use Rattle.serving.proofs.TranscriptProof.{runner-prints}
-use Rattle.runner.specs.Turn.{mostRead, wholeAfter, feedEnd, partEnd, answered}
+use Rattle.ledger.specs.Transcript.{mostRead}
+use Rattle.runner.specs.Turn.{wholeAfter, feedEnd, partEnd, answered}
 use Rattle.runner.specs.Printed.{turned, turns, Reads, TurnsPrint, HandsReplies}
 use Rattle.runner.proofs.Feeds.{part-inside, answered-at-once}
 
@@ -58,8 +59,10 @@ module _ (text : List ℕ) (room n more : ℕ) (here : n + more ≤ length text)
   not-whole : wholeAfter more (n + more) ≡ false → ((n < upto) × (getD text (pred upto) 0 ≡ 10)) ⊎ (upto ≡ 0)
   unfolding partEnd
   not-whole w =
-      cases (answered-at-once (take (n + more) text) n)
-      (λ a. inl (rw w (a .new, sym (getD-take (n + more) text (pred (feedEnd (take (n + more) text) n (length (take (n + more) text)))) 0 (omega (arith, a .new, a .inside, there))) ∙ a .feed)))
+      let now : List ℕ = take (n + more) text in
+      let e : ℕ = feedEnd now n (length now) in
+      cases (answered-at-once now n)
+      (λ a. inl (rw w (a .new, sym (getD-take (n + more) text (pred e) 0 (omega (arith, a .new, a .inside, there))) ∙ a .feed)))
       (λ a. inr (rw w (a .none)))
 
   is-whole : wholeAfter more (n + more) ≡ true → upto ≡ n + more
@@ -102,6 +105,11 @@ module _ (input : List ℕ) (room : ℕ) where
       cond (wholeAfter more (n + more)) q (turns (scriptOf input) room (n + more) reads q) ≡ turns (scriptOf input) room (n + more) reads q
   goes-on n more reads w q = ap (λ (b : Bool). cond b q (turns (scriptOf input) room (n + more) reads q)) w
 
+  -- a turn that leaves it whole is the last
+  ends : (n more : ℕ) (reads : List ℕ) → wholeAfter more (n + more) ≡ true → (q : Part) →
+      cond (wholeAfter more (n + more)) q (turns (scriptOf input) room (n + more) reads q) ≡ q
+  ends n more reads w q = ap (λ (b : Bool). cond b q (turns (scriptOf input) room (n + more) reads q)) w
+
   -- a turn that answers nothing
   no-look : (n more from : ℕ) (reads : List ℕ) (here : n + more ≤ length (scriptOf input)) → wholeAfter more (n + more) ≡ false →
       upto (scriptOf input) room n more here ≡ 0 → Looks (scriptOf input) room (n + more) from reads → Looks (scriptOf input) room n from (more ∷ reads)
@@ -128,7 +136,7 @@ module _ (input : List ℕ) (room : ℕ) where
       record {
         ends = u ∷ [];
         right = (omega arith, (omega arith, (inr (inr (e ∙ a)), e ∙ a)));
-        same = λ p. ap (λ (b : Bool). cond b (turned text room n more p) (turns text room (n + more) reads (turned text room n more p))) w ∙ turned-is text room n more here p;
+        same = λ p. ends n more reads w (turned text room n more p) ∙ turned-is text room n more here p;
       })
       (λ w. cases (not-whole text room n more here w)
       (λ f.
@@ -136,7 +144,9 @@ module _ (input : List ℕ) (room : ℕ) where
       record {
         ends = u ∷ next .ends;
         right = (omega (arith, f .0), (omega (arith, upto-inside text room n more here), (inr (inl (f .1)), next .right)));
-        same = λ p. goes-on n more reads w (turned text room n more p) ∙ ap (turns text room (n + more) reads) (turned-is text room n more here p) ∙ next .same (partsMost u (take u text) room p);
+        same = λ p.
+            goes-on n more reads w (turned text room n more p)
+            ∙ ap (turns text room (n + more) reads) (turned-is text room n more here p) ∙ next .same (partsMost u (take u text) room p);
       })
       (λ f. no-look n more from reads here w f (the-looks reads (n + more) from (omega arith) (on w))))
 

@@ -7,17 +7,19 @@ use native.Mathlib.Omega.{arith}
 use lib.Dec.{eqb}
 use lib.ListN.{length, take, replicate, length-replicate}
 use lib.Seq.{length-take-le}
+use Rattle.geometry.specs.Limits.{mostTables, mostLog, mostOut}
 use Rattle.session.specs.declared.Session.{Session}
-use Rattle.runner.specs.Turn.{mostRead, wholeAfter}
+use Rattle.ledger.specs.Transcript.{mostRead}
+use Rattle.runner.specs.Turn.{wholeAfter}
 use Rattle.session.specs.Step.{Kept}
 
 pub record Running (s : Session) (t log out replies text : List ℕ) (n : ℕ) : Type 0 where
-  pub tables : length t ≡ 43008
-  pub words : length log ≡ 65536
-  pub numbers : length out ≡ 4160
+  pub tables : length t ≡ mostTables
+  pub words : length log ≡ mostLog
+  pub numbers : length out ≡ mostOut
   pub buffer : length replies ≡ 65536
-  pub script : length text ≡ 65536
-  pub read : n ≤ 65536
+  pub script : length text ≡ mostRead
+  pub read : n ≤ mostRead
   pub kept : Kept s t log out
 
 -- a part of a part is inside the whole
@@ -26,11 +28,11 @@ within k n l h i = omega (arith, length-take-le n l i)
 
 -- before the first read
 pub running : (s : Session) → s .made ≡ 0 →
-    Running s (replicate 43008 0) (replicate 65536 0) (replicate 4160 0) (replicate 65536 0) (replicate 65536 0) 0
+    Running s (replicate mostTables 0) (replicate mostLog 0) (replicate mostOut 0) (replicate 65536 0) (replicate mostRead 0) 0
 running s e =
-    let t = length-replicate {A = ℕ} 43008 0 in
-    let l = length-replicate {A = ℕ} 65536 0 in
-    let o = length-replicate {A = ℕ} 4160 0 in
+    let t = length-replicate {A = ℕ} mostTables 0 in
+    let l = length-replicate {A = ℕ} mostLog 0 in
+    let o = length-replicate {A = ℕ} mostOut 0 in
     record {
       tables = t;
       words = l;
@@ -57,8 +59,8 @@ unfolding wholeAfter
 some-more more all e = some-byte more (eqb all mostRead) e
 
 -- so each read that finds the script not whole brings its end nearer
-pub turn-less : (whole old : Bool) (n more : ℕ) → not old ≡ true → whole ≡ wholeAfter more (n + more) → n + more ≤ 65536 →
-    cond whole 0 1 + (65536 - (n + more)) < cond old 0 1 + (65536 - n)
+pub turn-less : (whole old : Bool) (n more : ℕ) → not old ≡ true → whole ≡ wholeAfter more (n + more) → n + more ≤ mostRead →
+    cond whole 0 1 + (mostRead - (n + more)) < cond old 0 1 + (mostRead - n)
 turn-less true false n more e w l = omega arith
 turn-less false false n more e w l = omega (arith, some-more more (n + more) (sym w))
 turn-less w true n more e h l = absurd (true≢false (sym e))

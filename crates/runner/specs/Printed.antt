@@ -1,4 +1,4 @@
--- THE RUNNER PRINTS THE TRANSCRIPT, however the input arrives: what its turns hand to be written, joined.
+-- THE RUNNER PRINTS THE TRANSCRIPT, however the input arrives: it is what the turns hand to be written, joined.
 use mathlib.Core.Path.{_≡_}
 use mathlib.Core.Bool.{false, cond}
 use mathlib.Core.Logic.{_⊎_}
@@ -7,12 +7,12 @@ use Prim.Native.Nat.{ℕ, pred, _+_, _≤_, _<_}
 use lib.ListN.{length, getD, take, drop}
 use Rattle.model.specs.Memory.{Memory}
 use Rattle.script.specs.Lines.{NoFeed}
-use Rattle.ledger.specs.Transcript.{transcript}
+use Rattle.ledger.specs.Transcript.{mostRead, transcript}
 use Rattle.session.specs.declared.Session.{Session}
 use Rattle.serving.specs.Part.{Part, begun, longest, Serves}
 use Rattle.serving.specs.declared.Served.{Served}
 use Rattle.serving.specs.Transcribed.{partsMost, Ample}
-use Rattle.runner.specs.Turn.{mostRead, wholeAfter, feedEnd, answered}
+use Rattle.runner.specs.Turn.{wholeAfter, feedEnd, answered}
 
 -- a turn in which every write went well: of a text the first n bytes were there, now `more` more are
 unfoldable pub turned : List ℕ → ℕ → ℕ → ℕ → Part → Part
@@ -41,7 +41,7 @@ TurnsPrint = (input : List ℕ) (room : ℕ) (reads : List ℕ) (s : Session) (M
 abbrev pub HandsReplies : Type 0
 HandsReplies = (q : Part) (buffer : List ℕ) (r : Served) (left : Memory) (after : List ℕ) → Serves q buffer r left after → take (r .used) after ≡ q .replies
 
--- a text ends to be answered after a line feed that came with the last read, and no line feed follows it
+-- e is the position after a line feed that came with the last read, and no line feed follows it
 pub record AfterFeed (text : List ℕ) (from e : ℕ) : Type 0 where
   pub new : from < e
   pub inside : e ≤ length text

@@ -9,16 +9,13 @@ use lib.ListN.{length, getD, take}
 use lib.Signed.{ltZ}
 use Rattle.log.specs.Word.{writeAt}
 use Rattle.model.specs.Memory.{Memory}
+use Rattle.ledger.specs.Transcript.{mostRead}
 use Rattle.session.specs.Step.{Kept}
 use Rattle.serving.specs.Part.{Part, begun, served}
 use Rattle.serving.specs.Transcribed.{andThen, partsMost}
 use Rattle.runner.specs.declared.Answered.{Answered}
 
 -- ── which bytes ──
-
--- "It reads at most 65,536 bytes and ignores the rest." (10.1)
-abbrev pub mostRead : ℕ
-mostRead = 65536
 
 -- a script is whole after a read that brought `more` bytes, with `all` read so far: none at the end of the input, or the most that is read
 unfoldable pub wholeAfter : ℕ → ℕ → Bool

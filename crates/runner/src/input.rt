@@ -1,7 +1,7 @@
 // Reading the script as it comes.
 ghost use mathlib.Core.Path.{_≡_};
 ghost use Prim.Native.Nat.{_+_, _≤_};
-ghost use lib.ListN.{length};
+ghost use lib.ListN.{length, take};
 ghost use Rattle.runner.specs.Turn.{wholeAfter, feedEnd, partEnd};
 use crate::sentence::say;
 use libc::EAGAIN;
@@ -19,7 +19,8 @@ pub struct Input {
 // One read, after the first `from` bytes of `text`.
 fn read_once(fd: i32, text: &mut [u8], from: usize) -> Input
     requires { ⌜ from ≤ length (now text) ⌝ }
-    ensures { λ r. ⌜ from + r .more ≤ length (now (text .entry)) ⌝ }
+    ensures range { λ r. ⌜ from + r .more ≤ length (now (text .entry)) ⌝ }
+    ensures stays { λ r. ⌜ take from (now (text .exit)) ≡ take from (now (text .entry)) ⌝ }
 {
     let got = libc::read(fd, &mut text[from..]);
     if got < 0 {
@@ -54,10 +55,11 @@ fn given_up() -> Input
     Input { fd: -1, more: 0 }
 }
 
-// Reads what is there, and waits where nothing is there yet.
+// Reads what is there, and waits where nothing is there yet. The bytes read before stay.
 pub fn read_more(fd: i32, text: &mut [u8], from: usize) -> Input
     requires { ⌜ from ≤ length (now text) ⌝ }
-    ensures { λ r. ⌜ from + r .more ≤ length (now (text .entry)) ⌝ }
+    ensures range { λ r. ⌜ from + r .more ≤ length (now (text .entry)) ⌝ }
+    ensures stays { λ r. ⌜ take from (now (text .exit)) ≡ take from (now (text .entry)) ⌝ }
 {
     let mut input = fd;
     let mut turns: usize = TURNS;

@@ -9,6 +9,7 @@ ghost use Rattle.model.specs.Memory.{lent};
 ghost use Rattle.serving.specs.Part.{begun};
 ghost use Rattle.session.specs.Step.{Kept};
 ghost use Rattle.runner.specs.Turn.{Answers};
+use geometry::Geometry;
 use input::MOST;
 use input::is_whole;
 use input::part_end;
@@ -40,7 +41,9 @@ fn answer(
 ) -> Answered
     requires { ⌜ Kept session (now t) (now log) (now out) ⌝ }
     requires { ⌜ 65536 ≤ length (now replies) ⌝ }
-    ensures { λ r. ⌜ Answers (now (text .entry)) (now (replies .entry)) (begun at session (lent (now (t .entry)) (now (log .entry)) (now (out .entry)))) r (lent (now (t .exit)) (now (log .exit)) (now (out .exit))) (now (replies .exit)) ⌝ }
+    ensures { λ r. ⌜ Answers (now (text .entry)) (now (replies .entry))
+        (begun at session (lent (now (t .entry)) (now (log .entry)) (now (out .entry)))) r
+        (lent (now (t .exit)) (now (log .exit)) (now (out .exit))) (now (replies .exit)) ⌝ }
 {
     let mut kept = session;
     let mut output = fd;
@@ -65,9 +68,9 @@ fn answer(
 // Lines are answered as they come; what is left without a line feed once the script is whole: at its end, or at 65,536 bytes. `answer` is called in one
 // place alone, so that it is compiled into `main`, where it is known that the five arrays are apart.
 fn main() {
-    let mut t = [0u32; 43008];
-    let mut log = [0u8; 65536];
-    let mut out = [0u32; 4160];
+    let mut t = [0u32; Geometry::MOST_TABLES];
+    let mut log = [0u8; Geometry::MOST_LOG];
+    let mut out = [0u32; Geometry::MOST_OUT];
     let mut replies = [0u8; 65536];
     let mut text = [0u8; MOST];
     let mut session = start();

@@ -171,7 +171,11 @@ said-part text at a e p f q =
 -- what is said ends inside the text, or where it was looked for
 pub said-inside : (text : List ℕ) (at : ℕ) (r : Said) → r ≡ saidAt text at → (r ≡ saidAt text at) × ((at ≤ r .end) × (r .end ≤ at + (length text - at)))
 unfolding saidAt
-said-inside text at r e = let n = run-short (drop at text) in let l = length-drop at text in let q : r .end ≡ at + run (drop at text) = ap (λ (x : Said). x .end) e in (e, (omega arith, omega arith))
+said-inside text at r e =
+    let n = run-short (drop at text) in
+    let l = length-drop at text in
+    let q : r .end ≡ at + run (drop at text) = ap (λ (x : Said). x .end) e in
+    (e, (omega arith, omega arith))
 
 -- the line that is read is the one that the reader meets: so read one behind another, they are the lines of the text
 pub said-line : (text : List ℕ) (at : ℕ) → at < length text → lineAt text at ≡ Part at (saidAt text at .end)

@@ -157,8 +157,9 @@ fn near_at(text: &[u8], at: usize) -> Near
     one_number(text, at, letter)
 }
 
-// What the line at a position says, and where it ends; beyond the text's end there is a line of no byte, which is no call. The parts of what `by_line` found are taken one by one: handed on whole, what is said would
-// stand in memory on both ways, and be read there in other widths than it was written.
+// What the line at a position says, and where it ends; at the text's end or later stands a line of no byte, which is no call. The parts of what
+// `by_line` found are taken one by one: handed on whole, what is said would stand in memory on both ways, and be read there in other widths than it was
+// written.
 pub fn said_at(text: &[u8], at: usize) -> Said
     ensures is { λ r. ⌜ r ≡ saidAt (now (text .entry)) at ⌝ }
     ensures range { λ r. ⌜ (at ≤ r .end) × (r .end ≤ at + (length (now (text .entry)) - at)) ⌝ }

@@ -15,7 +15,7 @@ use Rattle.answer.proofs.Cases.{cases}
 use Rattle.geometry.specs.declared.Geometry.{Geometry}
 use Rattle.geometry.specs.declared.Making.{Making}
 use Rattle.geometry.specs.declared.Making.the-variants as making
-use Rattle.geometry.specs.Limits.{Inside, blocks, geometryOf, fits, makingOf}
+use Rattle.geometry.specs.Limits.{Inside, blocks, geometryOf, fits, makingOf, mostTables, mostLog, mostOut}
 use Rattle.geometry.proofs.Made.{fits-inside, inside-fits}
 use Rattle.log.specs.Word.{writeAt}
 use Rattle.log.proofs.Tools.{made-of, outside}
@@ -115,9 +115,9 @@ or-no true b e = absurd (let z : _≡_ {A = ℕ} 0 1 = cc in omega arith)
 
 pub record Long (H : Lent) : Type 0 where
   pub run : 7 ≤ length (H .run)
-  pub tables : 43008 ≤ length (H .memory .tables)
-  pub log : 65536 ≤ length (H .memory .log)
-  pub out : 4160 ≤ length (H .memory .out)
+  pub tables : mostTables ≤ length (H .memory .tables)
+  pub log : mostLog ≤ length (H .memory .log)
+  pub out : mostOut ≤ length (H .memory .out)
 
 pub long : (H : Lent) → lentShort H ≡ false → Long H
 unfolding lentShort
@@ -139,35 +139,35 @@ module _ (H : Lent) where
   run-short h = rw (lt-ltb (length (H .run)) 7 h)
 
   module _ (run : 7 ≤ length (H .run)) where
-    pub tables-short : length (H .memory .tables) < 43008 → true ≡ lentShort H
+    pub tables-short : length (H .memory .tables) < mostTables → true ≡ lentShort H
     unfolding lentShort
-    tables-short h = rw (le-ltb (length (H .run)) 7 run, lt-ltb (length (H .memory .tables)) 43008 h)
+    tables-short h = rw (le-ltb (length (H .run)) 7 run, lt-ltb (length (H .memory .tables)) mostTables h)
 
-    module _ (tables : 43008 ≤ length (H .memory .tables)) where
-      pub log-short : length (H .memory .log) < 65536 → true ≡ lentShort H
+    module _ (tables : mostTables ≤ length (H .memory .tables)) where
+      pub log-short : length (H .memory .log) < mostLog → true ≡ lentShort H
       unfolding lentShort
       log-short h =
-          rw (le-ltb (length (H .run)) 7 run, le-ltb (length (H .memory .tables)) 43008 tables, lt-ltb (length (H .memory .log)) 65536 h)
+          rw (le-ltb (length (H .run)) 7 run, le-ltb (length (H .memory .tables)) mostTables tables, lt-ltb (length (H .memory .log)) mostLog h)
 
-      module _ (log : 65536 ≤ length (H .memory .log)) where
-        pub out-short : length (H .memory .out) < 4160 → true ≡ lentShort H
+      module _ (log : mostLog ≤ length (H .memory .log)) where
+        pub out-short : length (H .memory .out) < mostOut → true ≡ lentShort H
         unfolding lentShort
         out-short h =
             rw (
               le-ltb (length (H .run)) 7 run,
-              le-ltb (length (H .memory .tables)) 43008 tables,
-              le-ltb (length (H .memory .log)) 65536 log,
-              lt-ltb (length (H .memory .out)) 4160 h,
+              le-ltb (length (H .memory .tables)) mostTables tables,
+              le-ltb (length (H .memory .log)) mostLog log,
+              lt-ltb (length (H .memory .out)) mostOut h,
             )
 
-        pub replies-short : 4160 ≤ length (H .memory .out) → ltb (length (H .replies)) longest ≡ lentShort H
+        pub replies-short : mostOut ≤ length (H .memory .out) → ltb (length (H .replies)) longest ≡ lentShort H
         unfolding lentShort
         replies-short h =
             rw (
               le-ltb (length (H .run)) 7 run,
-              le-ltb (length (H .memory .tables)) 43008 tables,
-              le-ltb (length (H .memory .log)) 65536 log,
-              le-ltb (length (H .memory .out)) 4160 h,
+              le-ltb (length (H .memory .tables)) mostTables tables,
+              le-ltb (length (H .memory .log)) mostLog log,
+              le-ltb (length (H .memory .out)) mostOut h,
             )
 
 -- the seven numbers are those of the session
@@ -178,10 +178,10 @@ session-as run e₀ e₁ e₂ e₃ e₄ e₅ e₆ = cc
 pub inside-limits : (s : Session) → (made? s && not (fits (s .g))) ≡ false → 0 < s .made → Inside (s .g)
 inside-limits s e h = fits-inside (s .g) (passed s (fits (s .g)) e h)
 
-pub tables-enough : (g : Geometry) (t : List ℕ) → Inside g → 43008 ≤ length t → need g ≤ length t
+pub tables-enough : (g : Geometry) (t : List ℕ) → Inside g → mostTables ≤ length t → need g ≤ length t
 tables-enough g t i h = omega (arith, i .records-most, i .blocks-most)
 
-pub log-enough : (g : Geometry) (log : List ℕ) → Inside g → 65536 ≤ length log → 8 * g .words ≤ length log
+pub log-enough : (g : Geometry) (log : List ℕ) → Inside g → mostLog ≤ length log → 8 * g .words ≤ length log
 log-enough g log i h = omega (arith, i .words-most)
 
 -- ── the answers ──

@@ -11,6 +11,7 @@ use borrow.Author.Tests.{lt-ltb, le-ltb, le-leb, lt-leb}
 use Rattle.answer.specs.declared.Answer.{Answer}
 use Rattle.answer.specs.declared.Answer.the-variants.{Done, Refused}
 use Rattle.answer.specs.Reply.{replyOf}
+use Rattle.geometry.specs.Limits.{mostTables, mostLog, mostOut}
 use Rattle.log.specs.Word.{writeAt}
 use Rattle.log.proofs.Writing.{write-none, write-write}
 use Rattle.model.specs.Memory.{Memory, lent}
@@ -71,7 +72,7 @@ one-more k (suc n) text room p e h a b =
     sym (enough k n text room (servedLine text p) (omega arith) (omega arith)) ∙ rw e
 
 -- before there is a store, any memory that is long enough will do
-pub no-store-kept : (s : Session) (t bytes numbers : List ℕ) → s .made ≡ 0 → 43008 ≤ length t → 65536 ≤ length bytes → 4160 ≤ length numbers
+pub no-store-kept : (s : Session) (t bytes numbers : List ℕ) → s .made ≡ 0 → mostTables ≤ length t → mostLog ≤ length bytes → mostOut ≤ length numbers
     → Kept s t bytes numbers
 no-store-kept s t bytes numbers e a b d =
     record {
@@ -85,7 +86,7 @@ no-store-kept s t bytes numbers e a b d =
 -- ── the buffer ──
 
 -- an answer of at most 4,096 numbers fits where a longest reply does
-pub room : (r : Answer) → Few r → (buffer out : List ℕ) (used : ℕ) → used + longest ≤ length buffer → 4160 ≤ length out → Room buffer used r out
+pub room : (r : Answer) → Few r → (buffer out : List ℕ) (used : ℕ) → used + longest ≤ length buffer → mostOut ≤ length out → Room buffer used r out
 room (Done n) f buffer out used e h = record { fits = omega arith; gives = omega arith }
 room (Refused n) f buffer out used e h = record { fits = omega arith; gives = omega arith }
 

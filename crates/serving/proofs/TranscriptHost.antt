@@ -12,7 +12,7 @@ use Rattle.answer.specs.Reply.{Reply, accepted}
 use Rattle.answer.specs.Refusal.{NoneHolds, leaves}
 use Rattle.answer.proofs.Cases.{cases, lt?}
 use Rattle.answer.proofs.Decided.{decide-accepts}
-use Rattle.geometry.specs.Limits.{fits}
+use Rattle.geometry.specs.Limits.{fits, mostTables, mostLog, mostOut}
 use Rattle.geometry.proofs.Made.{inside-fits}
 use Rattle.log.specs.Word.{writeAt}
 use Rattle.model.specs.Memory.{Memory, sound?}
@@ -40,15 +40,15 @@ long-lends : (H : Lent) → lentShort H ≡ false → Lends H
 unfolding lentShort
 long-lends H e =
     let a = or-false (ltb (length (H .run)) 7) _ e in
-    let b = or-false (ltb (length (H .memory .tables)) 43008) _ (a .1) in
-    let c = or-false (ltb (length (H .memory .log)) 65536) _ (b .1) in
-    let d = or-false (ltb (length (H .memory .out)) 4160) _ (c .1) in
+    let b = or-false (ltb (length (H .memory .tables)) mostTables) _ (a .1) in
+    let c = or-false (ltb (length (H .memory .log)) mostLog) _ (b .1) in
+    let d = or-false (ltb (length (H .memory .out)) mostOut) _ (c .1) in
     record {
       run = ltb-false (length (H .run)) 7 (a .0);
       ample = record {
-        tables = ltb-false (length (H .memory .tables)) 43008 (b .0);
-        log = ltb-false (length (H .memory .log)) 65536 (c .0);
-        out = ltb-false (length (H .memory .out)) 4160 (d .0);
+        tables = ltb-false (length (H .memory .tables)) mostTables (b .0);
+        log = ltb-false (length (H .memory .log)) mostLog (c .0);
+        out = ltb-false (length (H .memory .out)) mostOut (d .0);
       };
       replies = ltb-false (length (H .replies)) longest (d .1);
     }
@@ -58,9 +58,9 @@ unfolding lentShort
 lends-long H l =
     rw (
       le-ltb (length (H .run)) 7 (l .run),
-      le-ltb (length (H .memory .tables)) 43008 (l .ample .tables),
-      le-ltb (length (H .memory .log)) 65536 (l .ample .log),
-      le-ltb (length (H .memory .out)) 4160 (l .ample .out),
+      le-ltb (length (H .memory .tables)) mostTables (l .ample .tables),
+      le-ltb (length (H .memory .log)) mostLog (l .ample .log),
+      le-ltb (length (H .memory .out)) mostOut (l .ample .out),
       le-ltb (length (H .replies)) longest (l .replies),
     )
 

@@ -8,7 +8,7 @@ use lib.ListN.{length, getD, take, drop, drop-of-length-le, take-append-drop}
 use lib.Seq.{take-length, take-take, length-take-le, getD-take}
 use Rattle.answer.proofs.Cases.{cases, same?, pos}
 use Rattle.script.specs.Lines.{linesOf}
-use Rattle.ledger.specs.Transcript.{Runner, without-store, printed, left, linesRead, transcript}
+use Rattle.ledger.specs.Transcript.{Runner, mostRead, without-store, printed, left, linesRead, transcript}
 use Rattle.ledger.proofs.Parts.{parts, parts-left}
 use Rattle.serving.specs.Part.{Part, begun, longest}
 use Rattle.serving.specs.Transcribed.{partsMost, looked, Ends, Ample, Transcribed, RunnerPrints}
@@ -124,4 +124,4 @@ transcribed text room ends s M h e n a =
 -- THE RUNNER PRINTS THE TRANSCRIPT
 pub runner-prints : RunnerPrints
 unfolding transcript linesRead
-runner-prints input room ends s M h e n a = transcribed (take 65536 input) room ends s M h e n a
+runner-prints input room ends s M h e n a = transcribed (take mostRead input) room ends s M h e n a

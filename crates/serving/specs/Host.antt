@@ -9,7 +9,7 @@ use lib.Seq.{sets}
 use Rattle.answer.specs.Reply.{Reply, accepted, refused}
 use Rattle.answer.specs.Refusal.{Condition, decide, leaves}
 use Rattle.geometry.specs.declared.Geometry.{Geometry}
-use Rattle.geometry.specs.Limits.{geometryOf, fits}
+use Rattle.geometry.specs.Limits.{geometryOf, fits, mostTables, mostLog, mostOut}
 use Rattle.log.specs.Word.{writeAt}
 use Rattle.model.specs.Memory.{Memory, lent, sound?}
 use Rattle.session.specs.declared.Session.{Session}
@@ -40,8 +40,8 @@ runOf s = s .made ∷ s .g .arenas ∷ s .g .per ∷ s .g .pages ∷ s .g .recor
 unfoldable pub lentShort : Lent → Bool
 lentShort H =
     ltb (length (H .run)) 7 ||
-    (ltb (length (H .memory .tables)) 43008 ||
-    (ltb (length (H .memory .log)) 65536 || (ltb (length (H .memory .out)) 4160 || ltb (length (H .replies)) longest)))
+    (ltb (length (H .memory .tables)) mostTables ||
+    (ltb (length (H .memory .log)) mostLog || (ltb (length (H .memory .out)) mostOut || ltb (length (H .replies)) longest)))
 
 -- once a store was made: its numbers lie inside the limits, and its tables are sound
 unfoldable pub hostConditions : Lent → List Condition

@@ -7,10 +7,11 @@ use Prim.Native.Nat.{ℕ, zero, suc, pred, _≤_, _<_}
 use lib.Dec.{ltb}
 use lib.ListN.{length, getD, take}
 use Rattle.answer.specs.Reply.{Reply, accepted, refused}
+use Rattle.geometry.specs.Limits.{mostTables, mostLog, mostOut}
 use Rattle.model.specs.Memory.{Memory}
 use Rattle.script.specs.Lines.{linesOf}
 use Rattle.session.specs.declared.Session.{Session}
-use Rattle.ledger.specs.Transcript.{without-store, printed, transcript}
+use Rattle.ledger.specs.Transcript.{mostRead, without-store, printed, transcript}
 use Rattle.serving.specs.Part.{Part, begun, longest, served}
 use Rattle.serving.specs.Host.{Lent, hostReply, hostLeft, lentShort}
 
@@ -38,9 +39,9 @@ Ends text from (e ∷ es) = (from ≤ e) × ((e ≤ length text) × (((e ≡ 0) 
 
 -- memory enough for every geometry
 pub record Ample (M : Memory) : Type 0 where
-  pub tables : 43008 ≤ length (M .tables)
-  pub log : 65536 ≤ length (M .log)
-  pub out : 4160 ≤ length (M .out)
+  pub tables : mostTables ≤ length (M .tables)
+  pub log : mostLog ≤ length (M .log)
+  pub out : mostOut ≤ length (M .out)
 
 abbrev pub Transcribed : Type 0
 Transcribed = (text : List ℕ) (room : ℕ) (ends : List ℕ) (s : Session) (M : Memory) → longest ≤ room → Ends text 0 ends → s .made ≡ 0 → Ample M →
@@ -48,8 +49,9 @@ Transcribed = (text : List ℕ) (room : ℕ) (ends : List ℕ) (s : Session) (M 
 
 -- THE RUNNER PRINTS THE TRANSCRIPT: it reads at most 65,536 bytes
 abbrev pub RunnerPrints : Type 0
-RunnerPrints = (input : List ℕ) (room : ℕ) (ends : List ℕ) (s : Session) (M : Memory) → longest ≤ room → Ends (take 65536 input) 0 ends → s .made ≡ 0 → Ample M →
-    looked (take 65536 input) room ends (begun 0 s M) .replies ≡ transcript input
+RunnerPrints = (input : List ℕ) (room : ℕ) (ends : List ℕ) (s : Session) (M : Memory) → longest ≤ room → Ends (take mostRead input) 0 ends →
+    s .made ≡ 0 → Ample M →
+    looked (take mostRead input) room ends (begun 0 s M) .replies ≡ transcript input
 
 -- a part gets on by at least one line
 abbrev pub GetsOn : Type 0

@@ -6,7 +6,7 @@ ghost use Prim.Native.Nat.{_<_, _≤_};
 ghost use lib.Dec.{eqb};
 ghost use lib.ListN.{length, getD};
 ghost use lib.Seq.{sets};
-ghost use Rattle.geometry.specs.Limits.{Inside, fits};
+ghost use Rattle.geometry.specs.Limits.{Inside, fits, mostTables, mostLog};
 ghost use Rattle.model.specs.Memory.{sound?};
 ghost use Rattle.serving.specs.Host.{lentBy, sessionOf, runOf, lentShort, Hosts, Narrow};
 use crate::LONGEST;
@@ -83,13 +83,13 @@ fn is_too_short(run: &[u32], tables: &[u32], log: &[u8], out: &[u32], replies: &
     if run.len() < 7 {
         return true;
     }
-    if tables.len() < 43008 {
+    if tables.len() < Geometry::MOST_TABLES {
         return true;
     }
-    if log.len() < 65536 {
+    if log.len() < Geometry::MOST_LOG {
         return true;
     }
-    if out.len() < 4160 {
+    if out.len() < Geometry::MOST_OUT {
         return true;
     }
     replies.len() < LONGEST
@@ -97,7 +97,7 @@ fn is_too_short(run: &[u32], tables: &[u32], log: &[u8], out: &[u32], replies: &
 
 // Whether a store was made and its tables and log are not sound.
 fn is_unsound(s: Session, tables: &[u32], log: &[u8]) -> bool
-    requires { ⌜ (0 < s .made → Inside (s .g)) × (43008 ≤ length (now tables)) × (65536 ≤ length (now log)) ⌝ }
+    requires { ⌜ (0 < s .made → Inside (s .g)) × (mostTables ≤ length (now tables)) × (mostLog ≤ length (now log)) ⌝ }
     ensures { λ r. ⌜ r ≡ (not (eqb (s .made) 0) && not (sound? (s .g) (now (tables .entry)) (now (log .entry)))) ⌝ }
 {
     if s.made == 0 {

@@ -10,7 +10,7 @@ use Rattle.answer.specs.declared.Answer.{Answer}
 use Rattle.answer.specs.declared.Answer.the-variants.{Done, Refused}
 use Rattle.answer.specs.Reply.{Reply, accepted, refused, replyOf}
 use Rattle.geometry.specs.declared.Geometry.{Geometry}
-use Rattle.geometry.specs.Limits.{Inside, geometryOf}
+use Rattle.geometry.specs.Limits.{Inside, geometryOf, least, mostTables, mostLog, mostOut}
 use Rattle.model.specs.Memory.{Memory, reply, after, makeReply, makeAfter}
 use Rattle.model.specs.SoundStore.{SoundStore}
 use Rattle.model.specs.Actions.{slotOf}
@@ -22,6 +22,10 @@ use Rattle.tables.specs.Hints.{noted}
 use Rattle.tables.specs.Ready.{recordOf}
 use Rattle.session.specs.declared.Session.{Session}
 use Rattle.session.specs.declared.Stepped.{Stepped}
+
+-- before the first line: no store, and a geometry that nothing reads
+abbrev pub noStore : Session
+noStore = record { made = 0; g = least }
 
 -- the geometry of a store line
 abbrev pub geometryIn : Six → Geometry
@@ -57,9 +61,9 @@ stepHints s t No hints = hints
 
 -- what the runner keeps: memory enough for every geometry inside its limits, and, once there is a store, soundness
 pub record Kept (s : Session) (t bytes numbers : List ℕ) : Type 0 where
-  pub tables : 43008 ≤ length t
-  pub log : 65536 ≤ length bytes
-  pub out : 4160 ≤ length numbers
+  pub tables : mostTables ≤ length t
+  pub log : mostLog ≤ length bytes
+  pub out : mostOut ≤ length numbers
   pub inside : 0 < s .made → Inside (s .g)
   pub sound : 0 < s .made → SoundStore (s .g) t bytes
 

@@ -4,7 +4,7 @@ ghost use Rattle.answer.specs.Reply.{replyOf};
 ghost use Rattle.answer.specs.declared.Answer.the-variants.{Refused};
 ghost use Rattle.model.specs.Memory.{lent};
 ghost use Rattle.script.specs.declared.parse.Parsed.the-variants.{Store, Asks};
-ghost use Rattle.session.specs.Step.{stepReply, stepMemory, stepSession, stepHints, Kept, Few, Stepping};
+ghost use Rattle.session.specs.Step.{noStore, stepReply, stepMemory, stepSession, stepHints, Kept, Few, Stepping};
 use answer::Answer;
 use engine::perform;
 use engine::record_of;
@@ -32,18 +32,11 @@ pub struct Stepped {
 
 // Before the first line there is no store.
 pub fn start() -> Session
-    ensures { λ r. ⌜ r .made ≡ 0 ⌝ }
+    ensures { λ r. ⌜ r ≡ noStore ⌝ }
 {
     Session {
         made: 0,
-        g: Geometry {
-            arenas: 1,
-            per: 1,
-            pages: 1,
-            records: 1,
-            turn: 1,
-            words: 4,
-        },
+        g: Geometry::LEAST,
     }
 }
 

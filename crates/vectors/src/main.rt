@@ -1,13 +1,14 @@
 // Runs each script that its arguments name: the name on a line, then the script's replies.
+use geometry::Geometry;
 use libc::STDOUT_FILENO;
 use serving::serve_part;
 use session::start;
 
 // A reply for each line of a text.
 fn serve(text: &[u8]) {
-    let mut t = [0u32; 43008];
-    let mut log = [0u8; 65536];
-    let mut out = [0u32; 4160];
+    let mut t = [0u32; Geometry::MOST_TABLES];
+    let mut log = [0u8; Geometry::MOST_LOG];
+    let mut out = [0u32; Geometry::MOST_OUT];
     let mut replies = [0u8; 65536];
     let mut session = start();
     let mut at: usize = 0;

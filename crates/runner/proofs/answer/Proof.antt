@@ -36,20 +36,24 @@ write-replies-requires c κs = search needs
 
 loop-less : tie.Need-loop-less Inv-loop μ-loop
 loop-less c =
-    let p = c .before .before .before .before .before .before .before .before .before .before .before .before .serve-part in
-    let l = c .before .before .before .before .before .before .before .before .before .before .before .before .before .before .before .before .before .before .loop in
-    let h = c .before .before .before .before .before .before .before .before .before .before .before .before .before .before .before .before .before .loop-test .taken in
-    let long = c .before .before .before .before .before .before .before .before .before .before .before .before .before .before .before .before .before .before .before .before .before .before .before .before .pre .1 in
+    let at-part = c .before .before .before .before .before .before .before .before .before .before .before .before in
+    let at-loop = at-part .before .before .before .before .before .before in
+    let p = at-part .serve-part in
+    let l = at-loop .loop in
+    let h = at-part .before .before .before .before .before .loop-test .taken in
+    let long = at-loop .before .before .before .before .before .before .pre .1 in
     let further = gets-further _ _ _ _ (p .ensures .at) h (omega (arith, l .inv .stands .same, long)) in
     omega (arith, h, further)
 
 loop-again : tie.Need-loop-again Inv-loop μ-loop
 loop-again c =
-    let p = c .before .before .before .before .before .before .before .before .before .before .before .before .serve-part in
+    let at-part = c .before .before .before .before .before .before .before .before .before .before .before .before in
+    let at-loop = at-part .before .before .before .before .before .before in
+    let p = at-part .serve-part in
     let k = p .kept .1 .1 .1 in
-    let l = c .before .before .before .before .before .before .before .before .before .before .before .before .before .before .before .before .before .before .loop in
-    let h = c .before .before .before .before .before .before .before .before .before .before .before .before .before .before .before .before .before .loop-test .taken in
-    let long = c .before .before .before .before .before .before .before .before .before .before .before .before .before .before .before .before .before .before .before .before .before .before .before .before .pre .1 in
+    let l = at-loop .loop in
+    let h = at-part .before .before .before .before .before .loop-test .taken in
+    let long = at-loop .before .before .before .before .before .before .pre .1 in
     goes-on _ _ _ _ _ _ _ _ _ _ _ _ (l .inv) (p .result) _ _ _ _ (p .ensures) h (omega (arith, long)) (k .0) (k .1 .0) (k .1 .1 .0) (k .1 .1 .1 .0)
 
 same-length : tie.Need-same-length Inv-loop μ-loop
@@ -81,11 +85,13 @@ same-length-8 c = search needs
 
 returns-2 : tie.Need-returns-2 Inv-loop μ-loop
 returns-2 c =
-    let p = c .before .before .before .before .before .before .before .before .before .before .before .before .serve-part in
+    let at-part = c .before .before .before .before .before .before .before .before .before .before .before .before in
+    let at-loop = at-part .before .before .before .before .before .before in
+    let p = at-part .serve-part in
     let k = p .kept .1 .1 .1 in
-    let l = c .before .before .before .before .before .before .before .before .before .before .before .before .before .before .before .before .before .before .loop in
-    let h = c .before .before .before .before .before .before .before .before .before .before .before .before .before .before .before .before .before .loop-test .taken in
-    let long = c .before .before .before .before .before .before .before .before .before .before .before .before .before .before .before .before .before .before .before .before .before .before .before .before .pre .1 in
+    let l = at-loop .loop in
+    let h = at-part .before .before .before .before .before .loop-test .taken in
+    let long = at-loop .before .before .before .before .before .before .pre .1 in
     at-failure _ _ _ _ _ _ _ _ _ _ _ _ (l .inv) (p .result) _ _ _ _ (p .ensures) h (omega (arith, long)) (k .0) (k .1 .0) (k .1 .1 .0) (k .1 .1 .1 .0)
     _ refl refl (c .if1 .taken)
 

@@ -1,8 +1,10 @@
 -- `main`: the session is kept from read to read, and each turn reads at least a byte or is the last.
-use mathlib.Core.Path.{sym, _∙_}
+use mathlib.Core.Path.{sym, ap, _∙_}
 use mathlib.Core.Bool.{cond}
 use Prim.Native.Nat.{_+_, _-_}
 use lib.Seq.{length-take-le}
+use Rattle.session.specs.declared.Session.{Session}
+use Rattle.ledger.specs.Transcript.{mostRead}
 use Rattle.runner.proofs.Running.{Running, running, within, turn-less}
 use borrow.Author.Needs.{needs}
 use native.Mathlib.Omega.{arith}
@@ -13,13 +15,13 @@ abbrev Inv-loop : tie.InvT-loop
 Inv-loop t₀ log₀ out₀ replies₀ text₀ session₀ from₀ to₀ n₀ at₀ whole₀ t log out replies text session from to n at whole = Running session t log out replies text n
 
 abbrev μ-loop : tie.MeasureT-loop
-μ-loop t₀ log₀ out₀ replies₀ text₀ session₀ from₀ to₀ n₀ at₀ whole₀ t log out replies text session from to n at whole = cond whole 0 1 + (65536 - n)
+μ-loop t₀ log₀ out₀ replies₀ text₀ session₀ from₀ to₀ n₀ at₀ whole₀ t log out replies text session from to n at whole = cond whole 0 1 + (mostRead - n)
 
 start-requires : tie.Need-start-requires Inv-loop μ-loop
 start-requires c κs = search needs
 
 loop-holds : tie.Need-loop-holds Inv-loop μ-loop
-loop-holds c = running _ (c .start .ensures)
+loop-holds c = running _ (ap (λ (s : Session). s .made) (c .start .ensures))
 
 slice-aggregate-read-more : tie.Need-slice-aggregate-read-more Inv-loop μ-loop
 slice-aggregate-read-more c = search needs
@@ -75,7 +77,7 @@ loop-less c =
     let at-read = at-whole .before .before .before .before in
     let at-loop = at-read .before .before .before in
     turn-less _ (at-loop .loop .whole) (at-loop .loop .n) _ (at-read .before .before .loop-test .taken) (at-whole .is-whole .ensures)
-    (omega (arith, at-read .read-more .ensures, at-loop .loop .inv .script))
+    (omega (arith, at-read .read-more .ensures .0, at-loop .loop .inv .script))
 
 loop-again : tie.Need-loop-again Inv-loop μ-loop
 loop-again c =
@@ -88,7 +90,7 @@ loop-again c =
       numbers = a .kept .1 .1 .1 .1 .1 .1 .0 ∙ l .numbers;
       buffer = a .kept .1 .1 .1 .1 .1 .1 .1 .0 ∙ l .buffer;
       script = m .kept .1 .0 ∙ l .script;
-      read = omega (arith, m .ensures, l .script);
+      read = omega (arith, m .ensures .0, l .script);
       kept = a .ensures .kept;
     }
 

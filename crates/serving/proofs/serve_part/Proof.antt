@@ -6,6 +6,7 @@ use Rattle.model.specs.Memory.{lent}
 use Rattle.serving.specs.Part.{begun, served}
 use Rattle.serving.proofs.Serving.{Running, begins, at-end, when-full, room, turned}
 use native.Mathlib.Omega.{arith}
+use borrow.Author.Needs.{needs}
 use Rattle.serving.proofs.serve_part.Statement.{statement}
 use Rattle.serving.proofs.serve_part.Tie as tie
 
@@ -49,7 +50,7 @@ returns-2 c =
     when-full (a .text .now) _ (a .t .now) (a .log .now) (a .out .now) (a .replies .now) (l .s) (l .t) (l .log) (l .out) (l .replies) (l .used) (l .i) (l .inv) (omega (arith, c .if2 .taken))
 
 said-at-requires : tie.Need-said-at-requires Inv-loop μ-loop
-said-at-requires c κs = search needs
+said-at-requires c κs = tt
 
 step-requires : tie.Need-step-requires Inv-loop μ-loop
 step-requires c κs = c .before .before .before .before .before .before .before .loop .inv .kept

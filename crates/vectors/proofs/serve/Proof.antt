@@ -1,8 +1,9 @@
 -- `serve`: the session is kept from part to part, and each part gets on by a line.
-use mathlib.Core.Path.{sym, _∙_}
+use mathlib.Core.Path.{sym, ap, _∙_}
 use Prim.Native.Nat.{_-_}
 use lib.ListN.{length}
 use lib.Seq.{length-take-le}
+use Rattle.session.specs.declared.Session.{Session}
 use Rattle.serving.proofs.Onward.{gets-further}
 use Rattle.vectors.proofs.Running.{Running, running}
 use borrow.Author.Needs.{needs}
@@ -20,7 +21,7 @@ start-requires : tie.Need-start-requires Inv-loop μ-loop
 start-requires c κs = search needs
 
 loop-holds : tie.Need-loop-holds Inv-loop μ-loop
-loop-holds c = running _ (c .start .ensures)
+loop-holds c = running _ (ap (λ (s : Session). s .made) (c .start .ensures))
 
 slice-aggregate-serve-part : tie.Need-slice-aggregate-serve-part Inv-loop μ-loop
 slice-aggregate-serve-part c = search needs

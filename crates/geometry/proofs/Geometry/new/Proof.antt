@@ -6,6 +6,7 @@ use Prim.Native.Nat.{ℕ, _*_, _≤_}
 use lib.Dec.{leb, lit<}
 use native.Mathlib.Nat.{lt-of-le-of-lt, mul-le-mul}
 use native.Mathlib.Omega.{arith}
+use Rattle.geometry.specs.Limits.{minArenas, maxArenas, minPer, maxPer, maxBlocks, minPages, maxPages, minRecords, maxRecords, minTurn, maxTurn}
 use Rattle.geometry.specs.Limits.{within, fits, makingOf}
 use Rattle.geometry.proofs.Made.{within-most, promised}
 use borrow.Author.Needs.{needs}
@@ -20,22 +21,22 @@ passed : {r b : Bool} → r ≡ b → not r ≡ false → b ≡ true
 passed e t = sym e ∙ not-false _ t
 
 -- what each passed test showed
-p1 : (c : tie.Else1) → within 1 (c .before .before .args .arenas) 16 ≡ true
+p1 : (c : tie.Else1) → within minArenas (c .before .before .args .arenas) maxArenas ≡ true
 p1 c = passed (c .before .inside .ensures) (c .if1 .left)
 
-p2 : (c : tie.Else2) → within 1 (c .before .before .before .before .args .per) 1024 ≡ true
+p2 : (c : tie.Else2) → within minPer (c .before .before .before .before .args .per) maxPer ≡ true
 p2 c = passed (c .before .inside2 .ensures) (c .if2 .left)
 
-p3 : (c : tie.Else3) → leb (c .before .before .before .before .before .args .arenas * c .before .before .before .before .before .args .per) 2048 ≡ true
+p3 : (c : tie.Else3) → leb (c .before .before .before .before .before .args .arenas * c .before .before .before .before .before .args .per) maxBlocks ≡ true
 p3 c = le-leb _ _ (c .if3 .left)
 
-p4 : (c : tie.Else4) → within 1 (c .before .before .before .before .before .before .before .args .pages) 256 ≡ true
+p4 : (c : tie.Else4) → within minPages (c .before .before .before .before .before .before .before .args .pages) maxPages ≡ true
 p4 c = passed (c .before .inside3 .ensures) (c .if4 .left)
 
-p5 : (c : tie.Else5) → within 1 (c .before .before .before .before .before .before .before .before .before .args .records) 64 ≡ true
+p5 : (c : tie.Else5) → within minRecords (c .before .before .before .before .before .before .before .before .before .args .records) maxRecords ≡ true
 p5 c = passed (c .before .inside4 .ensures) (c .if5 .left)
 
-p6 : (c : tie.Else6) → within 1 (c .before .before .before .before .before .before .before .before .before .before .before .args .turn) 4096 ≡ true
+p6 : (c : tie.Else6) → within minTurn (c .before .before .before .before .before .before .before .before .before .before .before .args .turn) maxTurn ≡ true
 p6 c = passed (c .before .inside5 .ensures) (c .if6 .left)
 
 inside-requires : tie.Need-inside-requires
@@ -54,7 +55,7 @@ returns-2 c = promised _ _ _ _ _ _ _ (simp (failed (c .before .inside2 .ensures)
 
 mul-blocks : tie.Need-mul-blocks
 mul-blocks c =
-    record { fits = lt-of-le-of-lt (mul-le-mul (within-most _ _ 16 (p1 (c .before .before))) (within-most _ _ 1024 (p2 c))) (lit< tt) }
+    record { fits = lt-of-le-of-lt (mul-le-mul (within-most _ _ maxArenas (p1 (c .before .before))) (within-most _ _ maxPer (p2 c))) (lit< tt) }
 
 returns-3 : tie.Need-returns-3
 unfolding makingOf fits

@@ -27,10 +27,14 @@ shared-slice-read-if2 : tie.Need-shared-slice-read-if2 Inv-loop μ-loop
 shared-slice-read-if2 c = search needs
 
 returns-2 : tie.Need-returns-2 Inv-loop μ-loop
-returns-2 c = above _ _ _ (c .before .before .before .before .before .loop .inv) (c .before .before .before .before .loop-test .taken) (c .before .before .if1 .left) (c .if2 .taken)
+returns-2 c =
+    let at-loop = c .before .before .before .before .before in
+    above _ _ _ (at-loop .loop .inv) (c .before .before .before .before .loop-test .taken) (c .before .before .if1 .left) (c .if2 .taken)
 
 mul-value : tie.Need-mul-value Inv-loop μ-loop
-mul-value c = omega (arith, value-small _ _ _ (c .before .before .before .before .before .loop .inv) (c .before .before .before .before .loop-test .taken) (c .before .before .before .before .before .before .pre))
+mul-value c =
+    let at-loop = c .before .before .before .before .before in
+    omega (arith, value-small _ _ _ (at-loop .loop .inv) (c .before .before .before .before .loop-test .taken) (at-loop .before .pre))
 
 shared-slice-read-value : tie.Need-shared-slice-read-value Inv-loop μ-loop
 shared-slice-read-value c = search needs
@@ -42,7 +46,9 @@ sub-value : tie.Need-sub-value Inv-loop μ-loop
 sub-value c = search needs
 
 add-value : tie.Need-add-value Inv-loop μ-loop
-add-value c = omega (arith, value-small _ _ _ (c .before .before .before .before .before .before .loop .inv) (c .before .before .before .before .before .loop-test .taken) (c .before .before .before .before .before .before .before .pre), c .before .if2 .left)
+add-value c =
+    let at-loop = c .before .before .before .before .before .before in
+    omega (arith, value-small _ _ _ (at-loop .loop .inv) (c .before .before .before .before .before .loop-test .taken) (at-loop .before .pre), c .before .if2 .left)
 
 add-i : tie.Need-add-i Inv-loop μ-loop
 add-i c = search needs
@@ -51,7 +57,9 @@ loop-less : tie.Need-loop-less Inv-loop μ-loop
 loop-less c = search needs
 
 loop-again : tie.Need-loop-again Inv-loop μ-loop
-loop-again c = goes-on _ _ _ (c .before .before .before .before .before .before .loop .inv) (c .before .before .before .before .before .loop-test .taken) (c .before .before .before .if1 .left) (c .before .if2 .left)
+loop-again c =
+    let at-loop = c .before .before .before .before .before .before in
+    goes-on _ _ _ (at-loop .loop .inv) (c .before .before .before .before .before .loop-test .taken) (c .before .before .before .if1 .left) (c .before .if2 .left)
 
 returns-3 : tie.Need-returns-3 Inv-loop μ-loop
 returns-3 c = at-end _ _ _ (c .before .loop .inv) (c .loop-test .left)

@@ -28,7 +28,9 @@ digits-requires-2 : tie.Need-digits-requires-2
 digits-requires-2 c κs = search needs
 
 returns-5 : tie.Need-returns-5
-returns-5 c = c .digits2 .ensures ∙ alone _ (c .before .before .before .before .before .if1 .left) (c .before .before .before .before .if2 .left) (c .before .if4 .left)
+returns-5 c =
+    let d = c .before .before .before .before in
+    c .digits2 .ensures ∙ alone _ (d .before .if1 .left) (d .if2 .left) (c .before .if4 .left)
 
 pub read-number-spec : {M : Type 1} → statement M
 read-number-spec =

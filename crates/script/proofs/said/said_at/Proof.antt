@@ -23,7 +23,8 @@ returns c = said-inside _ _ _ (c .by-line .ensures)
 
 returns-2 : tie.Need-returns-2
 returns-2 c = let a = c .before .before .before .before .before .args in
-    said-inside (a .text .now) (a .at) _ (tells-is _ (saidAt (a .text .now) (a .at)) _ _ (c .before .near .given .1) (c .before .before .before .near-at .ensures))
+    said-inside (a .text .now) (a .at) _
+    (tells-is _ (saidAt (a .text .now) (a .at)) _ _ (c .before .near .given .1) (c .before .before .before .near-at .ensures))
 
 pub said-at-spec : {M : Type 1} → statement M
 said-at-spec =

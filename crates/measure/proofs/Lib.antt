@@ -1,0 +1,2 @@
+-- A script served for the benchmarks.
+pub mod Measuring
