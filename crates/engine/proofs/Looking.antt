@@ -1,18 +1,25 @@
 -- A look leaves tables and log; what it promises is what a call promises.
 use mathlib.Core.Path.{_≡_, refl, sym, ap, subst}
-use mathlib.Core.List.{List, []}
+use mathlib.Core.List.{List, [], _∷_}
+use mathlib.Core.Option.{none, some}
+use types.Run.{OneOf, miss}
+use denote.Enum.Declared.{tagOf}
 use Prim.Native.Nat.{ℕ}
 use Rattle.answer.specs.declared.Answer.{Answer}
 use Rattle.answer.specs.Reply.{replyOf}
 use Rattle.geometry.specs.declared.Geometry.{Geometry}
 use Rattle.model.specs.declared.Call.{Call}
+use Rattle.model.proofs.Call.{the-type}
+use Rattle.model.specs.declared.Call.the-variants.{Begin, Write, Erase, Seal, Fork, Delete, Read, Barrier, Compress, FreeList, Estimate}
 use Rattle.model.specs.Calls.{written, effect}
 use Rattle.model.specs.Layout.{stateOf}
 use Rattle.tables.specs.Ready.{Ready, LinkOf, recordOf}
 use Rattle.tables.specs.Outcome.{replied, outLeft}
 use Rattle.engine.specs.declared.looks.Look.{Look}
 use Rattle.engine.specs.declared.looks.Look.the-variants as look
-use Rattle.engine.specs.Looks.{lookCall}
+use Rattle.engine.specs.declared.looks.Seen.{Seen}
+use Rattle.engine.specs.declared.looks.Seen.the-variants as seen
+use Rattle.engine.specs.Looks.{lookCall, onlyLooks, seenCall}
 use Rattle.engine.proofs.Untouched.{tables-stay, log-stays, Performed, its-link}
 
 abbrev pub Looked : Answer → Geometry → List ℕ → List ℕ → List ℕ → Call → Type 0
@@ -42,3 +49,28 @@ pub look-performed : (r : Answer) (g : Geometry) (t log out left : List ℕ) (l 
     Performed r t log left g t log out (lookCall l)
 look-performed r g t log out left l R p =
     (p .0, (tables-stay g t (lookCall l) R (keeps-state g t l), (log-stays g t (lookCall l) log (writes-none g t l), p .1)))
+
+-- ── the look that a call is ──
+
+-- of the call that the code has taken apart
+pub seen-as : (c : Call) (l : Look) → c ≡ lookCall l → seenCall (seen.For l) ≡ onlyLooks (some c)
+seen-as c (look.Read n x) e = rw e
+seen-as c look.FreeList e = rw e
+seen-as c (look.Estimate n) e = rw e
+
+-- the places of the calls that do more, in the order of `Call`
+abbrev acting : List ℕ
+acting = 0 ∷ 1 ∷ 2 ∷ 3 ∷ 4 ∷ 5 ∷ 7 ∷ 8 ∷ []
+
+pub not-seen : (c : Call) → OneOf acting (tagOf the-type c) → seenCall seen.Nothing ≡ onlyLooks (some c)
+not-seen Begin h = refl
+not-seen (Write r x k) h = refl
+not-seen (Erase r x) h = refl
+not-seen (Seal r) h = refl
+not-seen (Fork r) h = refl
+not-seen (Delete r) h = refl
+not-seen (Read r x) h = absurd (miss acting 6 tt h)
+not-seen Barrier h = refl
+not-seen Compress h = refl
+not-seen FreeList h = absurd (miss acting 9 tt h)
+not-seen (Estimate r) h = absurd (miss acting 10 tt h)

@@ -1,6 +1,6 @@
 -- The calls that only look: R, L and Q, those whose account says so.
 use mathlib.Core.Bool.{Bool, true, false, cond}
-use mathlib.Core.List.{List, [], _∷_}
+use mathlib.Core.Option.{Option, none, some}
 use Rattle.model.specs.declared.Call.{Call}
 use Rattle.model.specs.declared.Call.the-variants.{Read, FreeList, Estimate}
 use Rattle.model.specs.Calls.{Account, looking, opening, freeing, placing, marking, renewing, account}
@@ -15,19 +15,20 @@ lookCall (look.Read n x) = Read n x
 lookCall look.FreeList = FreeList
 lookCall (look.Estimate n) = Estimate n
 
-abbrev pub onlyLooks : Account → Bool
-onlyLooks (looking s cs res) = true
-onlyLooks (opening cs a) = false
-onlyLooks (freeing cs a) = false
-onlyLooks (placing r x k) = false
-onlyLooks marking = false
-onlyLooks renewing = false
+abbrev pub looks : Account → Bool
+looks (looking s cs res) = true
+looks (opening cs a) = false
+looks (freeing cs a) = false
+looks (placing r x k) = false
+looks marking = false
+looks renewing = false
 
--- the call itself, if it only looks
-abbrev pub lookIn : Call → List Call
-lookIn c = cond (onlyLooks (account c)) (c ∷ []) []
+-- of what is asked, a call that only looks
+abbrev pub onlyLooks : Option Call → Option Call
+onlyLooks (some c) = cond (looks (account c)) (some c) none
+onlyLooks none = none
 
--- the calls that an answer stands for: one or none
-abbrev pub seenCalls : Seen → List Call
-seenCalls (seen.For l) = lookCall l ∷ []
-seenCalls seen.Nothing = []
+-- the call that an answer stands for
+abbrev pub seenCall : Seen → Option Call
+seenCall (seen.For l) = some (lookCall l)
+seenCall seen.Nothing = none

@@ -1,7 +1,8 @@
 // The calls that only look, as a type of their own: they need tables and log only to be read.
 ghost use mathlib.Core.Path.{_≡_};
+ghost use mathlib.Core.Option.{some};
 ghost use Rattle.tables.specs.Ready.{recordOf};
-ghost use Rattle.engine.specs.Looks.{lookCall, lookIn, seenCalls};
+ghost use Rattle.engine.specs.Looks.{lookCall, onlyLooks, seenCall};
 use model::Call;
 
 // The calls that only look.
@@ -30,19 +31,12 @@ pub fn record_seen(c: Look) -> u32
 
 // The look that a call is: those that change something are none.
 pub fn look_of(c: Call) -> Seen
-    ensures { λ r. ⌜ seenCalls r ≡ lookIn c ⌝ }
+    ensures { λ r. ⌜ seenCall r ≡ onlyLooks (some c) ⌝ }
 {
     match c {
-        Call::Begin => Seen::Nothing,
-        Call::Write(_, _, _) => Seen::Nothing,
-        Call::Erase(_, _) => Seen::Nothing,
-        Call::Seal(_) => Seen::Nothing,
-        Call::Fork(_) => Seen::Nothing,
-        Call::Delete(_) => Seen::Nothing,
         Call::Read(n, page) => Seen::For(Look::Read(n, page)),
-        Call::Barrier => Seen::Nothing,
-        Call::Compress => Seen::Nothing,
         Call::FreeList => Seen::For(Look::FreeList),
         Call::Estimate(n) => Seen::For(Look::Estimate(n)),
+        _ => Seen::Nothing,
     }
 }

@@ -2,4 +2,3 @@
 pub mod Letters
 pub mod Coding
 pub mod Codes
-pub mod Looking

@@ -1,12 +1,10 @@
 -- Which call a letter and three numbers ask for. The letters are those of scripts, each as its byte, and so is how many numbers a call takes.
 use mathlib.Core.Path.{_≡_}
-use mathlib.Core.Bool.{Bool, true, false, cond}
 use mathlib.Core.List.{List, [], _∷_}
 use mathlib.Core.Option.{Option, none, some}
 use Prim.Native.Nat.{ℕ}
 use lib.ListN.{length, take}
 use Rattle.model.specs.declared.Call.{Call}
-use Rattle.model.specs.Calls.{Account, looking, opening, freeing, placing, marking, renewing, account}
 use Rattle.script.specs.Letters.{callOf}
 
 -- the first of two that is a call
@@ -26,18 +24,3 @@ askedBy b x y z =
 pub record AsScripts (b x y z : ℕ) (c : Call) : Type 0 where
   pub says : (ns : List ℕ) → callOf b ns ≡ some c → take (length ns) (x ∷ y ∷ z ∷ []) ≡ ns → askedBy b x y z ≡ some c
   pub said : askedBy b x y z ≡ some c → (n : ℕ) × (callOf b (take n (x ∷ y ∷ z ∷ [])) ≡ some c)
-
--- ── the calls that only look ──
-
-abbrev pub looks : Account → Bool
-looks (looking s cs res) = true
-looks (opening cs a) = false
-looks (freeing cs a) = false
-looks (placing r x k) = false
-looks marking = false
-looks renewing = false
-
--- of what is asked, a call that only looks
-abbrev pub onlyLooks : Option Call → Option Call
-onlyLooks (some c) = cond (looks (account c)) (some c) none
-onlyLooks none = none

@@ -1,12 +1,12 @@
--- `sogvect_look`: a letter of no call, a call that does more than look, or what `look_at` promises, coded.
+-- `sogvect_look`: a letter of no call, a call that does more than look, or what `look` promises, coded.
 use mathlib.Core.Path.{sym, _∙_, ap}
 use mathlib.Core.Option.{Option}
 use Rattle.model.specs.declared.Call.{Call}
 use Rattle.geometry.specs.declared.Geometry.{Geometry}
 use Rattle.geometry.specs.Limits.{geometryOf}
 use Rattle.model.specs.Memory.{Memory, lent}
-use Rattle.sogvect.specs.Letters.{askedBy, onlyLooks}
-use Rattle.sogvect.specs.Looks.{lookCall, seenCall}
+use Rattle.engine.specs.Looks.{lookCall, onlyLooks, seenCall}
+use Rattle.sogvect.specs.Letters.{askedBy}
 use Rattle.sogvect.proofs.Coding.{no-call, called}
 use Rattle.sogvect.proofs.Letters.{is-call, is-none}
 use native.Mathlib.Omega.{arith}
@@ -53,8 +53,8 @@ returns-2 c =
     let asked = is-call _ (asks s) _ (at-asked-by .asked-by .ensures) (at-asked .asked .given .1) in
     no-call (six s) (memory s) (onlyLooks (asks s)) _ (ap onlyLooks asked ∙ (sym (at-look-of .look-of .ensures) ∙ ap seenCall (c .enum-told .given .1)))
 
-look-at-requires : tie.Need-look-at-requires
-look-at-requires c κs = search needs
+look-requires : tie.Need-look-requires
+look-requires c κs = search needs
 
 coded-requires : tie.Need-coded-requires
 coded-requires c κs = search needs
@@ -64,8 +64,8 @@ same-length c = search needs
 
 returns-3 : tie.Need-returns-3
 returns-3 c =
-    let at-look-at = c .before .before .before .before in
-    let at-seen = at-look-at .before .before .before in
+    let at-look = c .before .before .before .before in
+    let at-seen = at-look .before .before .before in
     let at-look-of = at-seen .before .before in
     let at-asked = at-look-of .before .before in
     let at-asked-by = at-asked .before .before in
@@ -73,7 +73,7 @@ returns-3 c =
     let asked = is-call _ (asks s) _ (at-asked-by .asked-by .ensures) (at-asked .asked .given .1) in
     let seen = sym (at-look-of .look-of .ensures) ∙ ap seenCall (at-seen .seen .given .1) in
     called (six s) (memory s) (lookCall (at-seen .seen .given .0 .0)) _ _ _ _ _ _ _ _
-    (ap onlyLooks asked ∙ seen) (at-look-at .look-at .ensures) (c .coded .ensures)
+    (ap onlyLooks asked ∙ seen) (at-look .look .ensures) (c .coded .ensures)
 
 pub sogvect-look-spec : {M : Type 1} → statement M
 sogvect-look-spec =
@@ -86,7 +86,7 @@ sogvect-look-spec =
     enum-known-seen
     enum-told
     returns-2
-    look-at-requires
+    look-requires
     coded-requires
     same-length
     returns-3)
