@@ -2,5 +2,6 @@
 pub mod Waiting
 pub mod Feeds
 pub mod Answering
-pub mod Running
 pub mod PrintedProof
+pub mod Handing
+pub mod Running

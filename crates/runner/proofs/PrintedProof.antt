@@ -47,7 +47,7 @@ module _ (text : List ℕ) (room n more : ℕ) (here : n + more ≤ length text)
   upto-inside : upto ≤ n + more
   upto-inside = omega (arith, part-inside (take (n + more) text) n (wholeAfter more (n + more)), there)
 
-  turned-is : (p : Part) → turned text room n more p ≡ partsMost upto (take upto text) room p
+  pub turned-is : (p : Part) → turned text room n more p ≡ partsMost upto (take upto text) room p
   unfolding turned
   turned-is p =
       let i = upto-inside in

@@ -1,5 +1,5 @@
--- What the loop over reads keeps: the lengths of the runner's arrays, how much was read, and what a session keeps.
-use mathlib.Core.Path.{_≡_, refl, sym}
+-- What the loop over reads keeps: the lengths of the runner's arrays, how much was read, what a session keeps, and what the turns so far leave.
+use mathlib.Core.Path.{_≡_, refl, sym, ap}
 use mathlib.Core.Bool.{Bool, true, false, not, cond, _||_, true≢false}
 use mathlib.Core.List.{List}
 use Prim.Native.Nat.{ℕ, zero, suc, _+_, _-_, _≤_, _<_}
@@ -11,9 +11,11 @@ use Rattle.geometry.specs.Limits.{mostTables, mostLog, mostOut}
 use Rattle.session.specs.declared.Session.{Session}
 use Rattle.ledger.specs.Transcript.{mostRead}
 use Rattle.runner.specs.Turn.{wholeAfter}
-use Rattle.session.specs.Step.{Kept}
+use Rattle.model.specs.Memory.{lent}
+use Rattle.session.specs.Step.{noStore, Kept}
+use Rattle.runner.proofs.Handing.{Handed, handed-first}
 
-pub record Running (s : Session) (t log out replies text : List ℕ) (n : ℕ) : Type 0 where
+pub record Running (s : Session) (t log out replies text : List ℕ) (n at : ℕ) : Type 0 where
   pub tables : length t ≡ mostTables
   pub words : length log ≡ mostLog
   pub numbers : length out ≡ mostOut
@@ -21,15 +23,17 @@ pub record Running (s : Session) (t log out replies text : List ℕ) (n : ℕ) :
   pub script : length text ≡ mostRead
   pub read : n ≤ mostRead
   pub kept : Kept s t log out
+  pub handed : Handed text 65536 n at s (lent t log out)
 
 -- a part of a part is inside the whole
 pub within : (k n : ℕ) (l : List ℕ) → k ≤ length (take n l) → n ≤ length l → k ≤ length l
 within k n l h i = omega (arith, length-take-le n l i)
 
 -- before the first read
-pub running : (s : Session) → s .made ≡ 0 →
-    Running s (replicate mostTables 0) (replicate mostLog 0) (replicate mostOut 0) (replicate 65536 0) (replicate mostRead 0) 0
-running s e =
+pub running : (s : Session) → s ≡ noStore →
+    Running s (replicate mostTables 0) (replicate mostLog 0) (replicate mostOut 0) (replicate 65536 0) (replicate mostRead 0) 0 0
+running s q =
+    let e : s .made ≡ 0 = ap (λ (k : Session). k .made) q in
     let t = length-replicate {A = ℕ} mostTables 0 in
     let l = length-replicate {A = ℕ} mostLog 0 in
     let o = length-replicate {A = ℕ} mostOut 0 in
@@ -47,6 +51,7 @@ running s e =
         inside = λ m. absurd (let z : ⊥ = omega arith in z);
         sound = λ m. absurd (let z : ⊥ = omega arith in z);
       };
+      handed = handed-first (replicate mostRead 0) 65536 s q;
     }
 
 -- a script that is not whole got at least a byte

@@ -1,9 +1,15 @@
--- `main`: the session is kept from read to read, and each turn reads at least a byte or is the last.
-use mathlib.Core.Path.{sym, ap, _∙_}
-use mathlib.Core.Bool.{cond}
+-- `main`: the run stands where the turns of the reads so far leave it, and each turn reads at least a byte or is the last.
+use mathlib.Core.Path.{_≡_, sym, subst, _∙_}
+use mathlib.Core.Bool.{false, cond}
+use lib.IntN.{ℤ, pos}
+use lib.Signed.{ltZ}
+use mir.Syntax.{w32}
+use mir.Val.{SFits}
+use mir.Facts.{toZ-ofZ}
+use Rattle.runner.specs.Turn.{failed}
 use Prim.Native.Nat.{_+_, _-_}
 use lib.Seq.{length-take-le}
-use Rattle.session.specs.declared.Session.{Session}
+use Rattle.runner.proofs.Handing.{handed-on}
 use Rattle.ledger.specs.Transcript.{mostRead}
 use Rattle.runner.proofs.Running.{Running, running, within, turn-less}
 use borrow.Author.Needs.{needs}
@@ -12,7 +18,8 @@ use Rattle.runner.proofs.main.Statement.{statement}
 use Rattle.runner.proofs.main.Tie as tie
 
 abbrev Inv-loop : tie.InvT-loop
-Inv-loop t₀ log₀ out₀ replies₀ text₀ session₀ from₀ to₀ n₀ at₀ whole₀ t log out replies text session from to n at whole = Running session t log out replies text n
+Inv-loop t₀ log₀ out₀ replies₀ text₀ session₀ from₀ to₀ n₀ at₀ whole₀ t log out replies text session from to n at whole =
+    Running session t log out replies text n at
 
 abbrev μ-loop : tie.MeasureT-loop
 μ-loop t₀ log₀ out₀ replies₀ text₀ session₀ from₀ to₀ n₀ at₀ whole₀ t log out replies text session from to n at whole = cond whole 0 1 + (mostRead - n)
@@ -21,7 +28,7 @@ start-requires : tie.Need-start-requires Inv-loop μ-loop
 start-requires c κs = search needs
 
 loop-holds : tie.Need-loop-holds Inv-loop μ-loop
-loop-holds c = running _ (ap (λ (s : Session). s .made) (c .start .ensures))
+loop-holds c = running _ (c .start .ensures)
 
 slice-aggregate-read-more : tie.Need-slice-aggregate-read-more Inv-loop μ-loop
 slice-aggregate-read-more c = search needs
@@ -81,9 +88,14 @@ loop-less c =
 
 loop-again : tie.Need-loop-again Inv-loop μ-loop
 loop-again c =
-    let a = c .before .before .before .before .before .before .before .answer in
-    let m = c .before .before .before .before .before .before .before .before .before .before .before .before .before .before .before .before .before .before .before .read-more in
-    let l = c .before .before .before .before .before .before .before .before .before .before .before .before .before .before .before .before .before .before .before .before .before .before .loop .inv in
+    let at-answer = c .before .before .before .before .before .before .before in
+    let at-end = at-answer .before .before .before .before .before .before in
+    let at-read = at-end .before .before .before .before .before .before in
+    let a = at-answer .answer in
+    let fits : SFits w32 (a .result .fd) = search (needs, c .before .struct-told2 .given) in
+    let well : failed (a .result) ≡ false = subst (λ (z : ℤ). ltZ z (pos 0) ≡ false) (toZ-ofZ fits) (c .if2 .left) in
+    let m = at-read .read-more in
+    let l = at-read .before .before .before .loop .inv in
     record {
       tables = a .kept .1 .1 .1 .1 .0 ∙ l .tables;
       words = a .kept .1 .1 .1 .1 .1 .0 ∙ l .words;
@@ -92,6 +104,9 @@ loop-again c =
       script = m .kept .1 .0 ∙ l .script;
       read = omega (arith, m .ensures .0, l .script);
       kept = a .ensures .kept;
+      handed =
+          handed-on _ _ 65536 _ _ _ _ _ _ _ _ (a .result) _ _ (l .handed) (m .ensures .1) (omega (arith, m .ensures .0, m .kept .1 .0))
+          (at-end .before .before .is-whole .ensures) (at-end .part-end .ensures .0) (a .ensures) well (l .buffer);
     }
 
 returns-3 : tie.Need-returns-3 Inv-loop μ-loop
