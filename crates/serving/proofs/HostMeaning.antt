@@ -12,7 +12,7 @@ use Rattle.answer.specs.Reply.{Reply, accepted, refused}
 use Rattle.answer.specs.Refusal.{Condition, leaves}
 use Rattle.answer.proofs.Decided.{accepted-same}
 use Rattle.geometry.specs.declared.Geometry.{Geometry}
-use Rattle.geometry.specs.Limits.{Inside}
+use Rattle.geometry.specs.Limits.{Inside, mostTables, mostLog, mostOut}
 use Rattle.log.specs.Word.{writeAt}
 use Rattle.model.specs.Memory.{sound?}
 use Rattle.ledger.proofs.Exactly.{Means, less, either-of, both-of, outside, apart, not-accepted, here, later}
@@ -39,9 +39,9 @@ unfolding lentShort
 is-short H =
     let m =
     either-of (less (length (H .run)) 7)
-    (either-of (less (length (H .memory .tables)) 43008)
-    (either-of (less (length (H .memory .log)) 65536)
-    (either-of (less (length (H .memory .out)) 4160) (less (length (H .replies)) longest)))) in
+    (either-of (less (length (H .memory .tables)) mostTables)
+    (either-of (less (length (H .memory .log)) mostLog)
+    (either-of (less (length (H .memory .out)) mostOut) (less (length (H .replies)) longest)))) in
     record {
       says = m .says;
       denies = record {

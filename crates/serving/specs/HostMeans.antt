@@ -6,8 +6,9 @@ use Prim.Native.Nat.{ℕ, _≤_, _<_}
 use lib.ListN.{length, getD}
 use Rattle.answer.specs.Reply.{accepted, refused}
 use Rattle.geometry.specs.declared.Geometry.{Geometry}
-use Rattle.geometry.specs.Limits.{Inside, geometryOf}
+use Rattle.geometry.specs.Limits.{Inside, geometryOf, mostTables, mostLog, mostOut}
 use Rattle.model.specs.SoundStore.{SoundStore}
+use Rattle.serving.specs.Part.{longest}
 use Rattle.serving.specs.Host.{Lent, hostPart, hostReply, hostLeft}
 
 -- "seven numbers that say whether a store was made (0 at first) and its six numbers" (10.7)
@@ -20,16 +21,16 @@ six H = let n = getD (H .run) in geometryOf (n 1 0) (n 2 0) (n 3 0) (n 4 0) (n 5
 -- "enough for every geometry (43,008 numbers, 65,536 bytes, 4,160 numbers), and a buffer of at least 49,168 bytes for replies" (10.7)
 pub record AllLent (H : Lent) : Type 0 where
   pub run : 7 ≤ length (H .run)
-  pub tables : 43008 ≤ length (H .memory .tables)
-  pub log : 65536 ≤ length (H .memory .log)
-  pub out : 4160 ≤ length (H .memory .out)
-  pub replies : 49168 ≤ length (H .replies)
+  pub tables : mostTables ≤ length (H .memory .tables)
+  pub log : mostLog ≤ length (H .memory .log)
+  pub out : mostOut ≤ length (H .memory .out)
+  pub replies : longest ≤ length (H .replies)
 
 abbrev pub SomeShort : Lent → Type 0
 SomeShort H =
     (length (H .run) < 7) ⊎
-    ((length (H .memory .tables) < 43008) ⊎
-    ((length (H .memory .log) < 65536) ⊎ ((length (H .memory .out) < 4160) ⊎ (length (H .replies) < 49168))))
+    ((length (H .memory .tables) < mostTables) ⊎
+    ((length (H .memory .log) < mostLog) ⊎ ((length (H .memory .out) < mostOut) ⊎ (length (H .replies) < longest))))
 
 abbrev pub SoundLent : Lent → Type 0
 SoundLent H = SoundStore (six H) (H .memory .tables) (H .memory .log)
