@@ -18,7 +18,7 @@ refused-same e = cc
 pub accepted-same : {l m : List ℕ} → accepted l ≡ accepted m → l ≡ m
 accepted-same e = cc
 
--- behind the place of n none comes earlier than n
+-- after the place of n none comes earlier than n
 pub above : (m n : ℕ) → place n ≤ m → (cs : List Condition) → Ordered m cs → NoneBefore n cs
 above m n h [] r = tt
 above m n h (c ∷ cs) r = (λ k. absurd (let z : ⊥ = omega (arith, r .0) in z), above (place (c .0)) n (omega (arith, r .0)) cs (r .1))

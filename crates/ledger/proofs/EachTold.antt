@@ -45,7 +45,7 @@ Words c = (g : Geometry) (L : Ledger) (T : State) → Inside g → Fine g T → 
 abbrev pub Spells : Call → Type 0
 Spells c = (g : Geometry) (L : Ledger) → itemsOf (spelling c) (numbersOf (account g L c .result)) ≡ account g L c .result
 
--- all that it may be turned away for stands in the order of the refusals, behind 4
+-- all that it may be turned away for stands in the order of the refusals, after 4
 abbrev pub InOrder : Call → Type 0
 InOrder c = (g : Geometry) (L : Ledger) → Ordered 4 (refusalsOf g L c)
 
@@ -54,7 +54,7 @@ pub record Told (c : Call) : Type 0 where
   pub answered : Answered c
   pub keeping : Keeping c
   pub words : Words c
-  -- they go behind the log, those of C to its start
+  -- they go after the log, those of C to its start
   pub log : (g : Geometry) (L : Ledger) → account g L c .leaving .log ≡ cond (isC c) [] (L .log)
   pub items : Spells c
   -- the book is told the block that a W gave, and reads it for no other call

@@ -19,7 +19,7 @@ use Rattle.model.proofs.BookFacts.{blockFor, erase-paged, delete-gone}
 use Rattle.model.proofs.BirthStays.{Gives}
 use Rattle.model.proofs.Moves.{gifts}
 
--- ── conditions, one list behind another ──
+-- ── conditions, one list after another ──
 
 -- the refusals that an account names itself; its kind may add some after them
 abbrev pub ownRefusals : Geometry → State → Account → List Condition
@@ -43,7 +43,7 @@ pub decide-right : (l m : List Condition) (given : List ℕ) → NoneHolds l →
 decide-right [] m given n = refl
 decide-right (c ∷ l) m given n = rw (n .0) (decide-right l m given (n .1))
 
--- the conditions stand in the order of the refusals, each behind the place m and before the place t
+-- the conditions stand in the order of the refusals, each after the place m and before the place t
 abbrev pub Between : ℕ → ℕ → List Condition → Type 0
 Between m t [] = m < t
 Between m t (c ∷ cs) = (m < place (c .0)) × Between (place (c .0)) t cs
@@ -60,7 +60,7 @@ lower : (m k : ℕ) (l : List Condition) → k < m → Ordered m l → Ordered k
 lower m k [] h o = tt
 lower m k (c ∷ l) h o = (omega (arith, o .0, h), o .1)
 
--- some behind them, whose places are from the place t on
+-- some after them, whose places are from the place t on
 pub between-append : (t s m : ℕ) (l n : List Condition) → t ≡ suc s → Between m t l → Ordered s n → Ordered m (l ++ n)
 between-append t s m [] n e b o =
     cases (same? m s) (λ d. subst (λ k. Ordered k n) (sym d) o) (λ d. lower s m n (omega (arith, d)) o)
@@ -72,7 +72,7 @@ between-not t m n [] e b h = h
 between-not t m n (c ∷ l) e b h =
     cases h (λ w. omega (arith, between-less t (place (c .0)) l (b .1), ap place (w .0))) (between-not t (place (c .0)) n l e (b .1))
 
--- a condition of number n that holds in one list behind another, where none of the first is of that number
+-- a condition of number n that holds in one list after another, where none of the first is of that number
 pub holds-right : (n : ℕ) (l m : List Condition) → (Holds n l → ⊥) → Holds n (l ++ m) → Holds n m
 holds-right n [] m k h = h
 holds-right n (c ∷ l) m k h = cases h (λ w. absurd (k (inl w))) (holds-right n l m (λ i. k (inr i)))

@@ -254,9 +254,10 @@ module _ {g : Geometry} {t : List ℕ} (R : Ready g t) (n x k s a o c w : ℕ)
   pub write-fits : suc (length (freesOf g t s w)) ≤ g .words - getD t 9 0
   unfolding stateOf
   write-fits =
+      let room = none-at (conditions g (stateOf g t) (Write n x k)) (J .0) 14 in
       omega (
         arith,
-        ltb-false (g .words - stateOf g t .used) (length (written g (stateOf g t) (Write n x k))) (none-at (conditions g (stateOf g t) (Write n x k)) (J .0) 14),
+        ltb-false (g .words - stateOf g t .used) (length (written g (stateOf g t) (Write n x k))) room,
         length-map (freesOf g t (slot (stateOf g t) n) x) released,
         ap length frees-same,
       )

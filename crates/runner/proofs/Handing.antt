@@ -50,11 +50,13 @@ handed-first text room s e = record {
 }
 
 -- a turn looks at the bytes read so far alone
-turned-front : (text text′ : List ℕ) (room n more : ℕ) (p : Part) → take (n + more) text ≡ take (n + more) text′ → turned text room n more p ≡ turned text′ room n more p
+turned-front : (text text′ : List ℕ) (room n more : ℕ) (p : Part) → take (n + more) text ≡ take (n + more) text′ →
+    turned text room n more p ≡ turned text′ room n more p
 unfolding turned
 turned-front text text′ room n more p e = ap (λ (l : List ℕ). partsMost (length (answered l n)) (answered l n) room p) e
 
-ran-front : (text text′ : List ℕ) (room : ℕ) (reads : List ℕ) (p : Part) → take (total reads) text ≡ take (total reads) text′ → ran text room reads p ≡ ran text′ room reads p
+ran-front : (text text′ : List ℕ) (room : ℕ) (reads : List ℕ) (p : Part) → take (total reads) text ≡ take (total reads) text′ →
+    ran text room reads p ≡ ran text′ room reads p
 ran-front text text′ room [] p e = refl
 ran-front text text′ room (more ∷ before) p e =
     let n : ℕ = total before in

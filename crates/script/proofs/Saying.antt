@@ -36,7 +36,7 @@ some-same p = cc
 none-not : {a : List ℕ} → none ≡ some a → ⊥
 none-not p = let z : _≡_ {A = ℕ} 0 1 = cc in omega arith
 
--- that the line from a position on is small numbers, and ns are those behind others
+-- that the line from a position on is small numbers, and ns are those after others
 Told : List ℕ → ℕ → List ℕ → List ℕ → Type 0
 Told line at bs ns = (ms : List ℕ) × (ns ≡ bs ++ ms) × (drop at line ≡ spaced ms) × AllSmall ms
 

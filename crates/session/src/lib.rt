@@ -92,7 +92,8 @@ fn call_line(
     hints: &mut [u8; 1024],
 ) -> Stepped
     requires { ⌜ Kept s (now t) (now log) (now out) ⌝ }
-    ensures line { λ r. ⌜ Stepping s (lent (now (t .entry)) (now (log .entry)) (now (out .entry))) (Asks c) r (lent (now (t .exit)) (now (log .exit)) (now (out .exit))) ⌝ }
+    ensures line { λ r. ⌜ Stepping s (lent (now (t .entry)) (now (log .entry)) (now (out .entry))) (Asks c) r
+        (lent (now (t .exit)) (now (log .exit)) (now (out .exit))) ⌝ }
     ensures hints { λ r. ⌜ now (hints .exit) ≡ stepHints s (now (t .entry)) (Asks c) (now (hints .entry)) ⌝ }
 {
     if s.made == 0 {

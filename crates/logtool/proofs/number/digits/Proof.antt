@@ -48,7 +48,8 @@ sub-value c = search needs
 add-value : tie.Need-add-value Inv-loop μ-loop
 add-value c =
     let at-loop = c .before .before .before .before .before .before in
-    omega (arith, value-small _ _ _ (at-loop .loop .inv) (c .before .before .before .before .before .loop-test .taken) (at-loop .before .pre), c .before .if2 .left)
+    let test = c .before .before .before .before .before .loop-test .taken in
+    omega (arith, value-small _ _ _ (at-loop .loop .inv) test (at-loop .before .pre), c .before .if2 .left)
 
 add-i : tie.Need-add-i Inv-loop μ-loop
 add-i c = search needs
@@ -59,7 +60,8 @@ loop-less c = search needs
 loop-again : tie.Need-loop-again Inv-loop μ-loop
 loop-again c =
     let at-loop = c .before .before .before .before .before .before in
-    goes-on _ _ _ (at-loop .loop .inv) (c .before .before .before .before .before .loop-test .taken) (c .before .before .before .if1 .left) (c .before .if2 .left)
+    let test = c .before .before .before .before .before .loop-test .taken in
+    goes-on _ _ _ (at-loop .loop .inv) test (c .before .before .before .if1 .left) (c .before .if2 .left)
 
 returns-3 : tie.Need-returns-3 Inv-loop μ-loop
 returns-3 c = at-end _ _ _ (c .before .loop .inv) (c .loop-test .left)
