@@ -9,6 +9,7 @@ use answer::Answer;
 use engine::perform;
 use engine::record_of;
 use geometry::Geometry;
+use geometry::Making;
 use model::Call;
 use script::parse::Parsed;
 use script::parse::Six;
@@ -54,13 +55,16 @@ fn store_line(s: Session, x: Six, t: &mut [u32], log: &[u8], out: &[u32]) -> Ste
     requires { ⌜ Kept s (now t) (now log) (now out) ⌝ }
     ensures { λ r. ⌜ Stepping s (lent (now (t .entry)) (now (log .entry)) (now (out .entry))) (Store x) r (lent (now (t .exit)) (now (log .entry)) (now (out .entry))) ⌝ }
 {
-    let g = Geometry {
-        arenas: wide(x.arenas),
-        per: wide(x.per),
-        pages: wide(x.pages),
-        records: wide(x.records),
-        turn: wide(x.turn),
-        words: wide(x.words),
+    let made = Geometry::new(
+        wide(x.arenas),
+        wide(x.per),
+        wide(x.pages),
+        wide(x.records),
+        wide(x.turn),
+        wide(x.words),
+    );
+    let Making::Made(g) = made else {
+        return refuse(s, 2);
     };
     let answer = make(
         g.arenas,
