@@ -30,6 +30,13 @@
 //! A whole script of calls as text, replies as text, is served by [`Script`].
 #![warn(missing_docs)]
 
+/// Calls a bare function; the six numbers of the geometry come first. It is as unsafe as the function.
+macro_rules! bare {
+    ($function:ident, $g:ident, $($argument:expr),* $(,)?) => {
+        $crate::raw::$function($g.arenas, $g.per, $g.pages, $g.records, $g.turn, $g.words, $($argument),*)
+    };
+}
+
 mod block;
 pub mod raw;
 mod refusal;
@@ -82,13 +89,6 @@ impl Geometry {
     pub const fn out_len(self) -> usize {
         self.blocks().saturating_mul(2).saturating_add(64)
     }
-}
-
-/// Calls a bare function; the six numbers of the geometry come first. It is as unsafe as the function.
-macro_rules! bare {
-    ($function:ident, $g:ident, $($argument:expr),* $(,)?) => {
-        raw::$function($g.arenas, $g.per, $g.pages, $g.records, $g.turn, $g.words, $($argument),*)
-    };
 }
 
 /// Reads a log of any length and gives the blocks that are held at its last barrier, rising, in `out` (at least [`Geometry::out_len`] numbers). A log

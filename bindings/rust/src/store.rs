@@ -1,5 +1,5 @@
 //! A store on lent memory, and its calls.
-use crate::{raw, Block, Call, Geometry, Record, Refusal};
+use crate::{Block, Call, Geometry, Record, Refusal};
 
 /// The memory that a store lives in. Longer memory is taken; what lies beyond the least lengths is never changed.
 ///
@@ -89,22 +89,8 @@ impl<'a> Store<'a> {
     pub fn make(geometry: Geometry, memory: Memory<'a>) -> Result<Store<'a>, Refusal> {
         let (g, m) = (geometry, memory);
         // SAFETY: the pointers and lengths are those of three slices that are lent once; the function writes the first of them alone.
-        let code = unsafe {
-            raw::sogvect_make(
-                g.arenas,
-                g.per,
-                g.pages,
-                g.records,
-                g.turn,
-                g.words,
-                m.tables.as_mut_ptr(),
-                m.tables.len(),
-                m.log.as_ptr(),
-                m.log.len(),
-                m.out.as_ptr(),
-                m.out.len(),
-            )
-        };
+        let code =
+            unsafe { bare!(sogvect_make, g, m.tables.as_mut_ptr(), m.tables.len(), m.log.as_ptr(), m.log.len(), m.out.as_ptr(), m.out.len(),) };
         Refusal::check(code).map(|()| Store { geometry: g, memory: m })
     }
 
@@ -130,13 +116,9 @@ impl<'a> Store<'a> {
         // SAFETY: the pointers and lengths are those of three exclusive slices, and of a local for the count, so each is valid and none overlaps another.
         // The function asks for nothing else: it is proved to stay inside the lengths whatever the numbers and the content are.
         let code = unsafe {
-            raw::sogvect_call(
-                g.arenas,
-                g.per,
-                g.pages,
-                g.records,
-                g.turn,
-                g.words,
+            bare!(
+                sogvect_call,
+                g,
                 m.tables.as_mut_ptr(),
                 m.tables.len(),
                 m.log.as_mut_ptr(),
@@ -165,13 +147,9 @@ impl<'a> Store<'a> {
         let mut count: usize = 0;
         // SAFETY: the pointers and lengths are those of two shared slices, of an exclusive one, and of a local for the count.
         let code = unsafe {
-            raw::sogvect_look(
-                g.arenas,
-                g.per,
-                g.pages,
-                g.records,
-                g.turn,
-                g.words,
+            bare!(
+                sogvect_look,
+                g,
                 tables.as_ptr(),
                 tables.len(),
                 log.as_ptr(),
