@@ -15,7 +15,7 @@ use Rattle.model.specs.Calls.{result, written, effect}
 use Rattle.model.specs.Layout.{stateOf, stored}
 use Rattle.model.specs.Memory.{writtenAt}
 use Rattle.model.proofs.Restored.{stored-state}
-use Rattle.tables.specs.Ready.{Ready, LinkOf, recordOf}
+use Rattle.tables.specs.Ready.{Ready, OutLong, LogLong, LinkOf, recordOf}
 use Rattle.tables.specs.Outcome.{replied, tablesLeft, logLeft, outLeft}
 
 -- whatever the reply
@@ -58,3 +58,26 @@ its-link g t {d = d} e link = found-link g t d link (ap recordOf e)
 pub of-call : (g : Geometry) (t log out : List ℕ) {c d : Call} → c ≡ d → (r : Answer) (t′ log′ out′ : List ℕ) →
     Performed r t′ log′ out′ g t log out d → Performed r t′ log′ out′ g t log out c
 of-call g t log out e r t′ log′ out′ p = subst (Performed r t′ log′ out′ g t log out) (sym e) p
+
+-- of a copy of the geometry: what a call asks, and its promises
+abbrev pub AskedOf : List ℕ → List ℕ → List ℕ → ℕ → ℕ → Geometry → Type 0
+AskedOf t log out n link g = Ready g t × LogLong g log × OutLong g out × LinkOf g t n link
+
+pub copy-asked : {h g : Geometry} → h ≡ g → (t log out : List ℕ) (n link : ℕ) → AskedOf t log out n link g → AskedOf t log out n link h
+copy-asked e t log out n link = subst (AskedOf t log out n link) (sym e)
+
+abbrev pub LookedAt : List ℕ → List ℕ → ℕ → ℕ → Geometry → Type 0
+LookedAt t out n link g = Ready g t × OutLong g out × LinkOf g t n link
+
+pub copy-looked : {h g : Geometry} → h ≡ g → (t out : List ℕ) (n link : ℕ) → LookedAt t out n link g → LookedAt t out n link h
+copy-looked e t out n link = subst (LookedAt t out n link) (sym e)
+
+pub copy-performed : {h g : Geometry} → h ≡ g → (r : Answer) (t′ log′ out′ t log out : List ℕ) (c : Call) →
+    Performed r t′ log′ out′ h t log out c → Performed r t′ log′ out′ g t log out c
+copy-performed e r t′ log′ out′ t log out c = subst (λ k. Performed r t′ log′ out′ k t log out c) e
+
+abbrev pub Answers : Answer → List ℕ → List ℕ → List ℕ → Call → Geometry → Type 0
+Answers r out′ t out c g = (replyOf r out′ ≡ replied g t c) × (out′ ≡ outLeft g t out c)
+
+pub copy-answers : {h g : Geometry} → h ≡ g → (r : Answer) (out′ t out : List ℕ) (c : Call) → Answers r out′ t out c h → Answers r out′ t out c g
+copy-answers e r out′ t out c = subst (Answers r out′ t out c) e

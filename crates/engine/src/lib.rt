@@ -10,6 +10,7 @@ use answer::Answer;
 use deleting::delete::delete;
 use deleting::estimate::estimate;
 use geometry::Geometry;
+use geometry::copied;
 use lines::begin;
 use lines::fork;
 use lines::seal;
@@ -62,12 +63,12 @@ pub fn perform(
         Call::Erase(n, page) => erase(g, t, log, out, n, link, page),
         Call::Seal(n) => seal(g, t, out, n, link),
         Call::Fork(n) => fork(g, t, out, n, link),
-        Call::Delete(n) => delete(g, t, log, out, n, link),
+        Call::Delete(n) => delete(copied(g), t, log, out, n, link),
         Call::Read(n, page) => read(g, t, out, n, link, page),
         Call::Barrier => barrier(g, t, log),
         Call::Compress => compress_log(g, t, log, out),
         Call::FreeList => free_list(g, t, out),
-        Call::Estimate(n) => estimate(g, t, out, n, link),
+        Call::Estimate(n) => estimate(copied(g), t, out, n, link),
     }
 }
 

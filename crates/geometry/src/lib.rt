@@ -116,3 +116,18 @@ impl Geometry {
         })
     }
 }
+
+// A geometry with the same numbers. What is handed to a function that stands apart has to be in memory: the call of such a function makes its own copy, so
+// that the six numbers are not written there for every call of a script.
+pub fn copied(g: Geometry) -> Geometry
+    ensures { λ r. ⌜ r ≡ g ⌝ }
+{
+    Geometry {
+        arenas: g.arenas,
+        per: g.per,
+        pages: g.pages,
+        records: g.records,
+        turn: g.turn,
+        words: g.words,
+    }
+}

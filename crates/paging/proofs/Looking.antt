@@ -1,5 +1,5 @@
 -- The record that a call names, and R: what stands on a page, with its birth.
-use mathlib.Core.Path.{_≡_, refl, sym, ap, _∙_}
+use mathlib.Core.Path.{_≡_, refl, sym, ap, _∙_, subst}
 use mathlib.Core.Bool.{Bool, true, false, cond, true≢false, false≢true}
 use mathlib.Core.List.{List, [], _∷_}
 use Prim.Native.Nat.{ℕ, suc, pred, _-_, _≤_, _<_}
@@ -36,6 +36,17 @@ ready-fine R = record { sound = R .sound; slots = refl; pages = refl; blocks = r
 pub used-le : {g : Geometry} {t : List ℕ} → Ready g t → getD t 9 0 ≤ g .words
 unfolding stateOf
 used-le R = R .range .used
+
+-- of a copy of the geometry: what `frees_on` asks and gives
+abbrev AskedOf : Geometry → List ℕ → ℕ → ℕ → Type 0
+AskedOf g t s x = Ready g t × (s < g .records) × (0 < viewOf g t .num s) × (x < g .pages)
+
+pub copy-asked : {h g : Geometry} → h ≡ g → (t : List ℕ) (s x : ℕ) → AskedOf g t s x → AskedOf h t s x
+copy-asked e t s x = subst (λ k. AskedOf k t s x) (sym e)
+
+pub copy-frees : {h g : Geometry} → h ≡ g → (t : List ℕ) (s x f : ℕ) → f ≡ length (erased (viewOf h t) s (viewOf h t .page s x)) →
+    f ≡ length (erased (viewOf g t) s (viewOf g t .page s x))
+copy-frees e t s x f = subst (λ k. f ≡ length (erased (viewOf k t) s (viewOf k t .page s x))) e
 
 -- a test that passes, and one that does not
 pub cond-here : {A : Type 0} (b : Bool) (x y : A) → b ≡ true → cond b x y ≡ x

@@ -20,6 +20,7 @@ use crate::kill::kill_on;
 use crate::words::log_one;
 use answer::Answer;
 use geometry::Geometry;
+use geometry::copied;
 use tables::cells::OPEN;
 use tables::cells::USED;
 use tables::find::wide;
@@ -49,7 +50,7 @@ fn erase_verdict(t: &[u32], g: Geometry, n: u32, link: usize, page: u32) -> Verd
     if wide(t[USED]) < g.words {
         return Verdict::Accept(s);
     }
-    if 0 < frees_on(t, g, s, wide(page)) {
+    if 0 < frees_on(t, copied(g), s, wide(page)) {
         return Verdict::Refused(14);
     }
     Verdict::Accept(s)

@@ -25,6 +25,7 @@ use crate::words::log_one;
 use crate::words::log_two;
 use answer::Answer;
 use geometry::Geometry;
+use geometry::copied;
 use tables::cells::OPEN;
 use tables::cells::USED;
 use tables::find::wide;
@@ -62,7 +63,7 @@ fn write_verdict(t: &[u32], g: Geometry, n: u32, link: usize, page: u32, kind: u
     if 1 < unused {
         return Verdict::Accept(s, a, o, birth);
     }
-    if unused < 1 + frees_on(t, g, s, wide(page)) {
+    if unused < 1 + frees_on(t, copied(g), s, wide(page)) {
         return Verdict::Refused(14);
     }
     Verdict::Accept(s, a, o, birth)

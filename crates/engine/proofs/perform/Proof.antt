@@ -1,6 +1,6 @@
 -- `perform`: each arm is one call; what it is not lent stays.
 use mathlib.Core.Path.{refl}
-use Rattle.engine.proofs.Untouched.{log-stays, out-stays, tables-stay, its-link, of-call}
+use Rattle.engine.proofs.Untouched.{log-stays, out-stays, tables-stay, its-link, of-call, copy-asked, copy-looked, copy-performed, copy-answers}
 use native.Mathlib.Omega.{arith}
 use borrow.Author.Needs.{needs}
 use Rattle.engine.proofs.perform.Statement.{statement}
@@ -47,10 +47,16 @@ fork-requires c κs =
 enum-known-c-5 : tie.Need-enum-known-c-5
 enum-known-c-5 c = search needs
 
+copied-requires : tie.Need-copied-requires
+copied-requires c κs = search needs
+
 delete-requires : tie.Need-delete-requires
 delete-requires c κs =
-    let s = c .before .before .before .before .before .before .before .before .before in
-    (s .pre .0, s .pre .1, s .pre .2, its-link (s .args .g) (s .args .t .now) (c .before .before .before .before .c5 .given .1) (s .args .link) (s .pre .3))
+    let at-copied = c .before .before .before in
+    let at-c5 = at-copied .before .before in
+    let s = at-c5 .before .before .before .before .before in
+    copy-asked (at-copied .copied .ensures) (s .args .t .now) (s .args .log .now) (s .args .out .now) _ (s .args .link)
+    (s .pre .0, s .pre .1, s .pre .2, its-link (s .args .g) (s .args .t .now) (at-c5 .c5 .given .1) (s .args .link) (s .pre .3))
 
 enum-known-c-6 : tie.Need-enum-known-c-6
 enum-known-c-6 c = search needs
@@ -81,10 +87,16 @@ free-list-requires c κs = let p = c .before .before .before .before .before .be
 enum-known-c-7 : tie.Need-enum-known-c-7
 enum-known-c-7 c = search needs
 
+copied-requires-2 : tie.Need-copied-requires-2
+copied-requires-2 c κs = search needs
+
 estimate-requires : tie.Need-estimate-requires
 estimate-requires c κs =
-    let s = c .before .before .before .before .before .before .before .before in
-    (s .pre .0, s .pre .2, its-link (s .args .g) (s .args .t .now) (c .before .before .before .c7 .given .1) (s .args .link) (s .pre .3))
+    let at-copied = c .before .before in
+    let at-c7 = at-copied .before .before in
+    let s = at-c7 .before .before .before .before .before in
+    copy-looked (at-copied .copied2 .ensures) (s .args .t .now) (s .args .out .now) _ (s .args .link)
+    (s .pre .0, s .pre .2, its-link (s .args .g) (s .args .t .now) (at-c7 .c7 .given .1) (s .args .link) (s .pre .3))
 
 same-length : tie.Need-same-length
 same-length c = search needs
@@ -173,11 +185,12 @@ same-length-15 c = search needs
 
 returns-6 : tie.Need-returns-6
 returns-6 c =
-    let s = c .before .before .before .before .before .before .before .before .before .before .before .before .before .before .before .before in
-    let a = s .args in
-    let e = c .before .before .before .before .before .before .delete .ensures in
-    of-call (a .g) (a .t .now) (a .log .now) (a .out .now) (c .before .before .before .before .before .before .before .before .before .before .before .c5 .given .1) _ _ _ _
-    e
+    let at-delete = c .before .before .before .before .before .before in
+    let at-copied = at-delete .before .before .before .before in
+    let at-c5 = at-copied .before .before in
+    let a = at-c5 .before .before .before .before .before .args in
+    of-call (a .g) (a .t .now) (a .log .now) (a .out .now) (at-c5 .c5 .given .1) _ _ _ _
+    (copy-performed (at-copied .copied .ensures) _ _ _ _ (a .t .now) (a .log .now) (a .out .now) _ (at-delete .delete .ensures))
 
 same-length-16 : tie.Need-same-length-16
 same-length-16 c = search needs
@@ -246,10 +259,13 @@ same-length-26 c = search needs
 
 returns-11 : tie.Need-returns-11
 returns-11 c =
-    let s = c .before .before .before .before .before .before .before .before .before .before .before in
+    let at-estimate = c .before .before in
+    let at-copied = at-estimate .before .before .before in
+    let at-c7 = at-copied .before .before in
+    let s = at-c7 .before .before .before .before .before in
     let a = s .args in
-    let e = c .before .before .estimate .ensures in
-    of-call (a .g) (a .t .now) (a .log .now) (a .out .now) (c .before .before .before .before .before .before .c7 .given .1) _ _ _ _
+    let e = copy-answers (at-copied .copied2 .ensures) _ _ (a .t .now) (a .out .now) _ (at-estimate .estimate .ensures) in
+    of-call (a .g) (a .t .now) (a .log .now) (a .out .now) (at-c7 .c7 .given .1) _ _ _ _
     (e .0, (tables-stay (a .g) (a .t .now) _ (s .pre .0) refl, (log-stays (a .g) (a .t .now) _ (a .log .now) refl, e .1)))
 
 pub perform-spec : {M : Type 1} → statement M
@@ -267,6 +283,7 @@ perform-spec =
     enum-known-c-4
     fork-requires
     enum-known-c-5
+    copied-requires
     delete-requires
     enum-known-c-6
     read-requires
@@ -277,6 +294,7 @@ perform-spec =
     enum-told-4
     free-list-requires
     enum-known-c-7
+    copied-requires-2
     estimate-requires
     same-length
     same-length-2

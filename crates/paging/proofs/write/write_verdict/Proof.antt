@@ -96,18 +96,22 @@ returns-6 c =
     (at-if3 .if3 .left) (at-if4 .if4 .left) _ (at-search .search .ensures) _ _ _ (at-spot .spot .given .1) _ _ _
     (at-wide2 .wide2 .ensures) refl refl (Erasing.two-enough _ _ _ _ (c .if5 .taken))
 
+copied-requires : tie.Need-copied-requires
+copied-requires c κs = search needs
+
 wide-requires-3 : tie.Need-wide-requires-3
 wide-requires-3 c κs = search needs
 
 frees-on-requires : tie.Need-frees-on-requires
 frees-on-requires c κs =
-    let at-if3 = c .before .before .before .before .before .before .before .before .before .before .before in
+    let at-if3 = c .before .before .before .before .before .before .before .before .before .before .before .before in
     let at-if1 = at-if3 .before .before in
     let at-wide = at-if1 .before .before in
     let start = at-wide .before .before in
     let R = start .pre .0 in
     let k = start .pre .1 in
     let i = at-if3 .if3 .left in
+    Looking.copy-asked (c .before .copied .ensures) _ _ _
     (R, omega (arith, k .1, i), Looking.named-live R _ _ (k .0) i, omega (arith, c .wide3 .ensures, at-wide .wide .ensures, at-if1 .if1 .left))
 
 add-if6 : tie.Need-add-if6
@@ -116,7 +120,8 @@ add-if6 c = omega (arith, Erasing.few-freed _ _ _ _ (c .frees-on .ensures))
 returns-7 : tie.Need-returns-7
 returns-7 c =
     let at-wide3 = c .before .before in
-    let at-wide2 = at-wide3 .before .before .before in
+    let at-copied = at-wide3 .before in
+    let at-wide2 = at-copied .before .before .before in
     let at-spot = at-wide2 .before .before .before in
     let at-search = at-spot .before .before in
     let at-if4 = at-search .before in
@@ -127,12 +132,14 @@ returns-7 c =
     let start = at-wide .before .before in
     Giving.write-14 _ _ _ _ _ _ (at-wide .wide .ensures) (at-if1 .if1 .left) (at-if2 .if2 .left) _ (start .pre .1 .0) (start .pre .0)
     (at-if3 .if3 .left) (at-if4 .if4 .left) _ (at-search .search .ensures) _ _ _ (at-spot .spot .given .1) _ _ _
-    (at-wide2 .wide2 .ensures) (at-wide3 .wide3 .ensures) (c .before .frees-on .ensures) (c .if6 .taken)
+    (at-wide2 .wide2 .ensures) (at-wide3 .wide3 .ensures)
+    (Looking.copy-frees (at-copied .copied .ensures) _ _ _ _ (c .before .frees-on .ensures)) (c .if6 .taken)
 
 returns-8 : tie.Need-returns-8
 returns-8 c =
     let at-wide3 = c .before .before in
-    let at-wide2 = at-wide3 .before .before .before in
+    let at-copied = at-wide3 .before in
+    let at-wide2 = at-copied .before .before .before in
     let at-spot = at-wide2 .before .before .before in
     let at-search = at-spot .before .before in
     let at-if4 = at-search .before in
@@ -143,7 +150,8 @@ returns-8 c =
     let start = at-wide .before .before in
     Giving.write-accepts _ _ _ _ _ _ (at-wide .wide .ensures) (at-if1 .if1 .left) (at-if2 .if2 .left) _ (start .pre .1 .0) (start .pre .0)
     (at-if3 .if3 .left) (at-if4 .if4 .left) _ (at-search .search .ensures) _ _ _ (at-spot .spot .given .1) _ _ _
-    (at-wide2 .wide2 .ensures) (at-wide3 .wide3 .ensures) (c .before .frees-on .ensures) (c .if6 .left)
+    (at-wide2 .wide2 .ensures) (at-wide3 .wide3 .ensures)
+    (Looking.copy-frees (at-copied .copied .ensures) _ _ _ _ (c .before .frees-on .ensures)) (c .if6 .left)
 
 pub write-verdict-spec : {M : Type 1} → statement M
 write-verdict-spec =
@@ -166,6 +174,7 @@ write-verdict-spec =
     wide-requires-2
     sub-unused
     returns-6
+    copied-requires
     wide-requires-3
     frees-on-requires
     add-if6
