@@ -9,6 +9,7 @@ use native.Mathlib.Omega.{arith}
 use lib.Dec.{ltb}
 use lib.ListN.{length, take, drop, getD, length-append, length-drop}
 use lib.Seq.{sets, sets-eq, take-at, drop-at, length-take-le, getD-drop, ext-getD}
+use borrow.Author.Tests.{ltb-true}
 use Rattle.answer.specs.Reply.{Reply, accepted, refused}
 use Rattle.answer.specs.Refusal.{Condition, decide, leaves}
 use Rattle.answer.proofs.Decided.{accepted-not, accepted-same, refused-same}
@@ -26,6 +27,8 @@ use Rattle.log.proofs.EntriesFacts.{reads-iff}
 use Rattle.log.proofs.AlikeFacts.{alike-iff, compressed-alike}
 use Rattle.log.proofs.SettledFacts.{settled-is}
 use Rattle.log.proofs.Tools.{pass-length}
+use Rattle.model.specs.Lists.{below?}
+use Rattle.model.proofs.DoneSound.{and-l, and-r}
 use Rattle.model.proofs.Reflect.{Says, _&_}
 use Rattle.ledger.specs.LogMeans.{Given, Within, Bytes, IsLog, holds, SettledBytes, ReadMeans, CompareMeans, Compacted, CompactMeans, ToolsMean}
 use Rattle.ledger.specs.Ledger.{compressedOf}
@@ -176,6 +179,13 @@ pub front-byte : (l m : List ℕ) → Bytes (l ++ m) → Bytes l
 front-byte [] m k i = omega arith
 front-byte (b ∷ l) m k zero = k zero
 front-byte (b ∷ l) m k (suc i) = front-byte l m (λ n. k (suc n)) i
+
+-- bytes, by the test
+pub is-bytes : (l : List ℕ) → below? 256 l ≡ true → Bytes l
+unfolding below?
+is-bytes [] e i = omega arith
+is-bytes (b ∷ l) e zero = ltb-true b 256 (and-l (ltb b 256) (below? 256 l) e)
+is-bytes (b ∷ l) e (suc i) = is-bytes l (and-r (ltb b 256) (below? 256 l) e) i
 
 settled-bytes : (log : List ℕ) → Bytes log → Bytes (settled log)
 settled-bytes log b = let s = settled-is log in front-byte (settled log) (s .rest) (subst Bytes (s .split) b)

@@ -1,20 +1,20 @@
--- A SOUND MEMORY THAT NO STORE BEGUN FRESH REACHES: six numbers as in `store 1 4 2 4 8 10`; the last number used is 2, slot 0 has the open record 2 with no
--- page; the mark of arena 0 stands at 3, though no word of the log is used, so that no write was ever logged.
+-- TWO SOUND MEMORIES THAT NO STORE BEGUN FRESH REACHES.
 use mathlib.Core.Path.{_≡_, refl}
-use mathlib.Core.Bool.{true}
+use mathlib.Core.Bool.{Bool, true}
 use mathlib.Core.List.{List, [], _∷_, _++_}
 use Prim.Native.Nat.{ℕ}
 use lib.ListN.{replicate}
-use Rattle.geometry.specs.Limits.{within, fits}
+use Rattle.geometry.specs.declared.Geometry.{Geometry}
+use Rattle.geometry.specs.Limits.{Inside, geometryOf, within, fits}
 use Rattle.geometry.proofs.Made.{fits-inside}
 use Rattle.choice.specs.Words.{wordOf}
 use Rattle.log.specs.Word.{words}
-use Rattle.log.specs.Marks.{heldIn}
-use Rattle.log.specs.Read.{readLog, free, ended}
+use Rattle.log.specs.Marks.{markRun, heldIn}
+use Rattle.log.specs.Read.{byCode, firstWord, byProgress, readLog, free, ended}
 use Rattle.log.specs.Tool.{readable, marksOf}
-use Rattle.model.specs.Table.{via, firstLink, all}
+use Rattle.model.specs.Table.{put, via, firstLink, all}
 use Rattle.model.specs.Held.{held, waits, available}
-use Rattle.model.specs.Lists.{elem, below?, rows}
+use Rattle.model.specs.Lists.{elem, below?, rows, onPage}
 use Rattle.model.specs.Check.{imp, once?, takes?, prev?, base?, two?, linked?, like?, fits?, page?}
 use Rattle.model.specs.Check.{ownAt, owns, allOwn, goneAt, gone, list?, slot?, empty?, good?}
 use Rattle.model.specs.Layout.{freeWord, field, numbers, viewOf, stateOf}
@@ -23,6 +23,13 @@ use Rattle.model.specs.SoundStore.{SoundStore}
 use Rattle.model.proofs.SoundTest.{sound-iff}
 use Rattle.ledger.proofs.PaperTable.{small}
 
+-- the test, open
+unfoldable tested : Geometry → List ℕ → List ℕ → Bool
+unfolding wordOf words heldIn readLog firstWord byCode byProgress free ended readable marksOf markRun all held waits available elem below? rows onPage imp once? takes? prev? base? two? linked? like? fits? page? ownAt owns allOwn goneAt gone list? slot? empty? good? freeWord field numbers viewOf stateOf numbers? range? logHolds? waiting? free? sound? put via firstLink Rattle.model.specs.Check.marksOf
+tested g t log = sound? g t log
+
+-- six numbers as in `store 1 4 2 4 8 10`; the last number used is 2, slot 0 has the open record 2 with no page; the mark of arena 0 stands at 3, though no
+-- word of the log is used, so that no write was ever logged
 abbrev pub tables : List ℕ
 tables =
     (1 ∷ 4 ∷ 2 ∷ 4 ∷ 8 ∷ 10 ∷ 2 ∷ replicate 9 0) ++
@@ -32,9 +39,50 @@ abbrev pub log : List ℕ
 log = replicate 80 0
 
 checked : sound? small tables log ≡ true
-unfolding wordOf words heldIn readLog free ended readable marksOf all held waits available elem below? rows imp once? takes? prev? base? two? linked? like? fits? page? ownAt owns allOwn goneAt gone list? slot? empty? good? freeWord field numbers viewOf stateOf numbers? range? logHolds? waiting? free? sound? via firstLink Rattle.model.specs.Check.marksOf
+unfolding tested
 checked = refl
 
 pub sound-there : SoundStore small tables log
 unfolding fits within
 sound-there = sound-iff small (fits-inside small refl) tables log .0 checked
+
+-- `store 2 4 2 4 3 18`, in tables that are longer than needed. Record 3 is sealed, record 5 follows it, record 7 is a fork on it, record 8 is empty;
+-- the last number used is 9. Block 0 waits, though no word of the log frees it
+abbrev pub forked : Geometry
+forked = geometryOf 2 4 2 4 3 18
+
+abbrev pub forked-tables : List ℕ
+forked-tables =
+    -- the counter is 1, two writes of three were made in this turn, three words are used, one block waits; both marks stand at 3
+    (2 ∷ 4 ∷ 2 ∷ 4 ∷ 3 ∷ 18 ∷ 9 ∷ 1 ∷ 2 ∷ 3 ∷ 0 ∷ 1 ∷ replicate 4 0) ++
+    ((3 ∷ 3 ∷ replicate 46 0) ++
+    -- blocks 2, 3, 4 and 7 may be given
+    ((156 ∷ replicate 127 0) ++
+    -- numbers; open or not; the record before; the base; the length of the deadlist
+    ((3 ∷ 5 ∷ 7 ∷ 8 ∷ replicate 60 0) ++
+    ((0 ∷ 1 ∷ 1 ∷ 1 ∷ replicate 60 0) ++
+    ((0 ∷ 1 ∷ 0 ∷ 0 ∷ replicate 60 0) ++
+    ((0 ∷ 0 ∷ 1 ∷ 0 ∷ replicate 60 0) ++
+    ((0 ∷ 1 ∷ 0 ∷ 0 ∷ replicate 1596 0) ++
+    -- pages: blocks 5 and 6 on those of record 3, 5 and 1 on those of record 5, nothing and 6 on those of record 7
+    ((6 ∷ 7 ∷ replicate 254 0) ++
+    ((6 ∷ 2 ∷ replicate 254 0) ++
+    ((0 ∷ 7 ∷ replicate 766 0) ++
+    -- block 6 on the deadlist of record 5; births 5, 3 and 2 of blocks 1, 5 and 6; block 0 waits
+    ((6 ∷ replicate 767 0) ++
+    (0 ∷ 5 ∷ 0 ∷ 0 ∷ 0 ∷ 3 ∷ 2 ∷ replicate 26 0))))))))))))
+
+-- blocks 5, 6 and 1 were allocated; what follows counts for nothing, if anything follows
+abbrev pub forked-words : List ℕ
+forked-words = 0 ∷ 0 ∷ 0 ∷ 0 ∷ 0 ∷ 1 ∷ 64 ∷ 1 ∷ 0 ∷ 0 ∷ 0 ∷ 0 ∷ 0 ∷ 1 ∷ 128 ∷ 1 ∷ 0 ∷ 0 ∷ 0 ∷ 0 ∷ 0 ∷ 0 ∷ 64 ∷ 1 ∷ []
+
+forked-checked : (rest : List ℕ) → sound? forked forked-tables (forked-words ++ rest) ≡ true
+unfolding tested
+forked-checked rest = refl
+
+pub forked-inside : Inside forked
+unfolding fits within
+forked-inside = fits-inside forked refl
+
+pub forked-sound : (rest : List ℕ) → SoundStore forked forked-tables (forked-words ++ rest)
+forked-sound rest = sound-iff forked forked-inside forked-tables (forked-words ++ rest) .0 (forked-checked rest)

@@ -1,21 +1,25 @@
 -- A USE OF EACH READING LAW: on any store that obeys them, what a short script is answered tells what R answers. And the listing's store does answer so.
-use mathlib.Core.Path.{_≡_, refl, ap, _∙_, subst}
+use mathlib.Core.Path.{_≡_, refl, sym, ap, _∙_, subst}
 use mathlib.Core.Logic.{inl, inr}
 use mathlib.Core.List.{List, [], _∷_, map}
 use Prim.Native.Nat.{ℕ, _<_}
 use native.Mathlib.Omega.{arith}
 use Rattle.answer.specs.Reply.{accepted, refused}
 use Rattle.answer.proofs.Cases.{cases}
+use Rattle.geometry.specs.declared.Geometry.{Geometry}
 use Rattle.geometry.specs.Limits.{Inside}
+use Rattle.model.specs.Memory.{Memory, reply, after}
 use Rattle.model.specs.Book.{Some}
 use Rattle.model.specs.History.{Machine, stateFrom, historyFrom}
-use Rattle.model.specs.ReadingLaws.{Shows, Changes, Touches, ReadingLaws}
+use Rattle.model.specs.ReadingLaws.{Shows, Changes, Touches, Opens, ReadingLaws}
+use Rattle.model.specs.Demand.{Request, metBy, machine, Own, withOut, run}
 use Rattle.model.specs.State.{fresh}
 use Rattle.model.specs.Model.{answer, model}
 use Rattle.model.specs.declared.Call.{Call}
 use Rattle.model.specs.declared.Call.the-variants.{Begin, Write, Erase, Seal, Fork, Delete, Read}
 use Rattle.model.proofs.StepFacts.{fresh-fine}
 use Rattle.model.proofs.ReadingFacts.{reading-laws, fine-from}
+use Rattle.model.proofs.ReadingProof.{reading}
 use Rattle.model.proofs.PaperExample.{small, fine, repliesTo}
 
 -- calls none of which changes page x of record r
@@ -191,16 +195,29 @@ module _ (M : Machine) (ask : Call → M .Asked) (asks : (c : Call) → M .call 
         laws (Begin ∷ Write 1 0 0 ∷ Seal 1 ∷ Fork 1 ∷ Erase 2 0 ∷ Write 3 1 0 ∷ []) .gone (ask (Delete 2)) 2 [] (asks (Delete 2)) (H .delete)
         [] (ask (Read 2 0)) 0 l (asks (Read 2 0)) e
 
-    -- rises: its number is not given again, by a B right after the D either
-    pub above-3 : (n : ℕ) (rest : List ℕ) → M .answer (at whole) (ask Begin) ≡ accepted (n ∷ rest) → 3 < n
-    above-3 n rest e =
-        laws (Begin ∷ Write 1 0 0 ∷ Seal 1 ∷ []) .rises (ask (Fork 1)) (ask Begin) 3 n [] rest (map ask (Erase 2 0 ∷ Write 3 1 0 ∷ Delete 2 ∷ []))
-        (inr (inr (1, asks (Fork 1)))) (inl (asks Begin)) (H .fork) e
+    -- rises: whatever opens a record right after the D is given a number above those of the B, the S and the F
+    pub above-3 : (d : Call) (n : ℕ) (rest : List ℕ) → Opens d → M .answer (at whole) (ask d) ≡ accepted (n ∷ rest) → (1 < n) × (2 < n) × (3 < n)
+    above-3 d n rest o e =
+        let opens = subst Opens (sym (asks d)) o in (
+          laws [] .rises (ask Begin) (ask d) 1 n [] rest (map ask (Write 1 0 0 ∷ Seal 1 ∷ Fork 1 ∷ Erase 2 0 ∷ Write 3 1 0 ∷ Delete 2 ∷ []))
+              (inl (asks Begin)) opens (H .begin) e,
+          laws (Begin ∷ Write 1 0 0 ∷ []) .rises (ask (Seal 1)) (ask d) 2 n [] rest (map ask (Fork 1 ∷ Erase 2 0 ∷ Write 3 1 0 ∷ Delete 2 ∷ []))
+              (inr (inl (1, asks (Seal 1)))) opens (H .seal) e,
+          laws (Begin ∷ Write 1 0 0 ∷ Seal 1 ∷ []) .rises (ask (Fork 1)) (ask d) 3 n [] rest (map ask (Erase 2 0 ∷ Write 3 1 0 ∷ Delete 2 ∷ []))
+              (inr (inr (1, asks (Fork 1)))) opens (H .fork) e,
+        )
 
-    -- unread: there was no record 3 before the F
-    pub no-3-yet : (l : List ℕ) → M .answer (at (Begin ∷ Write 1 0 0 ∷ Seal 1 ∷ [])) (ask (Read 3 0)) ≡ accepted l → ⊥
-    no-3-yet l e =
-        laws (Begin ∷ Write 1 0 0 ∷ Seal 1 ∷ []) .unread (ask (Fork 1)) (ask (Read 3 0)) 3 0 [] l (inr (inr (1, asks (Fork 1)))) (H .fork) (asks (Read 3 0)) e
+    -- unread: there was no record 1 before the B, none of number 2 before the S, none of number 3 before the F
+    pub no-1-yet : (x : ℕ) (l : List ℕ) → M .answer (at []) (ask (Read 1 x)) ≡ accepted l → ⊥
+    no-1-yet x l e = laws [] .unread (ask Begin) (ask (Read 1 x)) 1 x [] l (inl (asks Begin)) (H .begin) (asks (Read 1 x)) e
+
+    pub no-2-yet : (x : ℕ) (l : List ℕ) → M .answer (at (Begin ∷ Write 1 0 0 ∷ [])) (ask (Read 2 x)) ≡ accepted l → ⊥
+    no-2-yet x l e =
+        laws (Begin ∷ Write 1 0 0 ∷ []) .unread (ask (Seal 1)) (ask (Read 2 x)) 2 x [] l (inr (inl (1, asks (Seal 1)))) (H .seal) (asks (Read 2 x)) e
+
+    pub no-3-yet : (x : ℕ) (l : List ℕ) → M .answer (at (Begin ∷ Write 1 0 0 ∷ Seal 1 ∷ [])) (ask (Read 3 x)) ≡ accepted l → ⊥
+    no-3-yet x l e =
+        laws (Begin ∷ Write 1 0 0 ∷ Seal 1 ∷ []) .unread (ask (Fork 1)) (ask (Read 3 x)) 3 x [] l (inr (inr (1, asks (Fork 1)))) (H .fork) (asks (Read 3 x)) e
 
 -- ── the listing's store is asked this script, and answers so ──
 
@@ -247,3 +264,17 @@ pub fork-of-the-listing : (l : List ℕ) →
     let cs = Begin ∷ Write 1 0 0 ∷ Seal 1 ∷ Fork 1 ∷ Erase 2 0 ∷ Write 3 1 0 ∷ Delete 2 ∷ [] in
     answer small (stateFrom (model small) (fresh small) (map fine cs)) (fine (Read 3 0)) ≡ accepted l → l ≡ 0 ∷ 1 ∷ []
 fork-of-the-listing = on-3 (model small) fine (λ c. refl) (fresh small) 2 obeys (omega arith) 0 1 listed
+
+-- ── the calls as they are made ──
+
+-- `reading`: on any tables, each call with log bytes and a buffer of its own, a deleted record answers no more
+pub lent-gone : (g : Geometry) (t : List ℕ) (c : Request) (r : ℕ) (l : List ℕ) → c .call ≡ Delete r → reply g (metBy t c) (c .call) ≡ accepted l →
+    (more : List Request) (v : Request) (x : ℕ) (m : List ℕ) → v .call ≡ Read r x →
+    reply g (metBy (stateFrom (machine g) (after g (metBy t c) (c .call) .tables) more) v) (v .call) ≡ accepted m → ⊥
+lent-gone g t c r l = reading g .0 t .gone c r l
+
+-- and on a store that keeps its own log, whatever its tables are
+pub own-gone : (g : Geometry) (M : Memory) (c : Own) (r : ℕ) (l : List ℕ) → c .call ≡ Delete r → reply g (withOut M (c .out)) (c .call) ≡ accepted l →
+    (more : List Own) (v : Own) (x : ℕ) (m : List ℕ) → v .call ≡ Read r x →
+    reply g (withOut (run g (after g (withOut M (c .out)) (c .call)) more) (v .out)) (v .call) ≡ accepted m → ⊥
+own-gone g M c r l = reading g .1 M .gone c r l

@@ -516,11 +516,16 @@ pub then-never-4 : (g : Geometry) (M : Memory) (c d : Call) (out : List ℕ) →
     reply g (withOut (after g M c) out) d ≡ refused 4 → ⊥
 then-never-4 g M c d out inside S = sound-not-4 g (withOut (after g M c) out) d inside (keeps-sound g M c S)
 
--- `room`: on any tables, also such as no fresh store leads to, and with other log bytes than C left, no W right after C is refused 14
-pub lent-room-W : (g : Geometry) (t log other out more k : List ℕ) (r x kind : ℕ) → reply g (lent t log out) Compress ≡ accepted k →
-    reply g (lent (after g (lent t log out) Compress .tables) other more) (Write r x kind) ≡ refused 14 → ⊥
-lent-room-W g t log other out more k r x kind done =
-    room g .0 t (record { call = Compress; log = log; out = out }) (record { call = Write r x kind; log = other; out = more }) k refl done
+-- and of any six numbers: the counter stays the number of an arena
+pub counter-below : (g : Geometry) (M : Memory) (c : Call) → SoundStore g (M .tables) (M .log) → getD (after g M c .tables) 7 0 < g .arenas
+unfolding stateOf
+counter-below g M c S = keeps-sound g M c S .range .counter
+
+-- `room`: on any tables, also such as no fresh store leads to, and with other log bytes than C left, no call right after C is refused 14
+pub lent-room-any : (g : Geometry) (t log other out more k : List ℕ) (c : Call) → reply g (lent t log out) Compress ≡ accepted k →
+    reply g (lent (after g (lent t log out) Compress .tables) other more) c ≡ refused 14 → ⊥
+lent-room-any g t log other out more k c done =
+    room g .0 t (record { call = Compress; log = log; out = out }) (record { call = c; log = other; out = more }) k refl done
 
 -- nor any call of a store that keeps its own log
 pub own-room : (g : Geometry) (M : Memory) (out more k : List ℕ) (c : Call) → reply g (withOut M out) Compress ≡ accepted k →
@@ -605,6 +610,17 @@ module _ (M : Machine) (T : M .Tables) (D : (l : List (M .Asked)) → HistoryCho
       absurd (C .first 5 (sym at) ahead (free-later 5 (omega arith) (omega arith))))
       (λ n. omega (arith, at, n)))
       (λ n. absurd (C .full 0 4 (omega (arith, n)) refl (free-later 4 (omega arith) (omega arith))))
+
+-- `free`: with block 1 on a page and block 0 waiting none is chosen, of any kind
+pub none-chosen : (M : Machine) (T : M .Tables) → ((l : List (M .Asked)) → HistoryChoice M two T l) → (before : List (M .Asked)) →
+    historyFrom M T before ≡ one-waits → (w : M .Asked) (r x k b : ℕ) (rest : List ℕ) → M .call w ≡ Write r x k →
+    M .answer (stateFrom M T before) w ≡ accepted (b ∷ rest) → ⊥
+unfolding bookHeard
+none-chosen M T D before h w r x k b rest c a =
+    let F : MayBeGiven two one-waits b = subst (λ H. IsChosen two H k b) h (D before .choice w r x k b rest c a) .free in
+    cases (below-two b (F .inside))
+    (λ e. true≢false (ap (λ d. unsynced one-waits d) (sym e) ∙ F .awake))
+    (λ e. F .off (subst (λ d. OnPage (book 2 one-waits) d) (sym e) (inl (inl (0, refl)))))
 
 -- five words of six are used, and block 0 is on page 0
 abbrev pub five-used : List Entry

@@ -5,3 +5,4 @@ pub mod Answering
 pub mod PrintedProof
 pub mod Handing
 pub mod Running
+pub mod Uses
