@@ -26,7 +26,10 @@ serve-part-requires : tie.Need-serve-part-requires Inv-loop μ-loop
 serve-part-requires c κs = c .before .before .before .before .before .loop .inv .stands .kept
 
 slice-reshare-prefix-write-replies : tie.Need-slice-reshare-prefix-write-replies Inv-loop μ-loop
-slice-reshare-prefix-write-replies c = omega (arith, c .before .before .before .before .before .before .before .before .serve-part .ensures .range, c .before .before .before .before .before .before .before .before .serve-part .kept .1 .1 .1 .1 .1 .1 .0)
+slice-reshare-prefix-write-replies c =
+    let p = c .before .before .before .before .before .before .before .before .serve-part in
+    let (text, (at, (session, (tables, (log, (out, (buffer, rest))))))) = p .kept in
+    omega (arith, p .ensures .range, buffer)
 
 slice-aggregate-write-replies : tie.Need-slice-aggregate-write-replies Inv-loop μ-loop
 slice-aggregate-write-replies c = sym (length-take-le _ _ (slice-reshare-prefix-write-replies (c .before)))
@@ -50,11 +53,11 @@ loop-again c =
     let at-part = c .before .before .before .before .before .before .before .before .before .before .before .before in
     let at-loop = at-part .before .before .before .before .before .before in
     let p = at-part .serve-part in
-    let k = p .kept .1 .1 .1 in
+    let (text, (at, (session, (tables, (log, (out, (buffer, rest))))))) = p .kept in
     let l = at-loop .loop in
     let h = at-part .before .before .before .before .before .loop-test .taken in
     let long = at-loop .before .before .before .before .before .before .pre .1 in
-    goes-on _ _ _ _ _ _ _ _ _ _ _ _ (l .inv) (p .result) _ _ _ _ (p .ensures) h (omega (arith, long)) (k .0) (k .1 .0) (k .1 .1 .0) (k .1 .1 .1 .0)
+    goes-on _ _ _ _ _ _ _ _ _ _ _ _ (l .inv) (p .result) _ _ _ _ (p .ensures) h (omega (arith, long)) tables log out buffer
 
 same-length : tie.Need-same-length Inv-loop μ-loop
 same-length c = search needs
@@ -88,11 +91,11 @@ returns-2 c =
     let at-part = c .before .before .before .before .before .before .before .before .before .before .before .before in
     let at-loop = at-part .before .before .before .before .before .before in
     let p = at-part .serve-part in
-    let k = p .kept .1 .1 .1 in
+    let (text, (at, (session, (tables, (log, (out, (buffer, rest))))))) = p .kept in
     let l = at-loop .loop in
     let h = at-part .before .before .before .before .before .loop-test .taken in
     let long = at-loop .before .before .before .before .before .before .pre .1 in
-    at-failure _ _ _ _ _ _ _ _ _ _ _ _ (l .inv) (p .result) _ _ _ _ (p .ensures) h (omega (arith, long)) (k .0) (k .1 .0) (k .1 .1 .0) (k .1 .1 .1 .0)
+    at-failure _ _ _ _ _ _ _ _ _ _ _ _ (l .inv) (p .result) _ _ _ _ (p .ensures) h (omega (arith, long)) tables log out buffer
     _ refl refl (c .if1 .taken)
 
 pub answer-spec : {M : Type 1} → statement M

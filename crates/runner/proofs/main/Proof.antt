@@ -96,16 +96,19 @@ loop-again c =
     let well : failed (a .result) ≡ false = subst (λ (z : ℤ). ltZ z (pos 0) ≡ false) (toZ-ofZ fits) (c .if2 .left) in
     let m = at-read .read-more in
     let l = at-read .before .before .before .loop .inv in
+    let (fd, (text, (at, (session, (tables, (log, (out, (buffer, rest)))))))) = a .kept in
+    let (from, (script, more)) = m .kept in
+    let (range, stays) = m .ensures in
     record {
-      tables = a .kept .1 .1 .1 .1 .0 ∙ l .tables;
-      words = a .kept .1 .1 .1 .1 .1 .0 ∙ l .words;
-      numbers = a .kept .1 .1 .1 .1 .1 .1 .0 ∙ l .numbers;
-      buffer = a .kept .1 .1 .1 .1 .1 .1 .1 .0 ∙ l .buffer;
-      script = m .kept .1 .0 ∙ l .script;
-      read = omega (arith, m .ensures .0, l .script);
+      tables = tables ∙ l .tables;
+      words = log ∙ l .words;
+      numbers = out ∙ l .numbers;
+      buffer = buffer ∙ l .buffer;
+      script = script ∙ l .script;
+      read = omega (arith, range, l .script);
       kept = a .ensures .kept;
       handed =
-          handed-on _ _ 65536 _ _ _ _ _ _ _ _ (a .result) _ _ (l .handed) (m .ensures .1) (omega (arith, m .ensures .0, m .kept .1 .0))
+          handed-on _ _ 65536 _ _ _ _ _ _ _ _ (a .result) _ _ (l .handed) stays (omega (arith, range, script))
           (at-end .before .before .is-whole .ensures) (at-end .part-end .ensures .0) (a .ensures) well (l .buffer);
     }
 

@@ -39,7 +39,10 @@ serve-part-requires : tie.Need-serve-part-requires Inv-loop μ-loop
 serve-part-requires c κs = c .before .before .before .before .before .loop .inv .kept
 
 array-share-prefix-replies : tie.Need-array-share-prefix-replies Inv-loop μ-loop
-array-share-prefix-replies c = omega (arith, c .before .before .before .before .serve-part .ensures .range, c .before .before .before .before .serve-part .kept .1 .1 .1 .1 .1 .1 .0)
+array-share-prefix-replies c =
+    let p = c .before .before .before .before .serve-part in
+    let (text, (at, (session, (tables, (log, (out, (buffer, rest))))))) = p .kept in
+    omega (arith, p .ensures .range, buffer)
 
 slice-aggregate-write-all : tie.Need-slice-aggregate-write-all Inv-loop μ-loop
 slice-aggregate-write-all c = sym (length-take-le _ _ (array-share-prefix-replies (c .before)))
@@ -59,11 +62,12 @@ loop-again : tie.Need-loop-again Inv-loop μ-loop
 loop-again c =
     let p = c .before .before .before .before .before .before .before .serve-part in
     let l = c .before .before .before .before .before .before .before .before .before .before .before .before .before .loop .inv in
+    let (text, (at, (session, (tables, (log, (out, (buffer, rest))))))) = p .kept in
     record {
-      tables = p .kept .1 .1 .1 .0 ∙ l .tables;
-      words = p .kept .1 .1 .1 .1 .0 ∙ l .words;
-      numbers = p .kept .1 .1 .1 .1 .1 .0 ∙ l .numbers;
-      buffer = p .kept .1 .1 .1 .1 .1 .1 .0 ∙ l .buffer;
+      tables = tables ∙ l .tables;
+      words = log ∙ l .words;
+      numbers = out ∙ l .numbers;
+      buffer = buffer ∙ l .buffer;
       kept = p .ensures .kept;
     }
 

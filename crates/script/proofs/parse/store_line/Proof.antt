@@ -26,10 +26,18 @@ array-read-t23 : tie.Need-array-read-t23
 array-read-t23 c = search needs
 
 returns : tie.Need-returns
-returns c = store-yes _ (c .before .numbers-at .last .1 .1 .1 .0) _ (c .before .numbers-at .ensures .1) (c .before .numbers-at .ensures .0) (c .if1 .taken)
+returns c =
+    let p = c .before .numbers-at in
+    let (line, (from, (most, (out, rest)))) = p .last in
+    let (is, long) = p .ensures in
+    store-yes _ out _ long is (c .if1 .taken)
 
 returns-2 : tie.Need-returns-2
-returns-2 c = store-no _ (c .before .numbers-at .last .1 .1 .1 .0) _ (c .before .numbers-at .ensures .1) (c .before .numbers-at .ensures .0) (c .if1 .left)
+returns-2 c =
+    let p = c .before .numbers-at in
+    let (line, (from, (most, (out, rest)))) = p .last in
+    let (is, long) = p .ensures in
+    store-no _ out _ long is (c .if1 .left)
 
 pub store-line-spec : {M : Type 1} → statement M
 store-line-spec =
