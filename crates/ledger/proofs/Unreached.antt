@@ -25,7 +25,9 @@ use Rattle.ledger.proofs.PaperTable.{small}
 
 -- the test, open
 unfoldable tested : Geometry → List ℕ → List ℕ → Bool
-unfolding wordOf words heldIn readLog firstWord byCode byProgress free ended readable marksOf markRun all held waits available elem below? rows onPage imp once? takes? prev? base? two? linked? like? fits? page? ownAt owns allOwn goneAt gone list? slot? empty? good? freeWord field numbers viewOf stateOf numbers? range? logHolds? waiting? free? sound? put via firstLink Rattle.model.specs.Check.marksOf
+unfolding wordOf words heldIn readLog firstWord byCode byProgress free ended readable marksOf markRun all held waits available elem below? rows onPage imp
+    once? takes? prev? base? two? linked? like? fits? page? ownAt owns allOwn goneAt gone list? slot? empty? good? freeWord field numbers viewOf stateOf
+    numbers? range? logHolds? waiting? free? sound? put via firstLink Rattle.model.specs.Check.marksOf
 tested g t log = sound? g t log
 
 -- six numbers as in `store 1 4 2 4 8 10`; the last number used is 2, slot 0 has the open record 2 with no page; the mark of arena 0 stands at 3, though no
