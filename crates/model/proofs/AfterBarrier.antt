@@ -13,9 +13,10 @@ use Rattle.geometry.specs.declared.Geometry.{Geometry}
 use Rattle.geometry.specs.Limits.{Inside, blocks}
 use Rattle.log.specs.Runs.{Run, Covered, Longest, All}
 use Rattle.model.specs.Book.{Some}
+use Rattle.model.specs.Lists.{afterFirst}
 use Rattle.model.specs.Results.{blocksIn}
 use Rattle.model.specs.State.{fresh}
-use Rattle.model.specs.Calls.{Account, looking, opening, freeing, placing, marking, renewing, account, pairs, result}
+use Rattle.model.specs.Calls.{Account, looking, opening, freeing, closing, placing, marking, renewing, account, pairs, result}
 use Rattle.model.specs.FreeList.{freeRuns}
 use Rattle.model.specs.History.{Machine, Event, give, free, Entry, entryOf, eventsBy, eventsOf, writeEvents, stateFrom, historyFrom}
 use Rattle.model.specs.History.{wasAccepted, freedAmong, syncsBy, syncs, synced?, unsyncedAfter, unsyncedFrom, unsynced}
@@ -116,9 +117,10 @@ among b (free c ∷ l) i =
 
 -- a call that frees a block is no Y and no C
 frees-by : (A : Account) (l : List ℕ) (b : ℕ) → Some (λ v. v ≡ free b) (eventsBy A l) → syncsBy A ≡ false
-frees-by (looking s cs res) l b i = refl
+frees-by (looking s cs res note) l b i = refl
 frees-by (opening cs a) l b i = refl
 frees-by (freeing cs a) l b i = refl
+frees-by (closing r) l b i = refl
 frees-by (placing r x k) l b i = refl
 frees-by marking l b i = absurd i
 frees-by renewing l b i = absurd i
@@ -171,9 +173,10 @@ gives-first b r x k (c ∷ v ∷ l) i =
     (λ j. absurd (no-give b (blocksIn l) j))
 
 gave-as : (b : ℕ) (c : Call) (A : Account) (l : List ℕ) → Is c A → Some (λ v. v ≡ give b) (eventsBy A l) → GaveBy b c (accepted l)
-gave-as b c (looking s cs res) l e i = absurd i
+gave-as b c (looking s cs res note) l e i = absurd i
 gave-as b c (opening cs a) l e i = absurd i
 gave-as b c (freeing cs a) l e i = absurd (no-give b (blocksIn l) i)
+gave-as b c (closing r) l e i = absurd (no-give b (blocksIn (afterFirst l)) i)
 gave-as b c (placing r x k) l e i = subst (λ d. GaveBy b d (accepted l)) (sym e) (gives-first b r x k l i)
 gave-as b c marking l e i = absurd i
 gave-as b c renewing l e i = absurd i

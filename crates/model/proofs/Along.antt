@@ -22,10 +22,11 @@ use Rattle.log.proofs.Appending.{words-append}
 use Rattle.model.specs.Book.{Some}
 use Rattle.model.specs.Held.{held, frees}
 use Rattle.model.specs.State.{State}
-use Rattle.model.specs.Layout.{stateOf, stored}
-use Rattle.model.specs.Calls.{Account, looking, opening, freeing, placing, marking, renewing, account, renews, wordsBy, leftBy, writing}
-use Rattle.model.specs.Calls.{compressed, written, acted, given, logged, effect}
-use Rattle.model.specs.Memory.{Memory, usedLog, wordsUsed, writtenAt, reply, after}
+use Rattle.model.specs.Layout.{stateOf}
+use Rattle.model.specs.Window.{actedAll}
+use Rattle.model.specs.Calls.{Account, looking, opening, freeing, closing, placing, marking, renewing, account, renews, wordsBy, leftBy, freedClosing}
+use Rattle.model.specs.Calls.{writing, compressed, written, acted, given, logged, effect}
+use Rattle.model.specs.Memory.{Memory, usedLog, wordsUsed, writtenAt, reply, storedBy, after}
 use Rattle.model.specs.History.{Machine, Entry, entryOf, stateFrom, historyFrom, wasAccepted, syncsBy, syncs}
 use Rattle.model.specs.HistoryFacts.{Synced}
 use Rattle.model.specs.Demand.{Own, withOut, ownStore, run}
@@ -55,9 +56,10 @@ some-append P (e ∷ l) m i = cases i (λ p. inl (inl p)) (λ j. cases (some-app
 
 -- a C is a Y or C
 renews-syncs : (A : Account) (t : Bool) → (t && renews A) ≡ true → (t && syncsBy A) ≡ true
-renews-syncs (looking s cs res) true e = e
+renews-syncs (looking s cs res note) true e = e
 renews-syncs (opening cs a) true e = e
 renews-syncs (freeing cs a) true e = e
+renews-syncs (closing r) true e = e
 renews-syncs (placing r x k) true e = e
 renews-syncs marking true e = absurd (false≢true e)
 renews-syncs renewing true e = e
@@ -94,10 +96,11 @@ wroteAll g M (a ∷ l) = wrote g M a ++ wroteAll g (ownStore g .after M a) l
 -- ── one call ──
 
 used-by : (g : Geometry) (T : State) (A : Account) → renews A ≡ false → leftBy g T A .used ≡ T .used + length (wordsBy g T A)
-unfolding acted given logged
-used-by g T (looking s cs res) e = omega arith
+unfolding acted actedAll given logged
+used-by g T (looking s cs res note) e = omega arith
 used-by g T (opening cs a) e = refl
 used-by g T (freeing cs a) e = refl
+used-by g T (closing r) e = refl
 used-by g T (placing r x k) e = refl
 used-by g T marking e = refl
 used-by g T renewing e = absurd (false≢true (sym e))
@@ -110,9 +113,10 @@ log-joined : (g : Geometry) (i : Inside g) (T : State) (R : Rattle·model·proof
 log-joined g i T R l r c e = ap (λ t. cond t (bytesOf (written g T c)) (l ++ bytesOf (written g T c))) e
 
 renews-C : (c : Call) (A : Account) → Is c A → renews A ≡ true → c ≡ Compress
-renews-C c (looking s cs res) i e = absurd (false≢true e)
+renews-C c (looking s cs res note) i e = absurd (false≢true e)
 renews-C c (opening cs a) i e = absurd (false≢true e)
 renews-C c (freeing cs a) i e = absurd (false≢true e)
+renews-C c (closing r) i e = absurd (false≢true e)
 renews-C c (placing r x k) i e = absurd (false≢true e)
 renews-C c marking i e = absurd (false≢true e)
 renews-C c renewing i e = i .0
@@ -149,7 +153,7 @@ module _ (g : Geometry) where
   -- a refused one leaves it
   pub refused-tables : (M : Memory) (c : Call) (n : ℕ) → reply g M c ≡ refused n → after g M c .tables ≡ M .tables
   unfolding after
-  refused-tables M c n e = ap (λ r. leaves r (M .tables) (stored g (effect g (stateOf g (M .tables)) c) (M .tables))) e
+  refused-tables M c n e = ap (λ r. leaves r (M .tables) (storedBy g (M .tables) c)) e
 
   refused-log : (M : Memory) (c : Call) (n : ℕ) → reply g M c ≡ refused n → after g M c .log ≡ M .log
   unfolding after
@@ -260,9 +264,10 @@ plain-released [] = tt
 plain-released (b ∷ l) = (λ e. omega arith, plain-released l)
 
 plain-by : (g : Geometry) (T : State) (A : Account) → syncsBy A ≡ false → Plain (wordsBy g T A)
-plain-by g T (looking s cs res) e = tt
+plain-by g T (looking s cs res note) e = tt
 plain-by g T (opening cs a) e = tt
 plain-by g T (freeing cs a) e = plain-released (frees (T .view) (a T))
+plain-by g T (closing r) e = plain-released (freedClosing T r)
 plain-by g T (placing r x k) e = (λ z. omega arith, plain-released (frees (T .view) (writing g T r x k)))
 plain-by g T marking e = absurd (false≢true (sym e))
 plain-by g T renewing e = absurd (false≢true (sym e))
@@ -299,9 +304,10 @@ runs-end (r ∷ l) = let w = runs-end l in (runWords (r .0) (r .1) ++ w .0, ap (
 
 -- an accepted Y or C is one of the two
 ended-by : (c : Call) (A : Account) → Is c A → (t : Bool) → (t && syncsBy A) ≡ true → ((t && renews A) ≡ true → ⊥) → (c ≡ Barrier) × (t ≡ true)
-ended-by c (looking s cs res) i true e n = absurd (false≢true e)
+ended-by c (looking s cs res note) i true e n = absurd (false≢true e)
 ended-by c (opening cs a) i true e n = absurd (false≢true e)
 ended-by c (freeing cs a) i true e n = absurd (false≢true e)
+ended-by c (closing r) i true e n = absurd (false≢true e)
 ended-by c (placing r x k) i true e n = absurd (false≢true e)
 ended-by c marking i true e n = (i .0, refl)
 ended-by c renewing i true e n = absurd (n refl)

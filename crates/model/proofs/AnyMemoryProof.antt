@@ -15,7 +15,7 @@ use Rattle.model.proofs.Fine.{Fine}
 use Rattle.model.proofs.RoomAfterC.{not-fourteen, after-C}
 use Rattle.model.proofs.Keeps.{accepted-is, sound-fine, calls-keep-sound, fresh-is-sound}
 use Rattle.model.proofs.Demands.{simulation}
-use Rattle.model.proofs.ReadingProof.{own-simulation}
+use Rattle.model.proofs.Demands.{own-simulation}
 
 pub fresh-sound : FreshSound
 fresh-sound = fresh-is-sound

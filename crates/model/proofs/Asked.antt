@@ -13,9 +13,9 @@ use Rattle.geometry.specs.Limits.{Inside, blocks}
 use Rattle.model.specs.View.{View}
 use Rattle.model.specs.Sound.{Sound}
 use Rattle.model.specs.Actions.{doS, doF, Asks, forked, vacant, slotOf}
-use Rattle.model.specs.State.{State, InRange, WaitingFits}
-use Rattle.model.specs.Calls.{account, slot, writing, erasing, deleting, short, conditions}
-use Rattle.model.specs.declared.Call.the-variants.{Write, Erase, Seal, Fork}
+use Rattle.model.specs.State.{State, InRange, WaitingFits, WindowsFit}
+use Rattle.model.specs.Calls.{slot, writing, erasing, deleting, conditions, account, short}
+use Rattle.model.specs.declared.Call.the-variants.{Write, Erase, Fork}
 use Rattle.model.proofs.DoneSound.{hit}
 use Rattle.model.proofs.ChoiceFacts.{given-block}
 use Rattle.model.proofs.ByNumber.{none-at}
@@ -41,6 +41,13 @@ pub record Fine (g : Geometry) (T : State) : Type 0 where
   pub blocks : T .view .blocks ≡ blocks g
   pub range : InRange g T
   pub waits : WaitingFits T
+  pub windows : WindowsFit (T .view) (T .notes)
+
+-- an S of r is not refused 8, 9 or 11
+pub record Unrefused (T : State) (r : ℕ) : Type 0 where
+  pub eight : eqb (slotOf (T .view) r) 0 ≡ false
+  pub nine : eqb (T .view .isOpen (slot T r)) 0 ≡ false
+  pub eleven : eqb (vacant (T .view)) 0 ≡ false
 
 module _ (g : Geometry) (inside : Inside g) (T : State) (R : Fine g T) where
   pub named-slot : (r : ℕ) → eqb (slotOf (T .view) r) 0 ≡ false → (0 < T .view .num (slot T r)) × (T .view .num (slot T r) ≡ r)
@@ -66,10 +73,8 @@ module _ (g : Geometry) (inside : Inside g) (T : State) (R : Fine g T) where
   pub asks-E : (r x : ℕ) → NoneHolds (conditions g T (Erase r x)) → Asks (T .view) (erasing T r x)
   asks-E r x n = asks-erase r x (none-left (ownRefusals g T (account (Erase r x))) ((14, short g T (Erase r x)) ∷ []) n)
 
-  pub asks-S : (r : ℕ) → NoneHolds (conditions g T (Seal r)) → Asks (T .view) (doS (slot T r))
-  asks-S r n =
-      let past = none-at (conditions g T (Seal r)) n in
-      (named-slot r (past 8) .0, not-zero (T .view .isOpen (slot T r)) (past 9), not-zero (vacant (T .view)) (past 11))
+  pub asks-S : (r : ℕ) → Unrefused T r → Asks (T .view) (doS (slot T r))
+  asks-S r n = (named-slot r (n .eight) .0, not-zero (T .view .isOpen (slot T r)) (n .nine), not-zero (vacant (T .view)) (n .eleven))
 
   pub asks-F : (r : ℕ) → NoneHolds (conditions g T (Fork r)) → Asks (T .view) (doF (slot T r))
   asks-F r n =

@@ -11,26 +11,30 @@ use Rattle.answer.proofs.Cases.{cases, same?}
 use Rattle.geometry.specs.declared.Geometry.{Geometry}
 use Rattle.geometry.specs.Limits.{Inside}
 use Rattle.model.specs.View.{View}
-use Rattle.model.specs.Lists.{In}
-use Rattle.model.specs.Results.{paired, Item, plain, born, bornIn, itemsOf}
+use Rattle.model.specs.Lists.{In, afterFirst}
+use Rattle.model.specs.Results.{paired, Item, plain, born, bornIn, oneThenBorn, itemsOf}
 use Rattle.model.specs.Book.{Some}
 use Rattle.model.specs.Actions.{Action, Asks, done}
 use Rattle.model.specs.Held.{frees}
 use Rattle.model.specs.State.{State, fresh}
-use Rattle.model.specs.Calls.{Account, looking, opening, freeing, placing, marking, renewing, account, refusalsBy, resultBy, spellingBy, leftBy}
-use Rattle.model.specs.Calls.{freedWith, spelling, slot, block, writing, conditions, result, acted, given, logged, effect}
+use Rattle.model.specs.Window.{actedAll}
+use Rattle.model.specs.Calls.{Account, looking, opening, freeing, closing, placing, marking, renewing, account, refusalsBy, resultBy, spellingBy}
+use Rattle.model.specs.Calls.{leftBy, windowOf, closes, freedClosing, freedWith, spelling, slot, block, writing, conditions, result, acted, given}
+use Rattle.model.specs.Calls.{logged, effect}
 use Rattle.model.specs.History.{Entry, entryOf, stateFrom, historyFrom}
 use Rattle.model.specs.HistoryFacts.{Names, Gave, LastGave}
 use Rattle.model.specs.Model.{Screened, answer, keepOr, modelAfter, model, stateAfter, history}
 use Rattle.model.specs.declared.Call.{Call}
 use Rattle.model.specs.declared.Call.the-variants.{Write}
 use Rattle.model.specs.declared.Spelling.{Spelling}
-use Rattle.model.specs.declared.Spelling.the-variants.{Numbers, Blocks}
+use Rattle.model.specs.declared.Spelling.the-variants.{Numbers, Blocks, NumberAndBlocks}
 use Rattle.model.proofs.ByNumber.{none-at}
 use Rattle.model.proofs.BirthStays.{Gives, done-birth, write-birth}
 use Rattle.model.proofs.ResultFacts.{born-paired}
 use Rattle.model.proofs.HeldFacts.{frees-is}
 use Rattle.model.proofs.CallKinds.{none-left, opens, frees-only}
+use Rattle.model.proofs.WindowMoves.{sealing-giveless, steps-birth, frees-along-is}
+use Rattle.model.proofs.Closing.{closing-first, closing-asks, closing-giveless}
 use Rattle.model.proofs.EachCall.{Is, is, HeldIf, Fits, fits}
 use Rattle.model.proofs.Fine.{Fine, named-slot, asks-W, effect-fine}
 use Rattle.model.proofs.ModelFacts.{accepted-is}
@@ -91,9 +95,10 @@ Tracked K h = (b : ℕ) → 0 < K .birth b → LastGave b (K .birth b) h
 
 -- an entry that is no accepted W gave nothing
 abbrev writesBy : Account → ℕ
-writesBy (looking s cs res) = 0
+writesBy (looking s cs res note) = 0
 writesBy (opening cs a) = 0
 writesBy (freeing cs a) = 0
+writesBy (closing r) = 0
 writesBy (placing r x k) = 1
 writesBy marking = 0
 writesBy renewing = 0
@@ -158,10 +163,16 @@ module _ (g : Geometry) (inside : Inside g) (T : State) (R : Fine g T) (h : List
 
   told-by : (c : Call) (A : Account) (l : List ℕ) → account c ≡ A → Is c A → NoneHolds (refusalsBy g T A) → resultBy g T A ≡ l →
       Tracked (leftBy g T A .view) (h ++ (entry c (accepted l) ∷ []))
-  unfolding logged given acted
-  told-by c (looking s cs res) l d i n e = looks c (accepted l) (no-write c (accepted l) (ap writesBy d))
+  unfolding logged given acted actedAll
+  told-by c (looking s cs res note) l d i n e = looks c (accepted l) (no-write c (accepted l) (ap writesBy d))
   told-by c (opening cs a) l d i n e = acts (a T) c l (opens (T .view) (a T) (i T .0) .none) (ap writesBy d)
   told-by c (freeing cs a) l d i n e = acts (a T) c l (frees-only (T .view) (a T) (R .sound) (i g T .0) .none) (ap writesBy d)
+  told-by c (closing r) l d i n e =
+      let K = T .view in
+      λ b k.
+      let v = steps-birth K (closes T r) (sealing-giveless K (windowOf T r) (slot T r)) b k in
+      subst (λ u. LastGave b u (h ++ (entry c (accepted l) ∷ []))) (sym v)
+      (kept-last b (K .birth b) h (entry c (accepted l)) (no-write c (accepted l) (ap writesBy d) b) (t b (omega (arith, v))))
   told-by c (placing r x k) l d i n e =
       subst (λ z. Tracked (done (T .view) (writing g T r x k)) (h ++ (entry z (accepted l) ∷ []))) (sym i)
       (write-told r x k l n (sym (ap (λ m. getD m 0 0) e)) (sym e ∙ ap (λ m. block g T k ∷ lib.ListN.drop 1 m) e))
@@ -213,20 +224,35 @@ module _ (g : Geometry) (inside : Inside g) (T : State) (R : Fine g T) (h : List
   -- a result of a call that gives no block, by its spelling
   looked : (c : Call) (s : Spelling) (m l : List ℕ) (b v : ℕ) → writes c ≡ 0 → HeldIf T s m →
       Some (λ i. i ≡ born b v) (itemsOf s m) → LastGave b v (h ++ (entry c (accepted l) ∷ []))
-  unfolding itemsOf
+  unfolding itemsOf oneThenBorn afterFirst
   looked c Numbers m l b v z w i = absurd (none-born m b v i)
   looked c Blocks m l b v z w i =
       named c (accepted l) (w .these) b v (λ u j. no-write c (accepted l) z b u) (w .held)
       (subst (λ k. Some (λ i. i ≡ born b v) (bornIn k)) (sym (w .numbers)) i)
+  looked c NumberAndBlocks [] l b v z w i = absurd i
+  looked c NumberAndBlocks (k ∷ m) l b v z w i =
+      cases i
+      (λ e. absurd (let z : ⊥ = omega (arith, ap isBlock e) in z))
+      (λ j.
+      named c (accepted l) (w .these) b v (λ u j. no-write c (accepted l) z b u) (w .held)
+      (subst (λ k. Some (λ i. i ≡ born b v) (bornIn k)) (sym (w .numbers)) j))
 
   named-by : (c : Call) (A : Account) (l : List ℕ) (b v : ℕ) → account c ≡ A → Is c A → Fits g T c A → NoneHolds (refusalsBy g T A) → resultBy g T A ≡ l →
       Some (λ i. i ≡ born b v) (itemsOf (spellingBy A) (resultBy g T A)) → LastGave b v (h ++ (entry c (accepted l) ∷ []))
-  unfolding itemsOf
-  named-by c (looking s cs res) l b v d i f n e o = looked c s (res g T) l b v (ap writesBy d) (f n .1) o
+  unfolding itemsOf afterFirst
+  named-by c (looking s cs res note) l b v d i f n e o = looked c s (res g T) l b v (ap writesBy d) (f n .1) o
   named-by c (opening cs a) l b v d i f n e o = absurd (none-born (resultBy g T (opening cs a)) b v o)
   named-by c (freeing cs a) l b v d i f n e o =
       looked c Blocks (freedWith T (a T)) l b v (ap writesBy d)
       (record { these = frees (T .view) (a T); numbers = refl; held = freed-held (a T) (f (none-left (cs g T) _ n) .asks) }) o
+  named-by c (closing r) l b v d i f n e o =
+      let m = closing-first g T r n in
+      looked c NumberAndBlocks (resultBy g T (closing r)) l b v (ap writesBy d)
+      (record {
+        these = freedClosing T r;
+        numbers = refl;
+        held = λ b i. frees-along-is (T .view) (closes T r) (R .sound) (closing-asks g inside T R r m) (closing-giveless g inside T R r m) b .0 i .0;
+      }) o
   named-by c (placing r x k) l b v d i f n e o =
       subst (λ z. LastGave b v (h ++ (entry z (accepted l) ∷ []))) (sym i) (write-named r x k l b v n e o)
   named-by c marking l b v d i f n e o = absurd o

@@ -14,10 +14,12 @@ use Rattle.geometry.specs.Limits.{Inside}
 use Rattle.log.specs.Word.{released}
 use Rattle.model.specs.View.{View}
 use Rattle.model.specs.Held.{held, frees}
+use Rattle.model.specs.Lists.{afterFirst}
 use Rattle.model.specs.Results.{paired, blocksIn}
 use Rattle.model.specs.State.{State, fresh}
-use Rattle.model.specs.Calls.{Account, looking, opening, freeing, placing, marking, renewing, account, resultBy, leftBy, block, writing, acted, given}
-use Rattle.model.specs.Calls.{logged, effect}
+use Rattle.model.specs.Window.{actedAll}
+use Rattle.model.specs.Calls.{Account, looking, opening, freeing, closing, placing, marking, renewing, account, resultBy, leftBy, block, writing}
+use Rattle.model.specs.Calls.{freedClosing, acted, given, logged, effect}
 use Rattle.model.specs.Layout.{stateOf}
 use Rattle.model.specs.Memory.{Memory, wordsUsed, makeReply, makeAfter}
 use Rattle.model.specs.Book.{OnPage}
@@ -33,7 +35,7 @@ use Rattle.model.proofs.StepFacts.{reached}
 use Rattle.model.proofs.MadeFacts.{made-state, made-zero}
 use Rattle.model.proofs.Keeps.{making-is, made-tables}
 use Rattle.model.proofs.Transfer.{asked, same-state, same-history}
-use Rattle.model.proofs.ReadingProof.{own-simulation}
+use Rattle.model.proofs.Demands.{own-simulation}
 
 -- ── of the model ──
 
@@ -56,10 +58,12 @@ placed-words f b r bs l e = ap suc (named-words f bs (paired f bs) refl) ∙ ap 
 
 module _ (g : Geometry) where
   used-by : (T : State) (A : Account) (l : List ℕ) → resultBy g T A ≡ l → leftBy g T A .used ≡ usedAs (T .used) A l
-  unfolding acted given logged
-  used-by T (looking s cs res) l e = refl
+  unfolding acted actedAll given logged afterFirst
+  used-by T (looking s cs res note) l e = refl
   used-by T (opening cs a) l e = omega arith
   used-by T (freeing cs a) l e = ap (λ n. T .used + n) (named-words (T .view .birth) (frees (T .view) (a T)) l e)
+  used-by T (closing r) l e =
+      ap (λ n. T .used + n) (named-words (T .view .birth) (freedClosing T r) (afterFirst l) (ap afterFirst e))
   used-by T (placing r x k) l e =
       ap (λ n. T .used + n) (placed-words (T .view .birth) (block g T k) r (frees (T .view) (writing g T r x k)) l e)
   used-by T marking l e = refl

@@ -2,7 +2,7 @@
 use mathlib.Core.Path.{_≡_, refl, sym, ap, subst}
 use mathlib.Core.Logic.{inl, inr}
 use mathlib.Core.List.{List, [], _∷_, _++_, map}
-use Prim.Native.Nat.{ℕ, suc, _+_, _<_, _≤_}
+use Prim.Native.Nat.{ℕ, suc, pred, _+_, _<_, _≤_}
 use native.Mathlib.Omega.{arith}
 use Rattle.answer.specs.Refusal.{Condition, decide, place, Holds, NoneBefore, Ordered, NoneHolds}
 use Rattle.answer.proofs.Cases.{cases, same?}
@@ -10,22 +10,24 @@ use Rattle.geometry.specs.declared.Geometry.{Geometry}
 use Rattle.model.specs.View.{View}
 use Rattle.model.specs.Sound.{Sound}
 use Rattle.model.specs.Effects.{grow, close, erase, begin, seal, fork}
-use Rattle.model.specs.Actions.{Action, doB, doW, doE, doS, doF, doD, done, follower, delete}
+use Rattle.model.specs.Actions.{Action, doB, doW, doE, doS, doF, doD, done, follower, vacant, delete}
 use Rattle.model.specs.Held.{frees, gives}
-use Rattle.model.specs.State.{State}
-use Rattle.model.specs.Calls.{Account, looking, opening, freeing, placing, marking, renewing, refusalsBy}
+use Rattle.model.specs.State.{State, Notes, withWindow}
+use Rattle.model.specs.Calls.{Account, looking, opening, freeing, closing, placing, marking, renewing, refusalsBy}
 use Rattle.model.specs.History.{free, firstGiven}
-use Rattle.model.proofs.BookFacts.{blockFor, erase-paged, delete-gone}
+use Rattle.model.proofs.BookFacts.{erase-paged, delete-gone}
 use Rattle.model.proofs.BirthStays.{Gives}
 use Rattle.model.proofs.Moves.{gifts}
+use Rattle.model.proofs.Windows.{noted}
 
 -- ── conditions, one list after another ──
 
 -- the refusals that an account names itself; its kind may add some after them
 abbrev pub ownRefusals : Geometry → State → Account → List Condition
-ownRefusals g T (looking s cs res) = cs g T
+ownRefusals g T (looking s cs res note) = cs g T
 ownRefusals g T (opening cs a) = cs T
 ownRefusals g T (freeing cs a) = cs g T
+ownRefusals g T (closing r) = refusalsBy g T (closing r)
 ownRefusals g T (placing r x k) = refusalsBy g T (placing r x k)
 ownRefusals g T marking = refusalsBy g T marking
 ownRefusals g T renewing = refusalsBy g T renewing
@@ -82,13 +84,13 @@ pub before-none : (t m n : ℕ) (l r : List Condition) → t ≡ place n → Bet
 before-none t m n [] r e b h = tt
 before-none t m n (c ∷ l) r e b h = (h .0 (omega (arith, between-less t (place (c .0)) l (b .1))), before-none t (place (c .0)) n l r e (b .1) (h .1))
 
--- ── an action that begins a record ──
+-- ── an action that begins a line ──
 
 abbrev pub Opens : Action → Type 0
 Opens doB = Unit {0}
 Opens (doW s x b) = ⊥
 Opens (doE s x) = ⊥
-Opens (doS s) = Unit {0}
+Opens (doS s) = ⊥
 Opens (doF s) = Unit {0}
 Opens (doD s) = ⊥
 
@@ -96,17 +98,17 @@ pub record Opening (K : View) (a : Action) : Type 0 where
   pub none : (b : ℕ) → Gives a b → ⊥
   pub empty : frees K a ≡ []
   pub events : gifts a ++ map free (frees K a) ≡ []
-  pub block : blockFor a ≡ 0
+  pub notes : (N : Notes) → noted K N a ≡ withWindow N (pred (vacant K)) 0
   pub last : done K a .last ≤ K .last + 1
   pub birth : (b : ℕ) → done K a .birth b ≡ K .birth b
 
 pub opens : (K : View) (a : Action) → Opens a → Opening K a
 unfolding begin seal fork grow close
-opens K doB o = record { none = λ b i. i; empty = refl; events = refl; block = refl; last = omega arith; birth = λ b. refl }
+opens K doB o = record { none = λ b i. i; empty = refl; events = refl; notes = λ N. refl; last = omega arith; birth = λ b. refl }
 opens K (doW s x b) o = absurd o
 opens K (doE s x) o = absurd o
-opens K (doS s) o = record { none = λ b i. i; empty = refl; events = refl; block = refl; last = omega arith; birth = λ b. refl }
-opens K (doF s) o = record { none = λ b i. i; empty = refl; events = refl; block = refl; last = omega arith; birth = λ b. refl }
+opens K (doS s) o = absurd o
+opens K (doF s) o = record { none = λ b i. i; empty = refl; events = refl; notes = λ N. refl; last = omega arith; birth = λ b. refl }
 opens K (doD s) o = absurd o
 
 -- ── an action that may free blocks, and gives none ──
@@ -122,7 +124,7 @@ Frees (doD s) = Unit {0}
 pub record Freeing (K : View) (a : Action) : Type 0 where
   pub none : (b : ℕ) → Gives a b → ⊥
   pub events : gifts a ++ map free (frees K a) ≡ map free (frees K a)
-  pub block : blockFor a ≡ 0
+  pub notes : (N : Notes) → noted K N a ≡ N
   pub no-gift : gives a ≡ 0
   pub last : done K a .last ≡ K .last
 
@@ -130,10 +132,10 @@ pub frees-only : (K : View) (a : Action) → Sound K → Frees a → Freeing K a
 unfolding erase delete
 frees-only K doB S o = absurd o
 frees-only K (doW s x b) S o = absurd o
-frees-only K (doE s x) S o = record { none = λ b i. i; events = refl; block = refl; no-gift = refl; last = erase-paged K s x (K .page s x) refl .last }
+frees-only K (doE s x) S o = record { none = λ b i. i; events = refl; notes = λ N. refl; no-gift = refl; last = erase-paged K s x (K .page s x) refl .last }
 frees-only K (doS s) S o = absurd o
 frees-only K (doF s) S o = absurd o
-frees-only K (doD s) S o = record { none = λ b i. i; events = refl; block = refl; no-gift = refl; last = delete-gone K s (follower K s) S refl .last }
+frees-only K (doD s) S o = record { none = λ b i. i; events = refl; notes = λ N. refl; no-gift = refl; last = delete-gone K s (follower K s) S refl .last }
 
 pub first-frees : (l : List ℕ) → firstGiven (map free l) ≡ 0
 first-frees [] = refl

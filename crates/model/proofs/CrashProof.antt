@@ -25,8 +25,9 @@ use Rattle.model.specs.Sound.{Sound}
 use Rattle.model.specs.Actions.{Action, Asks, done}
 use Rattle.model.specs.Held.{held, frees}
 use Rattle.model.specs.State.{State}
-use Rattle.model.specs.Calls.{Account, looking, opening, freeing, placing, marking, renewing, account, renews, refusalsBy, wordsBy, leftBy, freed}
-use Rattle.model.specs.Calls.{block, writing, conditions, result, acted, given, effect}
+use Rattle.model.specs.Window.{steps, freesAlong, AsksAlong, actedAll}
+use Rattle.model.specs.Calls.{Account, looking, opening, freeing, closing, placing, marking, renewing, account, renews, refusalsBy, wordsBy, leftBy}
+use Rattle.model.specs.Calls.{freed, closes, block, writing, conditions, result, acted, given, effect}
 use Rattle.model.specs.Layout.{stateOf}
 use Rattle.model.specs.Memory.{Memory, wordsUsed, reply, makeAfter}
 use Rattle.model.specs.SoundStore.{SoundStore}
@@ -42,6 +43,8 @@ use Rattle.model.proofs.ListFacts.{in-left, in-right}
 use Rattle.model.proofs.HeldFacts.{frees-is}
 use Rattle.model.proofs.ChoiceFacts.{given-block}
 use Rattle.model.proofs.CallKinds.{none-left}
+use Rattle.model.proofs.WindowMoves.{Giveless, frees-along-is}
+use Rattle.model.proofs.Closing.{closing-first, closing-asks, closing-giveless}
 use Rattle.model.proofs.EachCall.{Fits, fits}
 use Rattle.model.proofs.Fine.{Fine, asks-W}
 use Rattle.model.proofs.AfterBarrier.{GaveBy, gave-by, same-first}
@@ -82,9 +85,10 @@ heldThen g M l = held (stateOf g (run g M l .tables) .view)
 
 -- an accepted C says how many words are used after it
 renews-all : (A : Account) (n m : ℕ) (l : List ℕ) → renews A ≡ true → usedAs n A l ≡ usedAs m A l
-renews-all (looking s cs res) n m l e = absurd (false≢true e)
+renews-all (looking s cs res note) n m l e = absurd (false≢true e)
 renews-all (opening cs a) n m l e = absurd (false≢true e)
 renews-all (freeing cs a) n m l e = absurd (false≢true e)
+renews-all (closing r) n m l e = absurd (false≢true e)
 renews-all (placing r x k) n m l e = absurd (false≢true e)
 renews-all marking n m l e = absurd (false≢true e)
 renews-all renewing n m l e = refl
@@ -355,6 +359,17 @@ acted-stays T a k b S q o =
     (λ n. inl (omega arith)))
     (λ i. inr (in-left b (T .waiting) (frees (T .view) a) i))
 
+-- so do some one after another
+all-stays : (T : State) (l : List Action) (k b : ℕ) → Sound (T .view) → AsksAlong (T .view) l → Giveless l → (0 < T .view .birth b) ⊎ In b (T .waiting) →
+    (0 < actedAll T l k .view .birth b) ⊎ In b (actedAll T l k .waiting)
+unfolding actedAll
+all-stays T l k b S q n o =
+    cases o
+    (λ h. cases (same? (steps (T .view) l .birth b) 0)
+    (λ e. inr (in-right b (T .waiting) (freesAlong (T .view) l) (frees-along-is (T .view) l S q n b .1 (h, e))))
+    (λ n. inl (omega arith)))
+    (λ i. inr (in-left b (T .waiting) (freesAlong (T .view) l) i))
+
 -- the numbers of an accepted reply
 numbersOf : Reply → List ℕ
 numbersOf (accepted l) = l
@@ -371,9 +386,12 @@ module _ (g : Geometry) (inside : Inside g) where
 
     stays-by : (c : Call) (A : Account) → Fits g T c A → NoneHolds (refusalsBy g T A) → syncsBy A ≡ false → Kept T → Kept (leftBy g T A)
     unfolding given
-    stays-by c (looking s cs res) f n e o = o
+    stays-by c (looking s cs res note) f n e o = o
     stays-by c (opening cs a) f n e o = acted-stays T (a T) 0 b (R .sound) (f n .asks) o
     stays-by c (freeing cs a) f n e o = acted-stays T (a T) (length (freed T (a T))) b (R .sound) (f (none-left (cs g T) _ n) .asks) o
+    stays-by c (closing r) f n e o =
+        let m = closing-first g T r n in
+        all-stays T (closes T r) (length (wordsBy g T (closing r))) b (R .sound) (closing-asks g inside T R r m) (closing-giveless g inside T R r m) o
     stays-by c (placing r x j) f n e o = acted-stays T (writing g T r x j) (length (wordsBy g T (placing r x j))) b (R .sound) (asks-W g inside T R r x j n) o
     stays-by c marking f n e o = absurd (false≢true (sym e))
     stays-by c renewing f n e o = absurd (false≢true (sym e))

@@ -1,42 +1,49 @@
 -- WHAT EACH CALL OWES, in one place: a clause in `is` and one in `fits`. All that is said of every call elsewhere goes by the call's kind.
-use mathlib.Core.Path.{_≡_, refl, ap}
+use mathlib.Core.Path.{_≡_, refl, sym, ap, subst, _∙_}
 use mathlib.Core.Logic.{inl, inr}
-use mathlib.Core.Bool.{Bool, false}
-use mathlib.Core.List.{List}
+use mathlib.Core.Bool.{Bool, true, false, _||_, true≢false}
+use mathlib.Core.List.{List, [], _∷_}
 use Prim.Native.Nat.{ℕ, _*_, _<_, _≤_}
 use native.Mathlib.Omega.{arith}
-use lib.Dec.{eqb}
+use lib.Dec.{eqb, ltb}
 use lib.ListN.{length}
+use borrow.Author.Tests.{ltb-false}
 use Rattle.answer.specs.Refusal.{place, NoneHolds}
+use Rattle.answer.proofs.Cases.{cases, same?}
 use Rattle.geometry.specs.declared.Geometry.{Geometry}
 use Rattle.geometry.specs.Limits.{Inside, blocks}
 use Rattle.log.specs.Runs.{runs}
-use Rattle.model.specs.Lists.{In, onPage}
+use Rattle.model.specs.View.{View}
+use Rattle.model.specs.Lists.{In, onPage, afterFirst}
 use Rattle.model.specs.Results.{paired}
-use Rattle.model.specs.Actions.{Action, Asks, slotOf, vacant}
-use Rattle.model.specs.State.{State, synced}
-use Rattle.model.specs.Calls.{Account, looking, opening, freeing, placing, marking, renewing, account, slot, pairs, freeList, logged}
-use Rattle.model.specs.Calls.{refusalsBy, conditions}
-use Rattle.model.specs.Book.{Book, accept}
+use Rattle.model.specs.Actions.{Action, doB, doW, doE, doS, doF, doD, Asks, slotOf, vacant}
+use Rattle.model.specs.State.{State, Notes, withWindow, WindowsFit, synced}
+use Rattle.model.specs.Calls.{Account, looking, opening, freeing, closing, placing, marking, renewing, account, slot, badWindow, noRecord, isSealed}
+use Rattle.model.specs.Calls.{pairs, freeList, logged, refusalsBy, conditions}
+use Rattle.model.specs.Book.{Book, retained, accept}
 use Rattle.model.specs.declared.Spelling.{Spelling}
-use Rattle.model.specs.declared.Spelling.the-variants.{Numbers, Blocks}
+use Rattle.model.specs.declared.Spelling.the-variants.{Numbers, Blocks, NumberAndBlocks}
 use Rattle.model.specs.declared.Call.{Call}
-use Rattle.model.specs.declared.Call.the-variants.{Begin, Write, Erase, Seal, Fork, Delete, Read, Barrier, Compress, FreeList, Estimate}
-use Rattle.model.proofs.BookFacts.{named}
+use Rattle.model.specs.declared.Call.the-variants.{Begin, Write, Erase, Seal, Fork, Delete, Read, Barrier, Compress, FreeList, Estimate, Retain}
+use Rattle.model.proofs.Agree.{Agree}
+use Rattle.model.proofs.TabFacts.{put-at, put-other}
+use Rattle.model.proofs.BookFacts.{entered}
+use Rattle.model.proofs.Windows.{WindowsAgree, retained-agrees, retained-windows}
 use Rattle.model.proofs.ResultFacts.{paired-length, on-page}
 use Rattle.model.proofs.ByNumber.{none-at}
-use Rattle.model.proofs.CallKinds.{ownRefusals, Between, Opens, Frees}
-use Rattle.model.proofs.Asked.{Fine, not-zero, named-slot, asks-erase, asks-S, asks-F, asks-D}
+use Rattle.model.proofs.CallKinds.{Between, Opens, Frees, ownRefusals}
+use Rattle.model.proofs.Asked.{Fine, not-zero, named-slot, asks-erase, asks-F, asks-D}
 use Rattle.model.proofs.Few.{page-one, runs-le, Few}
 
 -- ── of a call alone ──
 
--- its refusals stand in their order; one that looks only leaves the book; one that frees does the same with any log and any blocks waiting;
--- W, Y and C are the only calls of their kinds
+-- its refusals stand in their order; one that frees does the same with any log and any blocks waiting; Y and C leave the book;
+-- S, W, Y and C are the only calls of their kinds
 abbrev pub Is : Call → Account → Type 0
-Is c (looking s cs res) = ((P : ℕ) (B : Book) (b : ℕ) → accept P B c b ≡ B) × ((g : Geometry) (T : State) → Between 4 (place 14) (cs g T))
+Is c (looking s cs res note) = (g : Geometry) (T : State) → Between 4 (place 14) (cs g T)
 Is c (opening cs a) = (T : State) → Opens (a T) × Between 4 (place 11) (cs T)
 Is c (freeing cs a) = (g : Geometry) (T : State) → Frees (a T) × Between 4 (place 14) (cs g T) × ((n : ℕ) → a (synced (logged T n)) ≡ a T)
+Is c (closing r) = c ≡ Seal r
 Is c (placing r x k) = c ≡ Write r x k
 Is c marking = (c ≡ Barrier) × ((P : ℕ) (B : Book) (b : ℕ) → accept P B c b ≡ B)
 Is c renewing = (c ≡ Compress) × ((P : ℕ) (B : Book) (b : ℕ) → accept P B c b ≡ B)
@@ -46,14 +53,15 @@ unfolding logged
 is Begin = λ T. (tt, omega arith)
 is (Write r x k) = refl
 is (Erase r x) = λ g T. (tt, omega arith, λ n. refl)
-is (Seal r) = λ T. (tt, omega arith)
+is (Seal r) = refl
 is (Fork r) = λ T. (tt, omega arith)
 is (Delete r) = λ g T. (tt, omega arith, λ n. refl)
-is (Read r x) = (λ P B b. refl, λ g T. omega arith)
+is (Read r x) = λ g T. omega arith
 is Barrier = (refl, λ P B b. refl)
 is Compress = (refl, λ P B b. refl)
-is FreeList = (λ P B b. refl, λ g T. omega arith)
-is (Estimate r) = (λ P B b. refl, λ g T. omega arith)
+is FreeList = λ g T. omega arith
+is (Estimate r) = λ g T. omega arith
+is (Retain r n) = λ g T. omega arith
 
 -- ── of a call on a fine state ──
 
@@ -66,19 +74,42 @@ pub record Held (T : State) (l : List ℕ) : Type 0 where
 abbrev pub HeldIf : State → Spelling → List ℕ → Type 0
 HeldIf T Numbers l = Unit {0}
 HeldIf T Blocks l = Held T l
+HeldIf T NumberAndBlocks l = Held T (afterFirst l)
 
--- the action of an accepted call: what it asks is so, and it is this call by numbers
+-- an action as a call, by numbers (with kind 0)
+abbrev pub named : View → Action → Call
+named K doB = Begin
+named K (doW s x b) = Write (K .num s) x 0
+named K (doE s x) = Erase (K .num s) x
+named K (doS s) = Seal (K .num s)
+named K (doF s) = Fork (K .num s)
+named K (doD s) = Delete (K .num s)
+
+-- the action of an accepted call: what it asks is so, it is the call, and the book's step is that of the call
 pub record Does (T : State) (c : Call) (a : Action) : Type 0 where
   pub asks : Asks (T .view) a
   pub name : named (T .view) a ≡ c
+  pub book : (P : ℕ) (B : Book) (b : ℕ) → entered P B (T .view) a ≡ accept P B c b
+
+-- what an accepted call notes: windows in range, nothing outside the slots, and the book notes the same
+pub record Noting (g : Geometry) (T : State) (c : Call) (N : Notes) : Type 0 where
+  pub fit : WindowsFit (T .view) N
+  pub outside : (s : ℕ) → T .view .slots ≤ s → T .notes .window s ≡ 0 → N .window s ≡ 0
+  pub agree : (B : Book) (b : ℕ) → Agree (T .view) B → Agree (T .view) (accept (g .pages) B c b)
+  pub windows : (B : Book) (b : ℕ) → Agree (T .view) B → WindowsAgree (T .view) (T .notes) B → WindowsAgree (T .view) N (accept (g .pages) B c b)
 
 abbrev pub Fits : Geometry → State → Call → Account → Type 0
-Fits g T c (looking s cs res) = NoneHolds (cs g T) → Few g (res g T) × HeldIf T s (res g T)
+Fits g T c (looking s cs res note) = NoneHolds (cs g T) → Few g (res g T) × HeldIf T s (res g T) × Noting g T c (note T)
 Fits g T c (opening cs a) = NoneHolds (refusalsBy g T (opening cs a)) → Does T c (a T)
 Fits g T c (freeing cs a) = NoneHolds (cs g T) → Does T c (a T)
+Fits g T c (closing r) = Unit {0}
 Fits g T c (placing r x k) = Unit {0}
 Fits g T c marking = Unit {0}
 Fits g T c renewing = Unit {0}
+
+pub or-false : (p q : Bool) → (p || q) ≡ false → (p ≡ false) × (q ≡ false)
+or-false true q e = absurd (true≢false e)
+or-false false q e = (refl, e)
 
 module _ (g : Geometry) (inside : Inside g) (T : State) (R : Fine g T) where
   -- the number of the slot of r is r
@@ -98,26 +129,60 @@ module _ (g : Geometry) (inside : Inside g) (T : State) (R : Fine g T) where
   unfolding runs
   runs-few p = omega (arith, runs-le (g .per) p 0 0 (blocks g))
 
+  -- the notes stay
+  nothing-noted : (c : Call) → ((P : ℕ) (B : Book) (b : ℕ) → accept P B c b ≡ B) → Noting g T c (T .notes)
+  nothing-noted c e = record {
+    fit = R .windows;
+    outside = λ s h z. z;
+    agree = λ B b A. subst (Agree (T .view)) (sym (e (g .pages) B b)) A;
+    windows = λ B b A W. subst (λ C. WindowsAgree (T .view) (T .notes) C) (sym (e (g .pages) B b)) W;
+  }
+
+  -- the window of the line of r
+  window-noted : (r k : ℕ) → NoneHolds (badWindow k ∷ noRecord T r ∷ isSealed T r ∷ []) → Noting g T (Retain r k) (withWindow (T .notes) (slot T r) k)
+  window-noted r k n =
+      let past = none-at (badWindow k ∷ noRecord T r ∷ isSealed T r ∷ []) n in
+      let h = named-slot g inside T R r (past 8) in
+      let o = not-zero (T .view .isOpen (slot T r)) (past 9) in
+      let few : k ≤ 62 = ltb-false 62 k (or-false (eqb k 0) (ltb 62 k) (past 15) .1) in
+      record {
+        fit = λ s l p. cases (same? s (slot T r))
+            (λ e. omega (arith, put-at (T .notes .window) (slot T r) k s e))
+            (λ m. omega (arith, put-other (T .notes .window) (slot T r) k s m, R .windows s l p));
+        outside = λ s l z. put-other (T .notes .window) (slot T r) k s
+            (λ e. let w : ⊥ = omega (arith, R .sound .links .records (slot T r) (h .0) .room) in w) ∙ z;
+        agree = λ B b A. retained-agrees (T .view) B r k A;
+        windows = λ B b A W. subst (λ m. WindowsAgree (T .view) (withWindow (T .notes) (slot T r) k) (retained B m k)) (h .1)
+            (retained-windows (T .view) (R .sound) B (T .notes) (slot T r) k (h .0) o A W);
+      }
+
   listed-le : length (freeList g T) ≤ 2 * blocks g
   unfolding freeList
   listed-le = runs-few _
 
   pub fits : (c : Call) → Fits g T c (account c)
-  fits Begin = λ n. record { asks = not-zero (vacant (T .view)) (none-at (conditions g T Begin) n 11); name = refl }
+  fits Begin = λ n. record { asks = not-zero (vacant (T .view)) (none-at (conditions g T Begin) n 11); name = refl; book = λ P B b. refl }
   fits (Write r x k) = tt
   fits (Erase r x) = λ n.
       let past = none-at (ownRefusals g T (account (Erase r x))) n in
-      record { asks = asks-erase g inside T R r x n; name = ap (λ m. Erase m x) (is-named r (past 8)) }
-  fits (Seal r) = λ n. record { asks = asks-S g inside T R r n; name = ap Seal (is-named r (none-at (conditions g T (Seal r)) n 8)) }
-  fits (Fork r) = λ n. record { asks = asks-F g inside T R r n; name = ap Fork (is-named r (none-at (conditions g T (Fork r)) n 8)) }
+      let e = is-named r (past 8) in
+      record { asks = asks-erase g inside T R r x n; name = ap (λ m. Erase m x) e; book = λ P B b. ap (λ m. accept P B (Erase m x) b) e }
+  fits (Seal r) = tt
+  fits (Fork r) = λ n.
+      let past = none-at (conditions g T (Fork r)) n in
+      let e = is-named r (past 8) in
+      record { asks = asks-F g inside T R r n; name = ap Fork e; book = λ P B b. ap (λ m. accept P B (Fork m) b) e }
   fits (Delete r) = λ n.
       let past = none-at (ownRefusals g T (account (Delete r))) n in
-      record { asks = asks-D g inside T R r (past 8) (past 10); name = ap Delete (is-named r (past 8)) }
+      let e = is-named r (past 8) in
+      record { asks = asks-D g inside T R r (past 8) (past 10); name = ap Delete e; book = λ P B b. ap (λ m. accept P B (Delete m) b) e }
   fits (Read r x) = λ n. (
     inr (omega (arith, paired-length (T .view .birth) (onPage (T .view .page (slot T r) x)), page-one (T .view .page (slot T r) x))),
     page-held r x (none-at (conditions g T (Read r x)) n 8),
+    nothing-noted (Read r x) (λ P B b. refl),
   )
   fits Barrier = tt
   fits Compress = tt
-  fits FreeList = λ n. (inl listed-le, tt)
-  fits (Estimate r) = λ n. (inr (omega arith), tt)
+  fits FreeList = λ n. (inl (omega (arith, listed-le)), tt, nothing-noted FreeList (λ P B b. refl))
+  fits (Estimate r) = λ n. (inr (omega arith), tt, nothing-noted (Estimate r) (λ P B b. refl))
+  fits (Retain r k) = λ n. (inr (omega arith), tt, window-noted r k n)

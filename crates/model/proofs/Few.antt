@@ -72,9 +72,9 @@ runs-le per t b r (suc n) = go (t b) (eqb (b % per) 0) (runs-le per t (suc b) 0 
 
 -- ── every call ──
 
--- at most two for each block, or no more than the four numbers of a W
+-- at most one number and two for each block, or no more than the four numbers of a W
 abbrev pub Few : Geometry → List ℕ → Type 0
-Few g l = (length l ≤ 2 * blocks g) ⊎ (length l ≤ 4)
+Few g l = (length l ≤ 2 * blocks g + 1) ⊎ (length l ≤ 4)
 
 -- what an action that gives nothing frees was held
 pub frees-few : (K : View) (a : Action) → Sound K → Asks K a → gives a ≡ 0 → length (frees K a) ≤ K .blocks

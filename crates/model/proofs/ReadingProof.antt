@@ -1,24 +1,21 @@
 -- THE READING LAWS OF THE CALLS AS THEY ARE MADE, on any tables. The statement is `Reading` in specs/ReadingLaws.antt.
-use mathlib.Core.Path.{_≡_, refl, sym, ap, _∙_, subst}
-use mathlib.Core.Bool.{not}
+use mathlib.Core.Path.{_≡_, sym, ap, _∙_, subst}
+use mathlib.Core.Logic.{inl, inr}
 use mathlib.Core.List.{List, [], _∷_}
 use Prim.Native.Nat.{ℕ}
 use Rattle.answer.specs.Reply.{Reply, accepted, refused}
-use Rattle.answer.specs.Refusal.{leaves}
+use Rattle.answer.proofs.Cases.{cases}
 use Rattle.geometry.specs.declared.Geometry.{Geometry}
-use Rattle.geometry.specs.Limits.{fits}
-use Rattle.model.specs.Calls.{effect}
-use Rattle.model.specs.Layout.{stateOf, stored}
-use Rattle.model.specs.Memory.{Memory, short?, sound?, reply, after}
-use Rattle.model.specs.Book.{Some}
-use Rattle.model.specs.History.{Machine, stateFrom}
+use Rattle.model.specs.Layout.{stateOf}
+use Rattle.model.specs.Memory.{Memory}
+use Rattle.model.specs.History.{Machine, wasAccepted, stateFrom}
 use Rattle.model.specs.Simulation.{Simulation}
-use Rattle.model.specs.Demand.{metBy, machine, Own, withOut, ownStore}
-use Rattle.model.specs.ReadingLaws.{Shows, Touches, ShowsFrom, Opens, ReadingLaws, Reading}
-use Rattle.model.specs.Model.{Screened, answer, keepOr, modelAfter, model}
-use Rattle.model.proofs.Keeps.{accepted-is, state-after, sound-fine}
-use Rattle.model.proofs.Transfer.{asked, same-state, same-history, keeps}
-use Rattle.model.proofs.Demands.{simulation}
+use Rattle.model.specs.Demand.{metBy, machine, withOut, ownStore}
+use Rattle.model.specs.ReadingLaws.{Shows, Changes, Lost, Seals, Touched, ShowsFrom, Opens, ReadingLaws, Reading}
+use Rattle.model.specs.Model.{model}
+use Rattle.model.proofs.Keeps.{accepted-is, sound-fine}
+use Rattle.model.proofs.Transfer.{asked, same-state, keeps}
+use Rattle.model.proofs.Demands.{simulation, own-simulation}
 use Rattle.model.proofs.ReadingFacts.{reading-laws}
 
 -- ── a machine that does what another does reads as it does ──
@@ -30,16 +27,40 @@ module _ (M O : Machine) (Z : Simulation M O) where
     there = λ v n c a. S .there (Z .looks U v) n (Z .call U v ∙ c) (Z .answer U v h ∙ a);
   }
 
+  lost-back : (U : M .Tables) → Z .Fits U → (r x : ℕ) → Lost O (Z .shows U) r x → Lost M U r x
+  lost-back U h r x W = record {
+    unread = λ v m c a. W .unread (Z .looks U v) m (Z .call U v ∙ c) (Z .answer U v h ∙ a);
+    eight = λ v n c a. W .eight (Z .looks U v) n (Z .call U v ∙ c) (Z .answer U v h ∙ a);
+  }
+
+  touched-back : (more : List (M .Asked)) (U : M .Tables) → Z .Fits U → (r x : ℕ) → Touched O (Z .shows U) r x (asked M O Z U more) → Touched M U r x more
+  unfolding asked
+  touched-back [] U h r x w = w
+  touched-back (i ∷ more) U h r x w =
+      cases w
+      (λ t. inl (
+        ap wasAccepted (sym (Z .answer U i h)) ∙ t .0,
+        cases (t .1)
+            (λ c. inl (subst (Changes r x) (Z .call U i) c))
+            (λ s. inr (subst Seals (Z .call U i) (s .0), lost-back (M .after U i) (Z .fits U i h) r x (subst (λ N. Lost O N r x) (Z .after U i h) (s .1)))),
+      ))
+      (λ t. inr (touched-back more (M .after U i) (Z .fits U i h) r x
+      (subst (λ N. Touched O N r x (asked M O Z (M .after U i) more)) (Z .after U i h) t)))
+
   from-back : (U : M .Tables) → Z .Fits U → (r x : ℕ) (l : List ℕ) → ShowsFrom O (Z .shows U) r x l → ShowsFrom M U r x l
   from-back U h r x l S more n =
       shows-back (stateFrom M U more) (keeps M O Z more U h) r x l
       (subst (λ W. Shows O W r x l) (same-state M O Z more U h)
-      (S (asked M O Z U more) (λ w. n (subst (Some (Touches r x)) (same-history M O Z more U h) w))))
+      (S (asked M O Z U more) (λ w. n (touched-back more U h r x w))))
 
   module _ (P : ℕ) (U : M .Tables) (h : Z .Fits U) (L : ReadingLaws O P (Z .shows U)) where
     -- after a call, and after any more
     next-back : (c : M .Asked) (r x : ℕ) (l : List ℕ) → ShowsFrom O (O .after (Z .shows U) (Z .looks U c)) r x l → ShowsFrom M (M .after U c) r x l
     next-back c r x l S = from-back (M .after U c) (Z .fits U c h) r x l (subst (λ W. ShowsFrom O W r x l) (Z .after U c h) S)
+
+    next-answer : (c v : M .Asked) (a : Reply) → M .answer (M .after U c) v ≡ a →
+        O .answer (O .after (Z .shows U) (Z .looks U c)) (Z .looks (M .after U c) v) ≡ a
+    next-answer c v a e = ap (λ Y. O .answer Y (Z .looks (M .after U c) v)) (Z .after U c h) ∙ Z .answer (M .after U c) v (Z .fits U c h) ∙ e
 
     later-state : (c : M .Asked) (more : List (M .Asked)) →
         stateFrom O (O .after (Z .shows U) (Z .looks U c)) (asked M O Z (M .after U c) more) ≡ Z .shows (stateFrom M (M .after U c) more)
@@ -68,6 +89,15 @@ module _ (M O : Machine) (Z : Simulation M O) where
       gone = λ c r l e a more v x m ev av.
           L .gone (Z .looks U c) r l (Z .call U c ∙ e) (Z .answer U c h ∙ a) (asked M O Z (M .after U c) more)
           (Z .looks (stateFrom M (M .after U c) more) v) x m (Z .call (stateFrom M (M .after U c) more) v ∙ ev) (later-answer c more v (accepted m) av);
+      kept = λ c v q r x l m e a ev av.
+          cases (L .kept (Z .looks U c) (Z .looks U v) q r x l m (Z .call U c ∙ e) (Z .answer U c h ∙ a) (Z .call U v ∙ ev) (Z .answer U v h ∙ av))
+          (λ s. inl (shows-back (M .after U c) (Z .fits U c h) r x l (subst (λ N. Shows O N r x l) (Z .after U c h) s)))
+          (λ s. inr (lost-back (M .after U c) (Z .fits U c h) r x (subst (λ N. Lost O N r x) (Z .after U c h) s)));
+      taken = λ c v w r x y l ev av ew aw more u z m eu au.
+          L .taken (Z .looks U c) (Z .looks U v) (Z .looks (M .after U c) w) r x y l (Z .call U v ∙ ev) (Z .answer U v h ∙ av)
+          (Z .call (M .after U c) w ∙ ew) (next-answer c w (refused 8) aw)
+          (asked M O Z (M .after U c) more) (Z .looks (stateFrom M (M .after U c) more) u) z m
+          (Z .call (stateFrom M (M .after U c) more) u ∙ eu) (later-answer c more u (accepted m) au);
       rises = λ c d n m rest others more oc od ac ad.
           let W = stateFrom M (M .after U c) more in
           L .rises (Z .looks U c) (Z .looks W d) n m rest others (asked M O Z (M .after U c) more)
@@ -88,45 +118,15 @@ where-accepted M P U L = record {
   written = λ c r x k b rest e a. L c (b ∷ rest) a .written c r x k b rest e a;
   erased = λ c r x l e a. L c l a .erased c r x l e a;
   gone = λ c r l e a. L c l a .gone c r l e a;
+  kept = λ c v q r x l m e a. L c m a .kept c v q r x l m e a;
+  taken = λ c v w r x y l ev a. L v l a .taken c v w r x y l ev a;
   rises = λ c d n m rest others more oc od a. L c (n ∷ rest) a .rises c d n m rest others more oc od a;
   unread = λ c v n x rest l oc a. L c (n ∷ rest) a .unread c v n x rest l oc a;
 }
 
--- ── the store that keeps its own log does what the model does ──
+-- ── lent memory, and the store that keeps its own log ──
 
 module _ (g : Geometry) where
-  abbrev pub ownLooks : Memory → Own → Screened
-  ownLooks M a = record { call = a .call; geometry? = not (fits g); short? = short? g (withOut M (a .out)); unsound? = not (sound? g (M .tables) (M .log)) }
-
-  pub own-answer : (M : Memory) (a : Own) → answer g (stateOf g (M .tables)) (ownLooks M a) ≡ reply g (withOut M (a .out)) (a .call)
-  unfolding answer reply
-  own-answer M a = refl
-
-  pub own-after : (M : Memory) (a : Own) → modelAfter g (stateOf g (M .tables)) (ownLooks M a) ≡ stateOf g (after g (withOut M (a .out)) (a .call) .tables)
-  unfolding modelAfter after
-  own-after M a =
-      let T = stateOf g (M .tables) in
-      let N = withOut M (a .out) in
-      ap (λ r. keepOr r T (effect g T (a .call))) (own-answer M a) ∙ go (reply g N (a .call)) refl
-    where
-      go : (r : Reply) → reply g (withOut M (a .out)) (a .call) ≡ r →
-          keepOr r (stateOf g (M .tables)) (effect g (stateOf g (M .tables)) (a .call)) ≡
-          stateOf g (leaves r (M .tables) (stored g (effect g (stateOf g (M .tables)) (a .call)) (M .tables)))
-      go (accepted l) e = sym (state-after g (withOut M (a .out)) (a .call) (accepted-is g (withOut M (a .out)) (a .call) l e .0))
-      go (refused n) e = refl
-
-  unfoldable pub own-simulation : Simulation (ownStore g) (model g)
-  own-simulation = record {
-    Fits = λ M. Unit {0};
-    fits = λ M a h. tt;
-    shows = λ M. stateOf g (M .tables);
-    looks = ownLooks;
-    call = λ M a. refl;
-    conditions = λ M a h. refl;
-    answer = λ M a h. own-answer M a;
-    after = λ M a h. own-after M a;
-  }
-
   lent-laws : (t : List ℕ) → ReadingLaws (machine g) (g .pages) t
   unfolding simulation
   lent-laws t =
@@ -142,7 +142,7 @@ module _ (g : Geometry) where
       where-accepted (ownStore g) (g .pages) M
       (λ a l e.
       let A = accepted-is g (withOut M (a .out)) (a .call) l e .0 in
-      laws-back (ownStore g) (model g) own-simulation (g .pages) M tt
+      laws-back (ownStore g) (model g) (own-simulation g) (g .pages) M tt
       (reading-laws g (A .inside) (stateOf g (M .tables)) (sound-fine g (M .tables) (M .log) (A .sound))))
 
 -- THE READING LAWS

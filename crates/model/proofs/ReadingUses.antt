@@ -9,78 +9,87 @@ use Rattle.answer.proofs.Cases.{cases}
 use Rattle.geometry.specs.declared.Geometry.{Geometry}
 use Rattle.geometry.specs.Limits.{Inside}
 use Rattle.model.specs.Memory.{Memory, reply, after}
-use Rattle.model.specs.Book.{Some}
-use Rattle.model.specs.History.{Machine, stateFrom, historyFrom}
-use Rattle.model.specs.ReadingLaws.{Shows, Changes, Touches, Opens, ReadingLaws}
+use Rattle.model.specs.History.{Machine, stateFrom}
+use Rattle.model.specs.ReadingLaws.{Shows, Changes, Seals, Touched, Opens, ReadingLaws}
 use Rattle.model.specs.Demand.{Request, metBy, machine, Own, withOut, run}
 use Rattle.model.specs.State.{fresh}
 use Rattle.model.specs.Model.{answer, model}
 use Rattle.model.specs.declared.Call.{Call}
-use Rattle.model.specs.declared.Call.the-variants.{Begin, Write, Erase, Seal, Fork, Delete, Read}
+use Rattle.model.specs.declared.Call.the-variants.{Begin, Write, Erase, Seal, Fork, Delete, Read, Retain}
 use Rattle.model.proofs.StepFacts.{fresh-fine}
 use Rattle.model.proofs.ReadingFacts.{reading-laws, fine-from}
 use Rattle.model.proofs.ReadingProof.{reading}
 use Rattle.model.proofs.PaperExample.{small, fine, repliesTo}
 
--- calls none of which changes page x of record r
+-- a call that does not change page x of record r, and is no S
+abbrev Leaves : ℕ → ℕ → Call → Type 0
+Leaves r x c = (Changes r x c → ⊥) × (Seals c → ⊥)
+
 abbrev Spares : ℕ → ℕ → List Call → Type 0
 Spares r x [] = Unit {0}
-Spares r x (c ∷ cs) = (Changes r x c → ⊥) × Spares r x cs
+Spares r x (c ∷ cs) = Leaves r x c × Spares r x cs
 
--- such are S and F, W and E of another page, and D of another record
+-- such are F, W and E of another page, and D of another record
+by-F : (q r x : ℕ) → Leaves r x (Fork q)
+by-F q r x = (changed, sealed)
+  where
+    changed : Changes r x (Fork q) → ⊥
+    changed (inl (k, e)) = let z : _≡_ {A = ℕ} 0 1 = cc in omega arith
+    changed (inr (inl e)) = let z : _≡_ {A = ℕ} 0 1 = cc in omega arith
+    changed (inr (inr e)) = let z : _≡_ {A = ℕ} 0 1 = cc in omega arith
+
+    sealed : Seals (Fork q) → ⊥
+    sealed (p, e) = let z : _≡_ {A = ℕ} 0 1 = cc in omega arith
+
+by-W : (q y k r x : ℕ) → (q ≡ r → y ≡ x → ⊥) → Leaves r x (Write q y k)
+by-W q y k r x n = (changed, sealed)
+  where
+    changed : Changes r x (Write q y k) → ⊥
+    changed (inl (j, e)) = n (cc) (cc)
+    changed (inr (inl e)) = let z : _≡_ {A = ℕ} 0 1 = cc in omega arith
+    changed (inr (inr e)) = let z : _≡_ {A = ℕ} 0 1 = cc in omega arith
+
+    sealed : Seals (Write q y k) → ⊥
+    sealed (p, e) = let z : _≡_ {A = ℕ} 0 1 = cc in omega arith
+
+by-E : (q y r x : ℕ) → (q ≡ r → y ≡ x → ⊥) → Leaves r x (Erase q y)
+by-E q y r x n = (changed, sealed)
+  where
+    changed : Changes r x (Erase q y) → ⊥
+    changed (inl (j, e)) = let z : _≡_ {A = ℕ} 0 1 = cc in omega arith
+    changed (inr (inl e)) = n (cc) (cc)
+    changed (inr (inr e)) = let z : _≡_ {A = ℕ} 0 1 = cc in omega arith
+
+    sealed : Seals (Erase q y) → ⊥
+    sealed (p, e) = let z : _≡_ {A = ℕ} 0 1 = cc in omega arith
+
+by-D : (q r x : ℕ) → (q ≡ r → ⊥) → Leaves r x (Delete q)
+by-D q r x n = (changed, sealed)
+  where
+    changed : Changes r x (Delete q) → ⊥
+    changed (inl (j, e)) = let z : _≡_ {A = ℕ} 0 1 = cc in omega arith
+    changed (inr (inl e)) = let z : _≡_ {A = ℕ} 0 1 = cc in omega arith
+    changed (inr (inr e)) = n (cc)
+
+    sealed : Seals (Delete q) → ⊥
+    sealed (p, e) = let z : _≡_ {A = ℕ} 0 1 = cc in omega arith
+
+-- S changes no page: it may take the record only
 by-S : (q r x : ℕ) → Changes r x (Seal q) → ⊥
 by-S q r x (inl (k, e)) = let z : _≡_ {A = ℕ} 0 1 = cc in omega arith
 by-S q r x (inr (inl e)) = let z : _≡_ {A = ℕ} 0 1 = cc in omega arith
 by-S q r x (inr (inr e)) = let z : _≡_ {A = ℕ} 0 1 = cc in omega arith
 
-by-F : (q r x : ℕ) → Changes r x (Fork q) → ⊥
-by-F q r x (inl (k, e)) = let z : _≡_ {A = ℕ} 0 1 = cc in omega arith
-by-F q r x (inr (inl e)) = let z : _≡_ {A = ℕ} 0 1 = cc in omega arith
-by-F q r x (inr (inr e)) = let z : _≡_ {A = ℕ} 0 1 = cc in omega arith
-
-by-W : (q y k r x : ℕ) → (q ≡ r → y ≡ x → ⊥) → Changes r x (Write q y k) → ⊥
-by-W q y k r x n (inl (j, e)) = n (cc) (cc)
-by-W q y k r x n (inr (inl e)) = let z : _≡_ {A = ℕ} 0 1 = cc in omega arith
-by-W q y k r x n (inr (inr e)) = let z : _≡_ {A = ℕ} 0 1 = cc in omega arith
-
-by-E : (q y r x : ℕ) → (q ≡ r → y ≡ x → ⊥) → Changes r x (Erase q y) → ⊥
-by-E q y r x n (inl (j, e)) = let z : _≡_ {A = ℕ} 0 1 = cc in omega arith
-by-E q y r x n (inr (inl e)) = n (cc) (cc)
-by-E q y r x n (inr (inr e)) = let z : _≡_ {A = ℕ} 0 1 = cc in omega arith
-
-by-D : (q r x : ℕ) → (q ≡ r → ⊥) → Changes r x (Delete q) → ⊥
-by-D q r x n (inl (j, e)) = let z : _≡_ {A = ℕ} 0 1 = cc in omega arith
-by-D q r x n (inr (inl e)) = let z : _≡_ {A = ℕ} 0 1 = cc in omega arith
-by-D q r x n (inr (inr e)) = n (cc)
-
 -- the ends of the script below
-spared-1-0 : Spares 1 0 (Seal 1 ∷ Fork 1 ∷ Erase 2 0 ∷ Write 3 1 0 ∷ Delete 2 ∷ [])
-spared-1-0 = (
-  by-S 1 1 0,
-  (
-    by-F 1 1 0,
-    (
-      by-E 2 0 1 0 (λ e d. omega arith),
-      (
-        by-W 3 1 0 1 0 (λ e d. omega arith),
-        (by-D 2 1 0 (λ e. omega arith), tt),
-      ),
-    ),
-  ),
-)
+abbrev afterS : List Call
+afterS = Fork 1 ∷ Erase 2 0 ∷ Write 3 1 0 ∷ Delete 2 ∷ []
 
-spared-1-1 : Spares 1 1 (Write 1 0 0 ∷ Seal 1 ∷ Fork 1 ∷ Erase 2 0 ∷ Write 3 1 0 ∷ Delete 2 ∷ [])
-spared-1-1 = (
-  by-W 1 0 0 1 1 (λ e d. omega arith),
+spared-1 : (x : ℕ) → Spares 1 x (Fork 1 ∷ Erase 2 0 ∷ Write 3 1 0 ∷ Delete 2 ∷ [])
+spared-1 x = (
+  by-F 1 1 x,
   (
-    by-S 1 1 1,
-    (
-      by-F 1 1 1,
-      (
-        by-E 2 0 1 1 (λ e d. omega arith),
-        (by-W 3 1 0 1 1 (λ e d. omega arith), (by-D 2 1 1 (λ e. omega arith), tt)),
-      ),
-    ),
+    by-E 2 0 1 x (λ e d. omega arith),
+    (by-W 3 1 0 1 x (λ e d. omega arith), (by-D 2 1 x (λ e. omega arith), tt)),
   ),
 )
 
@@ -96,11 +105,21 @@ module _ (M : Machine) (ask : Call → M .Asked) (asks : (c : Call) → M .call 
   abbrev pub at : List Call → M .Tables
   at cs = stateFrom M T (map ask cs)
 
-  -- calls that do not change the page do not touch it
-  untouched : (r x : ℕ) (cs : List Call) → Spares r x cs → (U : M .Tables) → Some (Touches r x) (historyFrom M U (map ask cs)) → ⊥
+  -- such calls do not touch the page
+  untouched : (r x : ℕ) (cs : List Call) → Spares r x cs → (U : M .Tables) → Touched M U r x (map ask cs) → ⊥
   untouched r x [] n U s = s
   untouched r x (c ∷ cs) n U s =
-      cases s (λ w. n .0 (subst (Changes r x) (asks c) (w .1))) (λ j. untouched r x cs (n .1) (M .after U (ask c)) j)
+      cases s
+      (λ w. cases (w .1) (λ d. n .0 .0 (subst (Changes r x) (asks c) d)) (λ d. n .0 .1 (subst Seals (asks c) (d .0))))
+      (λ j. untouched r x cs (n .1) (M .after U (ask c)) j)
+
+  -- nor do an S after which the record is read, and such calls
+  past-S : (q r x : ℕ) (l : List ℕ) (cs : List Call) → Spares r x cs → (U : M .Tables) →
+      M .answer (M .after U (ask (Seal q))) (ask (Read r x)) ≡ accepted l → Touched M U r x (map ask (Seal q ∷ cs)) → ⊥
+  past-S q r x l cs n U e s =
+      cases s
+      (λ w. cases (w .1) (λ d. by-S q r x (subst (Changes r x) (asks (Seal q)) d)) (λ d. d .1 .unread (ask (Read r x)) l (asks (Read r x)) e))
+      (λ j. untouched r x cs n (M .after U (ask (Seal q))) j)
 
   -- the script is B · W 1 0 0 · S 1 · F 1 · E 2 0 · W 3 1 0 · D 2, on a store with no record yet, and what is heard of it: b and c are the blocks given
   pub record Heard (b c : ℕ) : Type 0 where
@@ -116,6 +135,9 @@ module _ (M : Machine) (ask : Call → M .Asked) (asks : (c : Call) → M .call 
     pub before-seal : M .answer (at (Begin ∷ Write 1 0 0 ∷ [])) (ask (Read 1 0)) ≡ accepted first
     pub second : List ℕ
     pub before-fork : M .answer (at (Begin ∷ Write 1 0 0 ∷ Seal 1 ∷ [])) (ask (Read 1 0)) ≡ accepted second
+    -- and page 1, after S: no window took record 1
+    pub other : List ℕ
+    pub other-page : M .answer (at (Begin ∷ Write 1 0 0 ∷ Seal 1 ∷ [])) (ask (Read 1 1)) ≡ accepted other
 
   -- it obeys the laws after any calls
   module _ (P : ℕ) (laws : (cs : List Call) → ReadingLaws M P (stateFrom M T (map ask cs))) (pages : 1 < P) (b c : ℕ) (H : Heard b c) where
@@ -127,14 +149,16 @@ module _ (M : Machine) (ask : Call → M .Asked) (asks : (c : Call) → M .call 
     on-1 =
         laws (Begin ∷ []) .written (ask (Write 1 0 0)) 1 0 0 b (1 ∷ []) (asks (Write 1 0 0)) (H .write)
         (map ask (Seal 1 ∷ Fork 1 ∷ Erase 2 0 ∷ Write 3 1 0 ∷ Delete 2 ∷ []))
-        (untouched 1 0 (Seal 1 ∷ Fork 1 ∷ Erase 2 0 ∷ Write 3 1 0 ∷ Delete 2 ∷ []) spared-1-0 (at (Begin ∷ Write 1 0 0 ∷ [])))
+        (past-S 1 1 0 (H .second) afterS (spared-1 0) (at (Begin ∷ Write 1 0 0 ∷ [])) (H .before-fork))
 
     -- begun: the page that nothing was written on
     pub on-1-1 : Shows M (at whole) 1 1 []
     on-1-1 =
         laws [] .begun (ask Begin) 1 1 [] (asks Begin) (H .begin) pages
         (map ask (Write 1 0 0 ∷ Seal 1 ∷ Fork 1 ∷ Erase 2 0 ∷ Write 3 1 0 ∷ Delete 2 ∷ []))
-        (untouched 1 1 (Write 1 0 0 ∷ Seal 1 ∷ Fork 1 ∷ Erase 2 0 ∷ Write 3 1 0 ∷ Delete 2 ∷ []) spared-1-1 (at (Begin ∷ [])))
+        (λ s. cases s
+        (λ w. untouched 1 1 (Write 1 0 0 ∷ []) (by-W 1 0 0 1 1 (λ e d. omega arith), tt) (at (Begin ∷ [])) (inl w))
+        (λ j. past-S 1 1 1 (H .other) afterS (spared-1 1) (at (Begin ∷ Write 1 0 0 ∷ [])) (H .other-page) j))
 
     -- the two readings before S and before F gave the W's block
     first-is : H .first ≡ b ∷ 1 ∷ []
@@ -146,7 +170,7 @@ module _ (M : Machine) (ask : Call → M .Asked) (asks : (c : Call) → M .call 
     second-is : H .second ≡ H .first
     second-is =
         laws (Begin ∷ Write 1 0 0 ∷ []) .stays (ask (Read 1 0)) 1 0 (H .first) (asks (Read 1 0)) (H .before-seal)
-        (map ask (Seal 1 ∷ [])) (untouched 1 0 (Seal 1 ∷ []) (by-S 1 1 0, tt) (at (Begin ∷ Write 1 0 0 ∷ [])))
+        (map ask (Seal 1 ∷ [])) (past-S 1 1 0 (H .second) [] tt (at (Begin ∷ Write 1 0 0 ∷ [])) (H .before-fork))
         .gives (ask (Read 1 0)) (H .second) (asks (Read 1 0)) (H .before-fork)
 
     -- sealed: record 2 reads as record 1 did, until the E
@@ -219,6 +243,43 @@ module _ (M : Machine) (ask : Call → M .Asked) (asks : (c : Call) → M .call 
     no-3-yet x l e =
         laws (Begin ∷ Write 1 0 0 ∷ Seal 1 ∷ []) .unread (ask (Fork 1)) (ask (Read 3 x)) 3 x [] l (inr (inr (1, asks (Fork 1)))) (H .fork) (asks (Read 3 x)) e
 
+  -- ── with a window: the script is B · W 1 0 0 · K 1 1 · S 1 · S 2 ──
+
+  abbrev pub sealedOnce : List Call
+  sealedOnce = Begin ∷ Write 1 0 0 ∷ Retain 1 1 ∷ Seal 1 ∷ []
+
+  abbrev pub sealedTwice : List Call
+  sealedTwice = Begin ∷ Write 1 0 0 ∷ Retain 1 1 ∷ Seal 1 ∷ Seal 2 ∷ []
+
+  -- what is heard: the two records are read before S 2, and record 1 is refused with 8 after it
+  pub record HeardWindow (n : ℕ) (rest : List ℕ) : Type 0 where
+    pub seal : M .answer (at sealedOnce) (ask (Seal 2)) ≡ accepted (n ∷ rest)
+    pub one : List ℕ
+    pub read-1 : M .answer (at sealedOnce) (ask (Read 1 0)) ≡ accepted one
+    pub two : List ℕ
+    pub read-2 : M .answer (at sealedOnce) (ask (Read 2 0)) ≡ accepted two
+    pub taken-1 : M .answer (at sealedTwice) (ask (Read 1 0)) ≡ refused 8
+
+  module _ (P : ℕ) (laws : (cs : List Call) → ReadingLaws M P (stateFrom M T (map ask cs))) (n : ℕ) (rest : List ℕ) (H : HeardWindow n rest) where
+    -- taken: record 1 is read no more, whatever is called
+    pub never-1 : (cs : List Call) (x : ℕ) (l : List ℕ) → M .answer (stateFrom M (at sealedTwice) (map ask cs)) (ask (Read 1 x)) ≡ accepted l → ⊥
+    never-1 cs x l e =
+        laws sealedOnce .taken (ask (Seal 2)) (ask (Read 1 0)) (ask (Read 1 0)) 1 0 0 (H .one) (asks (Read 1 0)) (H .read-1)
+        (asks (Read 1 0)) (H .taken-1) (map ask cs) (ask (Read 1 x)) x l (asks (Read 1 x)) e
+
+    -- kept: record 2 reads as it did, if it is there, and is refused with nothing but 8, if it is not
+    pub two-kept : (l : List ℕ) → M .answer (at sealedTwice) (ask (Read 2 0)) ≡ accepted l → l ≡ H .two
+    two-kept l e =
+        cases (laws sealedOnce .kept (ask (Seal 2)) (ask (Read 2 0)) 2 2 0 (H .two) (n ∷ rest) (asks (Seal 2)) (H .seal) (asks (Read 2 0)) (H .read-2))
+        (λ s. s .gives (ask (Read 2 0)) l (asks (Read 2 0)) e)
+        (λ w. absurd (w .unread (ask (Read 2 0)) l (asks (Read 2 0)) e))
+
+    pub two-not-7 : M .answer (at sealedTwice) (ask (Read 2 0)) ≡ refused 7 → ⊥
+    two-not-7 e =
+        cases (laws sealedOnce .kept (ask (Seal 2)) (ask (Read 2 0)) 2 2 0 (H .two) (n ∷ rest) (asks (Seal 2)) (H .seal) (asks (Read 2 0)) (H .read-2))
+        (λ s. omega (arith, s .there (ask (Read 2 0)) 7 (asks (Read 2 0)) e))
+        (λ w. cases (w .eight (ask (Read 2 0)) 7 (asks (Read 2 0)) e) (λ z. omega (arith, z)) (λ z. omega (arith, z)))
+
 -- ── the listing's store is asked this script, and answers so ──
 
 listed : Heard (model small) fine (λ c. refl) (fresh small) 0 1
@@ -235,6 +296,19 @@ listed = record {
   before-seal = refl;
   second = 0 ∷ 1 ∷ [];
   before-fork = refl;
+  other = [];
+  other-page = refl;
+}
+
+windowed : HeardWindow (model small) fine (λ c. refl) (fresh small) 3 []
+unfolding repliesTo
+windowed = record {
+  seal = refl;
+  one = 0 ∷ 1 ∷ [];
+  read-1 = refl;
+  two = 0 ∷ 1 ∷ [];
+  read-2 = refl;
+  taken-1 = refl;
 }
 
 inside : Inside small
@@ -264,6 +338,12 @@ pub fork-of-the-listing : (l : List ℕ) →
     let cs = Begin ∷ Write 1 0 0 ∷ Seal 1 ∷ Fork 1 ∷ Erase 2 0 ∷ Write 3 1 0 ∷ Delete 2 ∷ [] in
     answer small (stateFrom (model small) (fresh small) (map fine cs)) (fine (Read 3 0)) ≡ accepted l → l ≡ 0 ∷ 1 ∷ []
 fork-of-the-listing = on-3 (model small) fine (λ c. refl) (fresh small) 2 obeys (omega arith) 0 1 listed
+
+-- and record 1, which its window took, is read no more
+pub taken-in-the-listing : (cs : List Call) (x : ℕ) (l : List ℕ) →
+    let once = Begin ∷ Write 1 0 0 ∷ Retain 1 1 ∷ Seal 1 ∷ Seal 2 ∷ [] in
+    answer small (stateFrom (model small) (stateFrom (model small) (fresh small) (map fine once)) (map fine cs)) (fine (Read 1 x)) ≡ accepted l → ⊥
+taken-in-the-listing = never-1 (model small) fine (λ c. refl) (fresh small) 2 obeys 3 [] windowed
 
 -- ── the calls as they are made ──
 

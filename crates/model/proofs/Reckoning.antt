@@ -9,9 +9,11 @@ use Rattle.geometry.specs.declared.Geometry.{Geometry}
 use Rattle.model.specs.Lists.{elem}
 use Rattle.model.specs.Held.{waits, frees}
 use Rattle.model.specs.State.{State, fresh}
-use Rattle.model.specs.Calls.{Account, looking, opening, freeing, placing, marking, renewing, account, leftBy, writing, acted, given, logged, effect}
-use Rattle.model.specs.History.{free, Entry, entryOf, eventsOf, stateFrom, historyFrom, wasAccepted, freedAmong, syncsBy, syncs, synced?}
-use Rattle.model.specs.History.{unsyncedAfter, unsyncedFrom, unsynced}
+use Rattle.model.specs.Calls.{Account, looking, opening, freeing, closing, placing, marking, renewing, account, leftBy, freedClosing, writing, acted}
+use Rattle.model.specs.Calls.{given, logged, effect}
+use Rattle.model.specs.Window.{actedAll}
+use Rattle.model.specs.History.{free, Entry, entryOf, eventsOf, stateFrom, historyFrom, wasAccepted, freedAmong, syncsBy, syncs, synced?, unsyncedAfter}
+use Rattle.model.specs.History.{unsyncedFrom, unsynced}
 use Rattle.model.specs.Model.{Screened, answer, keepOr, modelAfter, model, stateAfter, history}
 use Rattle.model.specs.Births.{movesBy, moves}
 use Rattle.model.specs.declared.Call.{Call}
@@ -37,10 +39,11 @@ same-or T b = sym (or-false (elem b (T .waiting)))
 
 waits-by : (g : Geometry) (T : State) (c : Call) (A : Account) → Is c A → (b : ℕ) →
     waits (leftBy g T A) b ≡ cond (syncsBy A) false (waits T b || freedAmong b (movesBy g T A))
-unfolding waits acted given logged elem
-waits-by g T c (looking s cs res) f b = same-or T b
+unfolding waits acted actedAll given logged elem
+waits-by g T c (looking s cs res note) f b = same-or T b
 waits-by g T c (opening cs a) f b = ap (λ l. elem b (T .waiting ++ l)) (opens (T .view) (a T) (f T .0) .empty) ∙ joins T b []
 waits-by g T c (freeing cs a) f b = joins T b (frees (T .view) (a T))
+waits-by g T c (closing r) f b = joins T b (freedClosing T r)
 waits-by g T c (placing r x k) f b = joins T b (frees (T .view) (writing g T r x k))
 waits-by g T c marking f b = refl
 waits-by g T c renewing f b = refl

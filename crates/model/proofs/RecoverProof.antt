@@ -21,10 +21,10 @@ use Rattle.log.specs.Tool.{readable, marksOf}
 use Rattle.model.specs.Table.{all}
 use Rattle.model.specs.Held.{held}
 use Rattle.model.specs.Check.{same, good?}
-use Rattle.model.specs.Layout.{need, stateOf, stored}
-use Rattle.model.specs.Calls.{conditions, result, written, effect}
-use Rattle.model.specs.Memory.{Memory, lent, short?, numbers?, range?, waiting?, free?, logHolds?, sound?, usedLog, wordsUsed, writtenAt}
-use Rattle.model.specs.Memory.{reply, after, makeAfter}
+use Rattle.model.specs.Layout.{need, stateOf}
+use Rattle.model.specs.Calls.{conditions, result, written}
+use Rattle.model.specs.Memory.{Memory, lent, short?, numbers?, range?, waiting?, windows?, free?, logHolds?, sound?, usedLog, wordsUsed, writtenAt}
+use Rattle.model.specs.Memory.{reply, storedBy, after, makeAfter}
 use Rattle.model.specs.SoundStore.{SoundStore}
 use Rattle.model.specs.Book.{Some}
 use Rattle.model.specs.History.{Entry, entryOf, historyFrom}
@@ -71,8 +71,8 @@ module _ (g : Geometry) where
   unfolding sound? logHolds?
   same-sound t x y e =
       let T = stateOf g t in
-      ap (λ (u : List ℕ). numbers? g t && (range? g T && (good? (T .view) && (waiting? T && (free? T t &&
-      (readable g u && all (blocks g) (λ b. same (heldIn (marksOf g u) b) (held (T .view) b)))))))) e
+      ap (λ (u : List ℕ). numbers? g t && (range? g T && (good? (T .view) && (waiting? T && (windows? (T .view) (T .notes) && (free? T t &&
+      (readable g u && all (blocks g) (λ b. same (heldIn (marksOf g u) b) (held (T .view) b))))))))) e
 
   module _ (t x y : List ℕ) (e : usedLog (stateOf g t) x ≡ usedLog (stateOf g t) y) (lx : 8 * g .words ≤ length x) (ly : 8 * g .words ≤ length y) where
     same-short : (out : List ℕ) → short? g (lent t x out) ≡ short? g (lent t y out)
@@ -105,7 +105,7 @@ module _ (g : Geometry) where
   -- what a call with the reply r leaves
   unfoldable left : Own → Reply → List ℕ → List ℕ → Memory
   left a r t log = record {
-    tables = leaves r t (stored g (effect g (stateOf g t) (a .call)) t);
+    tables = leaves r t (storedBy g t (a .call));
     log = leaves r log (writeAt log (writtenAt (stateOf g t) (a .call)) (bytesOf (written g (stateOf g t) (a .call))));
     out = leaves r (a .out) (sets (a .out) 0 (result g (stateOf g t) (a .call)));
   }
@@ -161,6 +161,7 @@ other-log g t x y e S = record {
   range = S .range;
   means = S .means;
   waiting = S .waiting;
+  windows = S .windows;
   free = S .free;
   logged = subst (λ l. Reads (g .arenas) (g .per) l (held (stateOf g t .view))) (sym e) (S .logged);
 }

@@ -12,7 +12,7 @@ use Rattle.answer.proofs.Cases.{cases}
 use Rattle.geometry.specs.declared.Geometry.{Geometry}
 use Rattle.model.specs.Memory.{Memory, reply, after, makeReply, makeAfter}
 use Rattle.model.specs.Book.{Some, OnPage}
-use Rattle.model.specs.History.{Entry, entryOf, book, wasAccepted}
+use Rattle.model.specs.History.{Entry, book, wasAccepted}
 use Rattle.model.specs.HistoryFacts.{Synced, Gives}
 use Rattle.model.specs.UsedWords.{usedBy}
 use Rattle.model.specs.Demand.{Own, withOut, ownStore, run}
@@ -69,10 +69,11 @@ module _ (g : Geometry) (M : Memory) (made : makeReply g M ≡ accepted []) (out
       (λ k. cases k (λ e. and-false (wasAccepted (reply g (withOut (run g E (mid out ++ (ask out Barrier ∷ []))) out) (Write 1 1 0))) e) (λ z. z)))
 
   -- a Y touches no page
-  no-touch : (e : Entry) → e .call ≡ Barrier → Touches 1 0 e → ⊥
-  no-touch e y (done, inl (k, w)) = let z : _≡_ {A = ℕ} 0 1 = cc in omega arith
-  no-touch e y (done, inr (inl w)) = let z : _≡_ {A = ℕ} 0 1 = cc in omega arith
-  no-touch e y (done, inr (inr w)) = let z : _≡_ {A = ℕ} 0 1 = cc in omega arith
+  no-touch : (U : Memory) → Touches (ownStore g) U 1 0 (ask out Barrier) → ⊥
+  no-touch U (done, inl (inl (k, w))) = let z : _≡_ {A = ℕ} 0 1 = cc in omega arith
+  no-touch U (done, inl (inr (inl w))) = let z : _≡_ {A = ℕ} 0 1 = cc in omega arith
+  no-touch U (done, inl (inr (inr w))) = let z : _≡_ {A = ℕ} 0 1 = cc in omega arith
+  no-touch U (done, inr ((q, w), lost)) = let z : _≡_ {A = ℕ} 0 1 = cc in omega arith
 
   module _ (log : List ℕ) (long : 8 * g .words ≤ length log) (front : Front g M out log (usedAfter g (makeAfter g M) (early out))) where
     recovered : Recovered g (makeAfter g M) (early out) (late out) log
@@ -99,7 +100,7 @@ module _ (g : Geometry) (M : Memory) (made : makeReply g M ≡ accepted []) (out
         let (lent, own) = reading g in
         let written = run g (makeAfter g M) (ask out Begin ∷ ask out (Write 1 0 0) ∷ []) in
         own (run g (makeAfter g M) (ask out Begin ∷ [])) .written (ask out (Write 1 0 0)) 1 0 0 b (1 ∷ []) refl w (ask out Barrier ∷ [])
-        (λ i. cases i (λ t. no-touch (entryOf (ownStore g) written (ask out Barrier)) refl t) (λ z. z))
+        (λ i. cases i (λ t. no-touch written t) (λ z. z))
         .gives (ask out (Read 1 0)) l refl (sym (as-saved (Read 1 0)) ∙ e)
 
     -- the tables and the result buffer: after one call more the host saves what it would have saved

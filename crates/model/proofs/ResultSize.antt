@@ -1,4 +1,4 @@
--- How many numbers an accepted call gives: at most two for each block, or four, so a result buffer that is long enough has room for them.
+-- How many numbers an accepted call gives: at most one and two for each block, or four, so a result buffer that is long enough has room for them.
 use mathlib.Core.Path.{_≡_, subst}
 use mathlib.Core.Logic.{inl, inr}
 use mathlib.Core.List.{List}
@@ -13,11 +13,13 @@ use Rattle.geometry.specs.Limits.{Inside, blocks}
 use Rattle.model.specs.Results.{paired}
 use Rattle.model.specs.Held.{erased, frees}
 use Rattle.model.specs.State.{State}
-use Rattle.model.specs.Calls.{Account, looking, opening, freeing, placing, marking, renewing, account, refusalsBy, resultBy, slot, conditions, result}
+use Rattle.model.specs.Calls.{Account, looking, opening, freeing, closing, placing, marking, renewing, account, refusalsBy, resultBy, slot}
+use Rattle.model.specs.Calls.{freedClosing, conditions, result}
 use Rattle.model.specs.Layout.{stateOf}
 use Rattle.model.specs.Memory.{Memory, reply}
 use Rattle.model.specs.declared.Call.{Call}
 use Rattle.model.proofs.CallKinds.{none-left, frees-only}
+use Rattle.model.proofs.Closing.{closing-first, closing-few}
 use Rattle.model.proofs.EachCall.{Is, is, Fits, fits}
 use Rattle.model.proofs.Fine.{Fine}
 pub use Rattle.model.proofs.Few.{erased-one, Few}
@@ -44,7 +46,7 @@ module _ (g : Geometry) (inside : Inside g) (T : State) (R : Fine g T) where
       )
 
   few-by : (c : Call) (A : Account) → Is c A → Fits g T c A → NoneHolds (refusalsBy g T A) → Few g (resultBy g T A)
-  few-by c (looking s cs res) i f n = f n .0
+  few-by c (looking s cs res note) i f n = f n .0
   few-by c (opening cs a) i f n = inl (omega (arith, some))
   few-by c (freeing cs a) i f n =
       let q = f (none-left (cs g T) _ n) .asks in
@@ -54,6 +56,8 @@ module _ (g : Geometry) (inside : Inside g) (T : State) (R : Fine g T) where
         frees-few (T .view) (a T) (R .sound) q (frees-only (T .view) (a T) (R .sound) (i g T .0) .no-gift),
         R .blocks,
       ))
+  few-by c (closing r) i f n =
+      inl (omega (arith, paired-length (T .view .birth) (freedClosing T r), closing-few g inside T R r (closing-first g T r n), R .blocks))
   few-by c (placing r x k) i f n = inr (omega (arith, one-erased r x))
   few-by c marking i f n = inl (omega arith)
   few-by c renewing i f n = inl (omega (arith, some))

@@ -25,10 +25,11 @@ use Rattle.model.specs.Deadlists.{shard}
 use Rattle.model.specs.SoundMeans.{Live}
 use Rattle.model.specs.RefusalMeans.{There}
 use Rattle.model.specs.Held.{waits, tally}
-use Rattle.model.specs.Results.{paired, blocksIn, born, bornIn, itemsOf}
-use Rattle.model.specs.Calls.{Account, looking, opening, freeing, placing, marking, renewing, account, spelling}
+use Rattle.model.specs.Lists.{afterFirst}
+use Rattle.model.specs.Results.{paired, blocksIn, blocksOf, born, bornIn, itemsOf}
+use Rattle.model.specs.Calls.{Account, looking, opening, freeing, closing, placing, marking, renewing, account, spelling}
 use Rattle.model.specs.Book.{Some, Book, OnPage, emptyBook, enter, openLine, pageSet, inLine, setPage, inRecs, inLines, recSealed, sealRec}
-use Rattle.model.specs.Book.{recOut, dropRec, keepLine, dropIn}
+use Rattle.model.specs.Book.{recOut, dropRec, keepLine, dropIn, windowWith, takenOut, recsOut, trimmed}
 use Rattle.model.specs.History.{Machine, Event, give, free, Entry, entryOf, stateFrom, historyFrom, events, book, syncs, unsynced}
 use Rattle.model.specs.History.{NotFreed, Standing, Demand3}
 use Rattle.model.specs.HistoryFacts.{HistoryFacts, givenIn, freedIn, different, onFirst, onRecs, onLines, Sealed, Gave, Names, LastGave}
@@ -47,7 +48,7 @@ use Rattle.model.specs.declared.Call.the-variants.{Begin, Write, Erase, 
 use Rattle.model.proofs.ListFacts.{rising-same}
 use Rattle.model.proofs.EachCall.{Is, is}
 use Rattle.model.proofs.Keeps.{making-is}
-use Rattle.model.proofs.Demands.{demand, waits-means, sound-not-4, never-4}
+use Rattle.model.proofs.Demands.{demand, own-facts, waits-means, sound-not-4, never-4}
 use Rattle.model.proofs.AnyMemoryProof.{fresh-sound, keeps-sound, room}
 use Rattle.model.proofs.CrashProof.{crash}
 use Rattle.model.proofs.HistoryChoiceProof.{choice}
@@ -93,7 +94,9 @@ given-twice =
 
 -- the book of what was heard: to unfold it is to unfold all that it is told by
 unfoldable pub bookHeard : List Entry → Book
-unfolding put emptyBook enter openLine pageSet inLine setPage inRecs inLines recSealed sealRec recOut dropRec keepLine dropIn blocksIn
+unfolding put emptyBook enter openLine pageSet inLine setPage inRecs inLines recSealed sealRec recOut dropRec keepLine dropIn blocksIn windowWith takenOut
+    recsOut trimmed
+    afterFirst
 bookHeard H = book 2 H
 
 -- ── lists that are written out ──
@@ -134,9 +137,10 @@ unfoldable giverBy : ℕ → ℕ → Account → Reply → ℕ
 giverBy b v (placing r x k) (accepted (c ∷ l)) = cond (eqb c b) r v
 giverBy b v (placing r x k) (accepted []) = v
 giverBy b v (placing r x k) (refused n) = v
-giverBy b v (looking s cs res) a = v
+giverBy b v (looking s cs res note) a = v
 giverBy b v (opening cs d) a = v
 giverBy b v (freeing cs d) a = v
+giverBy b v (closing r) a = v
 giverBy b v marking a = v
 giverBy b v renewing a = v
 
@@ -162,9 +166,10 @@ gives-not b v c (placing r x k) (accepted (d ∷ l)) i n =
     rw (ne-eqb d b (λ e. n r (x, k, l, i, ap (λ (f : ℕ). accepted (f ∷ l)) e)))
 gives-not b v c (placing r x k) (accepted []) i n = refl
 gives-not b v c (placing r x k) (refused m) i n = refl
-gives-not b v c (looking s cs res) a i n = refl
+gives-not b v c (looking s cs res note) a i n = refl
 gives-not b v c (opening cs d) a i n = refl
 gives-not b v c (freeing cs d) a i n = refl
+gives-not b v c (closing r) a i n = refl
 gives-not b v c marking a i n = refl
 gives-not b v c renewing a i n = refl
 
@@ -342,6 +347,12 @@ module _ (M : Memory) (made : makeReply two M ≡ accepted []) where
       reply two (metBy (lent-at before) c) (c .call) ≡ accepted l → i .call ≡ Write r x k →
       reply two (metBy (lent-at (before ++ (c ∷ []))) i) (i .call) ≡ refused 14 → ⊥
   lent-room = room-W (machine two) (makeAfter two M .tables) (demand two M made)
+
+  -- `own-facts`: the same of a store that keeps its own log
+  pub own-full : (before : List Own) → historyFrom (ownStore two) (makeAfter two M) before ≡ one-waits → (w : Own) (r x k : ℕ) →
+      w .call ≡ Write r x k → NoneBefore 13 (allConditions two (withOut (stateFrom (ownStore two) (makeAfter two M) before) (w .out)) (w .call)) →
+      reply two (withOut (stateFrom (ownStore two) (makeAfter two M) before) (w .out)) (w .call) ≡ refused 13
+  own-full = full-now (ownStore two) (makeAfter two M) (own-facts two M made)
 
   -- `waits-means`, both ways: the tables say that block 0 waits, and say no longer so once a Y was accepted
   pub lent-waits : (l : List Request) → historyFrom (machine two) (makeAfter two M .tables) l ≡ one-freed → waits (stateOf two (lent-at l)) 0 ≡ true
@@ -746,7 +757,7 @@ module _ (g : Geometry) (M : Memory) (r b v : ℕ) (done : reply g M (Delete r) 
 
   -- `log-as-before`: one word, a free of b; the birth is no part of it
   pub D-writes-free : after g M (Delete r) .log ≡ writeAt (M .log) (8 * wordsUsed M) (bytesOf (released b ∷ []))
-  unfolding blocksIn
+  unfolding blocksIn blocksOf
   D-writes-free = log-as-before g M (Delete r) (b ∷ v ∷ []) (λ e. false≢true (ap syncs e)) done
 
 -- ── what was taken as heard is what the model answers ──

@@ -6,6 +6,7 @@
 --   64-127       free words: bit i of word k is 1 exactly where block 32 k + i may be given
 --   192, 256, 320, 384, 448    columns of 64 slots: number (0: empty slot), open (1) or sealed (0), record before it in its line (a link), base
 --                (a link), length of the deadlist
+--   576          a column of 64 slots: the window of the line, where the record is open (0: none)
 --   2048         pages, 256 a slot (block + 1, 0 for nothing)
 --   2048 + 256 R deadlists, 256 a slot: the first `length` numbers of a row are the blocks, in the order of joining
 --   2048 + 512 R births (0: on no page)
@@ -22,7 +23,7 @@ use Rattle.geometry.specs.Limits.{blocks}
 use Rattle.choice.specs.Words.{wordOf}
 use Rattle.model.specs.View.{View}
 use Rattle.model.specs.Held.{available}
-use Rattle.model.specs.State.{State, fresh}
+use Rattle.model.specs.State.{State, Notes, fresh}
 
 -- ── where a number stands ──
 
@@ -46,6 +47,9 @@ baseCell s = 384 + s
 
 abbrev pub lengthCell : ℕ → ℕ
 lengthCell s = 448 + s
+
+abbrev pub windowCell : ℕ → ℕ
+windowCell s = 576 + s
 
 abbrev pub pageCell : ℕ → ℕ → ℕ
 pageCell s x = 2048 + 256 * s + x
@@ -105,6 +109,7 @@ stateOf g t =
       writes = getD t 8 0;
       used = getD t 9 0;
       waiting = numbers t (waitCell (g .records) (blocks g) 0) (getD t 11 0);
+      notes = record { window = λ s. field t (ltb s (g .records)) (windowCell s) };
     }
 
 -- ── tables that say something: every number that the layout names is written, every other stays ──
@@ -136,6 +141,10 @@ columnNumber K t f s =
     (cond (eqb f 3) (K .base s) (length (K .list s))))))
     (getD t (192 + 64 * f + s) 0)
 
+-- number i of what is noted of R slots
+unfoldable pub noteNumber : ℕ → Notes → List ℕ → ℕ → ℕ
+noteNumber R N t i = cond (leb 576 i && ltb (i - 576) R) (N .window (i - 576)) (getD t i 0)
+
 -- number x of the pages and of the deadlist of s
 unfoldable pub pageNumber : View → List ℕ → ℕ → ℕ → ℕ
 pageNumber K t s x = cond (ltb x (K .pages)) (K .page s x) (getD t (pageCell s x) 0)
@@ -152,7 +161,7 @@ unfoldable pub numberAt : Geometry → State → List ℕ → ℕ → ℕ
 numberAt g T t i =
     cond (ltb i 192) (headerNumber g T t i)
     (cond (ltb i 512) (columnNumber (T .view) t ((i - 192) / 64) ((i - 192) % 64))
-    (cond (ltb i 2048) (getD t i 0)
+    (cond (ltb i 2048) (noteNumber (g .records) (T .notes) t i)
     (cond (ltb i (listCell (g .records) 0 0)) (pageNumber (T .view) t ((i - 2048) / 256) ((i - 2048) % 256))
     (cond (ltb i (birthCell (g .records) 0))
     (listNumber (T .view) t ((i - listCell (g .records) 0 0) / 256) ((i - listCell (g .records) 0 0) % 256))

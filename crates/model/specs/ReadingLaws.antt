@@ -9,8 +9,7 @@ use Prim.Native.Nat.{ℕ, _<_}
 use Rattle.answer.specs.Reply.{accepted, refused}
 use Rattle.geometry.specs.declared.Geometry.{Geometry}
 use Rattle.model.specs.Memory.{Memory}
-use Rattle.model.specs.Book.{Some}
-use Rattle.model.specs.History.{Machine, Entry, wasAccepted, stateFrom, historyFrom}
+use Rattle.model.specs.History.{Machine, wasAccepted, stateFrom}
 use Rattle.model.specs.Demand.{machine, ownStore}
 use Rattle.model.specs.declared.Call.{Call}
 use Rattle.model.specs.declared.Call.the-variants.{Begin, Write, Erase, Seal, Fork, Delete, Read}
@@ -26,13 +25,27 @@ pub record Shows (M : Machine) (U : M .Tables) (r x : ℕ) (l : List ℕ) : Type
 abbrev pub Changes : ℕ → ℕ → Call → Type 0
 Changes r x c = ((k : ℕ) × (c ≡ Write r x k)) ⊎ (c ≡ Erase r x) ⊎ (c ≡ Delete r)
 
--- an accepted one
-abbrev pub Touches : ℕ → ℕ → Entry → Type 0
-Touches r x e = (wasAccepted (e .answer) ≡ true) × Changes r x (e .call)
+-- R r x is refused with 8: there is no record r any more
+pub record Lost (M : Machine) (U : M .Tables) (r x : ℕ) : Type 0 where
+  pub unread : (v : M .Asked) (m : List ℕ) → M .call v ≡ Read r x → M .answer U v ≡ accepted m → ⊥
+  pub eight : (v : M .Asked) (n : ℕ) → M .call v ≡ Read r x → M .answer U v ≡ refused n → (n < 5) ⊎ (n ≡ 8)
+
+-- an S, of some record
+abbrev pub Seals : Call → Type 0
+Seals c = (q : ℕ) × (c ≡ Seal q)
+
+-- the call i touches the page where it is an accepted W, E or D that changes it, or an accepted S whose window took r
+abbrev pub Touches : (M : Machine) → M .Tables → ℕ → ℕ → M .Asked → Type 0
+Touches M U r x i = (wasAccepted (M .answer U i) ≡ true) × (Changes r x (M .call i) ⊎ (Seals (M .call i) × Lost M (M .after U i) r x))
+
+-- one of some calls does
+abbrev pub Touched : (M : Machine) → M .Tables → ℕ → ℕ → List (M .Asked) → Type 0
+Touched M U r x [] = ⊥
+Touched M U r x (i ∷ more) = Touches M U r x i ⊎ Touched M (M .after U i) r x more
 
 -- from U on it reads l: after any calls none of which touches it
 abbrev pub ShowsFrom : (M : Machine) → M .Tables → ℕ → ℕ → List ℕ → Type 0
-ShowsFrom M U r x l = (more : List (M .Asked)) → (Some (Touches r x) (historyFrom M U more) → ⊥) → Shows M (stateFrom M U more) r x l
+ShowsFrom M U r x l = (more : List (M .Asked)) → (Touched M U r x more → ⊥) → Shows M (stateFrom M U more) r x l
 
 -- ── the laws ──
 
@@ -60,6 +73,14 @@ pub record ReadingLaws (M : Machine) (P : ℕ) (now : M .Tables) : Type 0 where
   pub gone : (c : M .Asked) (r : ℕ) (l : List ℕ) → M .call c ≡ Delete r → M .answer now c ≡ accepted l →
       (more : List (M .Asked)) (v : M .Asked) (x : ℕ) (m : List ℕ) → M .call v ≡ Read r x →
       M .answer (stateFrom M (M .after now c) more) v ≡ accepted m → ⊥
+  -- S leaves each page as it was, or takes its record (by a window): nothing in between
+  pub kept : (c v : M .Asked) (q r x : ℕ) (l m : List ℕ) → M .call c ≡ Seal q → M .answer now c ≡ accepted m →
+      M .call v ≡ Read r x → M .answer now v ≡ accepted l → Shows M (M .after now c) r x l ⊎ Lost M (M .after now c) r x
+  -- a record that was there before a call and is not after it (R is refused with 8) never comes back
+  pub taken : (c v w : M .Asked) (r x y : ℕ) (l : List ℕ) → M .call v ≡ Read r x → M .answer now v ≡ accepted l →
+      M .call w ≡ Read r y → M .answer (M .after now c) w ≡ refused 8 →
+      (more : List (M .Asked)) (u : M .Asked) (z : ℕ) (m : List ℕ) → M .call u ≡ Read r z →
+      M .answer (stateFrom M (M .after now c) more) u ≡ accepted m → ⊥
   -- "none is given twice" (1.1): the number that a B, S or F gives is above those that all earlier ones gave
   pub rises : (c d : M .Asked) (n m : ℕ) (rest others : List ℕ) (more : List (M .Asked)) → Opens (M .call c) → Opens (M .call d) →
       M .answer now c ≡ accepted (n ∷ rest) → M .answer (stateFrom M (M .after now c) more) d ≡ accepted (m ∷ others) → n < m

@@ -1,0 +1,92 @@
+-- The call S, from the conditions before 14: its actions are ones that the stores they meet allow, and give no block.
+use mathlib.Core.Path.{_≡_, sym, ap, _∙_, subst}
+use mathlib.Core.Bool.{false, cond}
+use Prim.Native.Nat.{ℕ, _+_, _≤_}
+use native.Mathlib.Omega.{arith}
+use lib.Dec.{leb}
+use lib.ListN.{length}
+use Rattle.answer.specs.Refusal.{NoneHolds}
+use Rattle.geometry.specs.declared.Geometry.{Geometry}
+use Rattle.geometry.specs.Limits.{Inside}
+use Rattle.model.specs.Effects.{seal, grow, close}
+use Rattle.model.specs.Actions.{doS, Asks, done}
+use Rattle.model.specs.Held.{heldCount}
+use Rattle.model.specs.Window.{steps, freesAlong, AsksAlong, sealing, victims}
+use Rattle.model.specs.State.{State}
+use Rattle.model.specs.Calls.{closing, refusalsBy, shortBy, slot, windowOf, windowPassed, closes, freedClosing}
+use Rattle.model.specs.Book.{Book, recSealed, windowWith, trimmed, accept}
+use Rattle.model.specs.declared.Call.the-variants.{Seal}
+use Rattle.model.proofs.ByNumber.{none-at}
+use Rattle.model.proofs.Agree.{Agree}
+use Rattle.model.proofs.BookFacts.{in-lines}
+use Rattle.model.proofs.WindowBook.{seal-agrees}
+use Rattle.model.proofs.Windows.{WindowsAgree, seal-windows}
+use Rattle.model.proofs.HeldFacts.{held-done}
+use Rattle.model.proofs.DoneSound.{done-sound}
+use Rattle.model.proofs.WindowAlong.{frees-held}
+use Rattle.model.proofs.WindowMoves.{Giveless, sealing-giveless}
+use Rattle.model.proofs.WindowSeal.{seal-asks, seal-takes, seal-held}
+use Rattle.model.proofs.Few.{held-le}
+use Rattle.model.proofs.Asked.{Fine, Unrefused, named-slot, asks-S}
+
+-- an S that is not refused
+module _ (g : Geometry) (T : State) (r : ℕ) (n : NoneHolds (refusalsBy g T (closing r))) where
+  pub closing-first : Unrefused T r
+  closing-first =
+      let past = none-at (refusalsBy g T (closing r)) n in
+      record { eight = past 8; nine = past 9; eleven = past 11 }
+
+  pub closing-12 : leb 999999 (T .view .last) ≡ false
+  closing-12 = none-at (refusalsBy g T (closing r)) n 12
+
+  pub closing-14 : shortBy g T (closing r) ≡ false
+  closing-14 = none-at (refusalsBy g T (closing r)) n 14
+
+module _ (g : Geometry) (inside : Inside g) (T : State) (R : Fine g T) (r : ℕ) (n : Unrefused T r) where
+  pub seals : Asks (T .view) (doS (slot T r))
+  seals = asks-S g inside T R r n
+
+  pub closing-asks : AsksAlong (T .view) (closes T r)
+  closing-asks = seal-asks (T .view) (slot T r) (R .sound) seals (windowOf T r)
+
+  pub closing-giveless : Giveless (closes T r)
+  closing-giveless = sealing-giveless (T .view) (windowOf T r) (slot T r)
+
+  pub closing-last : steps (T .view) (closes T r) .last ≡ T .view .last + 1
+  unfolding seal grow close
+  closing-last = seal-takes (T .view) (slot T r) (R .sound) seals (windowOf T r) .last
+
+  -- the book's step of the call: the book's window of the line is the store's
+  pub closing-book : (B : Book) (P b : ℕ) → Agree (T .view) B → WindowsAgree (T .view) (T .notes) B →
+      trimmed (recSealed B (T .view .num (slot T r))) (windowOf T r) (T .view .num (slot T r)) ≡ accept P B (Seal r) b
+  closing-book B P b A W =
+      let s : ℕ = slot T r in
+      let m : ℕ = T .view .num s in
+      ap (λ w. trimmed (recSealed B m) w m) (sym (W s (seals .0) (seals .1))) ∙
+      ap (λ t. cond t (trimmed (recSealed B m) (windowWith m (B .lines)) m) B) (sym (in-lines m (B .lines) (A .stored s (seals .0)))) ∙
+      ap (λ k. accept P B (Seal k) b) (named-slot g inside T R r (n .eight) .1)
+
+  pub closing-agrees : (B : Book) (P b : ℕ) → Agree (T .view) B → WindowsAgree (T .view) (T .notes) B →
+      Agree (steps (T .view) (closes T r)) (accept P B (Seal r) b)
+  closing-agrees B P b A W =
+      subst (Agree (steps (T .view) (closes T r))) (closing-book B P b A W) (seal-agrees (T .view) B (windowOf T r) (slot T r) (R .sound) seals A)
+
+  pub closing-windows : (B : Book) (P b : ℕ) → Agree (T .view) B → WindowsAgree (T .view) (T .notes) B →
+      WindowsAgree (steps (T .view) (closes T r)) (windowPassed T r) (accept P B (Seal r) b)
+  closing-windows B P b A W =
+      subst (WindowsAgree (steps (T .view) (closes T r)) (windowPassed T r)) (closing-book B P b A W)
+      (seal-windows (T .view) (T .notes) B (windowOf T r) (slot T r) (R .sound) seals A W)
+
+  -- what is freed was held
+  pub closing-held : heldCount (steps (T .view) (closes T r)) + length (freedClosing T r) ≡ heldCount (T .view)
+  unfolding sealing steps freesAlong
+  closing-held =
+      omega (
+        arith,
+        frees-held (victims (done (T .view) (doS (slot T r))) (windowOf T r) (slot T r)) (done (T .view) (doS (slot T r)))
+            (done-sound (T .view) (doS (slot T r)) (R .sound) seals) (closing-asks .1),
+        held-done (T .view) (doS (slot T r)) (R .sound) seals,
+      )
+
+  pub closing-few : length (freedClosing T r) ≤ T .view .blocks
+  closing-few = omega (arith, seal-held (T .view) (slot T r) (R .sound) seals (windowOf T r), held-le (T .view))

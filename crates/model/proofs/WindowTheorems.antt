@@ -1,0 +1,240 @@
+-- The theorems of order 5, of the memory before and after a call.
+use mathlib.Core.Path.{_≡_, sym, ap, _∙_, subst}
+use mathlib.Core.List.{List, [], _∷_}
+use Prim.Native.Nat.{ℕ, zero, suc, _+_, _-_, _<_}
+use native.Mathlib.Omega.{arith}
+use lib.Dec.{eqb, ltb}
+use lib.ListN.{length, length-map}
+use borrow.Author.Tests.{ltb-true, ltb-false, lt-ltb}
+use Rattle.answer.specs.Reply.{Reply, accepted}
+use Rattle.answer.specs.Refusal.{Holds, Ordered, leaves}
+use Rattle.answer.proofs.Cases.{cases}
+use Rattle.answer.proofs.Decided.{decide-refused, decide-refuses}
+use Rattle.geometry.specs.declared.Geometry.{Geometry}
+use Rattle.log.specs.Word.{released, writeAt, bytesOf}
+use Rattle.model.specs.View.{View}
+use Rattle.model.specs.Lists.{In}
+use Rattle.model.specs.Sound.{Sound}
+use Rattle.model.specs.Effects.{begin, fork}
+use Rattle.model.specs.Actions.{doS, Asks, done, vacant}
+use Rattle.model.specs.State.{State}
+use Rattle.model.specs.Calls.{slot, newSlot, windowOf, closes, freedClosing, acted, conditions, written}
+use Rattle.model.specs.Window.{steps, victims, actedAll, WindowTakes}
+use Rattle.model.specs.Layout.{stateOf}
+use Rattle.model.specs.Memory.{Memory, allConditions, reply, after}
+use Rattle.model.specs.WindowMeans.{was, now, sealedView, StopsThere, Took, TakesOldest, Takes, FreesThem}
+use Rattle.model.specs.WindowMeans.{Seal14, RetainOnly, BeginBare, ForkBare, SealPasses}
+use Rattle.model.specs.declared.Call.the-variants.{Begin, Seal, Fork, Retain}
+use Rattle.model.proofs.TabFacts.{put-same, put-other}
+use Rattle.model.proofs.DoneSound.{spare, done-sound}
+use Rattle.model.proofs.ListFacts.{in?}
+use Rattle.model.proofs.ByNumber.{none-at, true-at, at-true}
+use Rattle.model.proofs.BookFacts.{grow-grown, seal-grown}
+use Rattle.model.proofs.WindowFacts.{window-orders}
+use Rattle.model.proofs.WindowSeal.{seal-stops, seal-takes, seal-num}
+use Rattle.model.proofs.Asked.{Fine, not-zero, named-slot}
+use Rattle.model.proofs.EachCall.{or-false}
+use Rattle.model.proofs.Refusals.{ordered}
+use Rattle.model.proofs.Closing.{closing-first, seals}
+use Rattle.model.proofs.Keeps.{Accepted, accepted-is, accepted-state, accepted-log, sound-fine}
+
+-- ── what the window takes, of the view after the seal and the view after the call ──
+
+module _ (K L : View) (n r : ℕ) (w : WindowTakes K L n r) where
+  -- what left the store are the victims
+  is-victim : (s : ℕ) → Took K L s → In s (victims K n r)
+  is-victim s (h, z) = cases (in? s (victims K n r)) (λ i. i) (λ m. absurd (let y : ⊥ = omega (arith, w .num s m) in y))
+
+  is-windowed : (m s : ℕ) → In s (victims K m r) → 0 < m
+  unfolding victims
+  is-windowed zero s i = absurd i
+  is-windowed (suc m) s i = omega arith
+
+  stays : (s : ℕ) → 0 < L .num s → In s (victims K n r) → ⊥
+  stays s h i = let z : ⊥ = omega (arith, w .gone s i) in z
+
+  pub takes-oldest : TakesOldest K L n r
+  takes-oldest = record {
+    windowed = λ s t. is-windowed n s (is-victim s t);
+    sealed = λ s t. w .sealed s (is-victim s t);
+    notNewest = λ s t. w .notNewest s (is-victim s t);
+    unforked = λ s t. w .unforked s (is-victim s t);
+    oldest = λ s t u i m f h. w .oldest s t (is-victim s u) i m f (stays t h);
+    needed = λ s t. w .needed s (is-victim s t);
+    num = λ s h. w .num s (stays s h);
+    isOpen = w .isOpen;
+    base = w .base;
+    page = w .page;
+  }
+
+-- ── S ──
+
+module _ (g : Geometry) (M : Memory) (r : ℕ) (l : List ℕ) (e : reply g M (Seal r) ≡ accepted l) where
+  abbrev T : State
+  T = stateOf g (M .tables)
+
+  A : Accepted g M (Seal r)
+  A = accepted-is g M (Seal r) l e .0
+
+  F : Fine g (stateOf g (M .tables))
+  F = sound-fine g (M .tables) (M .log) (A .sound)
+
+  q : Asks (stateOf g (M .tables) .view) (doS (slot (stateOf g (M .tables)) r))
+  q = seals g (A .inside) T F r (closing-first g T r (A .none))
+
+  left : now g M (Seal r) .view ≡ steps (stateOf g (M .tables) .view) (closes (stateOf g (M .tables)) r)
+  unfolding actedAll
+  left = ap (λ U. U .view) (accepted-state g M (Seal r) l e)
+
+  sound : Sound (done (stateOf g (M .tables) .view) (doS (slot (stateOf g (M .tables)) r)))
+  sound = done-sound (T .view) (doS (slot T r)) (F .sound) q
+
+  took : WindowTakes (sealedView g M r) (now g M (Seal r) .view) (windowOf (was g M) r) (slot (was g M) r)
+  took = subst (λ L. WindowTakes (sealedView g M r) L (windowOf T r) (slot T r)) (sym left) (seal-takes (T .view) (slot T r) (F .sound) q (windowOf T r))
+
+pub window-stops : StopsThere
+window-stops g M r l e h =
+    subst (λ L. Rattle.model.specs.Window.WindowStops L (windowOf (was g M) r) (slot (was g M) r)) (sym (left g M r l e))
+    (seal-stops (was g M .view) (slot (was g M) r) (F g M r l e .sound) (q g M r l e) (windowOf (was g M) r) h)
+
+pub window-takes : Takes
+window-takes g M r l e = takes-oldest (sealedView g M r) (now g M (Seal r) .view) (windowOf (was g M) r) (slot (was g M) r) (took g M r l e)
+
+pub window-frees : FreesThem
+unfolding stateOf
+window-frees g M r l e =
+    let T = was g M in
+    let a = q g M r l e in
+    let S = F g M r l e .sound in
+    record {
+      result = sym (accepted-is g M (Seal r) l e .1);
+      words = accepted-log g M (Seal r) l e;
+      order = window-orders (done (T .view) (doS (slot T r))) (windowOf T r) (slot T r) (sound g M r l e)
+          (omega (arith, seal-num (T .view) (slot T r) S a, a .0));
+    }
+
+-- ── 14 ──
+
+all-ordered : (g : Geometry) (M : Memory) (r : ℕ) → Ordered 0 (allConditions g M (Seal r))
+all-ordered g M r = (omega arith, (omega arith, (omega arith, ordered g (stateOf g (M .tables)) (Seal r))))
+
+many : (g : Geometry) (T : State) (r : ℕ) → length (written g T (Seal r)) ≡ length (freedClosing T r)
+many g T r = length-map (freedClosing T r) released
+
+-- 14 is true of the call where the words are too many
+fourteen-holds : (g : Geometry) (M : Memory) (r : ℕ) → Holds 14 (allConditions g M (Seal r)) → g .words - was g M .used < length (freedClosing (was g M) r)
+fourteen-holds g M r h =
+    omega (
+      arith,
+      ltb-true (g .words - was g M .used) (length (written g (was g M) (Seal r))) (true-at (allConditions g M (Seal r)) 0 (all-ordered g M r) 14 h),
+      many g (was g M) r,
+    )
+
+pub seal-14 : Seal14
+unfolding reply after
+seal-14 g M r =
+    let T = was g M in
+    let out = Rattle.model.specs.Calls.result g T (Seal r) in
+    record {
+      exactly = (
+        λ e. let w = decide-refused (allConditions g M (Seal r)) out 0 14 (all-ordered g M r) e in (w .1, fourteen-holds g M r (w .0)),
+        λ w.
+            let y = lt-ltb (g .words - T .used) (length (written g T (Seal r))) (omega (arith, w .1, many g T r)) in
+            decide-refuses (allConditions g M (Seal r)) out 0 14 (all-ordered g M r) (at-true (allConditions g M (Seal r)) 14 y) (w .0),
+      );
+      unaltered = λ e. ap (λ (a : Reply). record {
+        tables = leaves a (M .tables) (Rattle.model.specs.Memory.storedBy g (M .tables) (Seal r));
+        log = leaves a (M .log) (writeAt (M .log) (Rattle.model.specs.Memory.writtenAt T (Seal r)) (bytesOf (written g T (Seal r))));
+        out = leaves a (M .out) (lib.Seq.sets (M .out) 0 out);
+      }) e;
+    }
+
+-- ── K ──
+
+pub retain-only : RetainOnly
+retain-only g M r n l e =
+    let (A, i) = accepted-is g M (Retain r n) l e in
+    let T = was g M in
+    let F = sound-fine g (M .tables) (M .log) (A .sound) in
+    let past = none-at (conditions g T (Retain r n)) (A .none) in
+    let h = named-slot g (A .inside) T F r (past 8) in
+    let b = or-false (eqb n 0) (ltb 62 n) (past 15) in
+    let s = accepted-state g M (Retain r n) l e in
+    record {
+      result = sym i;
+      low = not-zero n (b .0);
+      high = ltb-false 62 n (b .1);
+      live = h .0;
+      number = h .1;
+      isOpen = not-zero (T .view .isOpen (slot T r)) (past 9);
+      only = record {
+        here = ap (λ U. U .notes .window (slot T r)) s ∙ put-same (T .notes .window) (slot T r) n;
+        others = λ t d. ap (λ U. U .notes .window t) s ∙ put-other (T .notes .window) (slot T r) n t d;
+        view = ap (λ U. U .view) s;
+        mark = ap (λ U. U .mark) s;
+        counter = ap (λ U. U .counter) s;
+        writes = ap (λ U. U .writes) s;
+        used = ap (λ U. U .used) s;
+        waiting = ap (λ U. U .waiting) s;
+      };
+      log = accepted-log g M (Retain r n) l e ∙ Rattle.log.proofs.Writing.write-none (M .log) _;
+    }
+
+-- ── new lines ──
+
+pub begin-bare : BeginBare
+unfolding acted begin
+begin-bare g M l e =
+    let (A, i) = accepted-is g M Begin l e in
+    let T = was g M in
+    let s = accepted-state g M Begin l e in
+    let f = newSlot T in
+    let G = grow-grown (T .view) f 0 0 (spare (T .view) (not-zero (vacant (T .view)) (none-at (conditions g T Begin) (A .none) 11)) .1) in
+    let n : now g M Begin .view .num f ≡ T .view .last + 1 = ap (λ U. U .view .num f) s ∙ G .num-f in
+    record {
+      slot = f;
+      result = sym i ∙ ap {B = List ℕ} (λ k. k ∷ []) (let z : suc (T .view .last) ≡ now g M Begin .view .num f = omega arith in z);
+      number = n;
+      window = ap (λ U. U .notes .window f) s ∙ put-same (T .notes .window) f 0;
+      others = λ t d. ap (λ U. U .notes .window t) s ∙ put-other (T .notes .window) f 0 t d;
+    }
+
+pub fork-bare : ForkBare
+unfolding acted fork
+fork-bare g M r l e =
+    let (A, i) = accepted-is g M (Fork r) l e in
+    let T = was g M in
+    let s = accepted-state g M (Fork r) l e in
+    let f = newSlot T in
+    let eleven = none-at (conditions g T (Fork r)) (A .none) 11 in
+    let G = grow-grown (T .view) f 0 (suc (slot T r)) (spare (T .view) (not-zero (vacant (T .view)) eleven) .1) in
+    let n : now g M (Fork r) .view .num f ≡ T .view .last + 1 = ap (λ U. U .view .num f) s ∙ G .num-f in
+    record {
+      slot = f;
+      result = sym i ∙ ap {B = List ℕ} (λ k. k ∷ []) (let z : suc (T .view .last) ≡ now g M (Fork r) .view .num f = omega arith in z);
+      number = n;
+      window = ap (λ U. U .notes .window f) s ∙ put-same (T .notes .window) f 0;
+      others = λ t d. ap (λ U. U .notes .window t) s ∙ put-other (T .notes .window) f 0 t d;
+    }
+
+pub seal-passes : SealPasses
+unfolding actedAll
+seal-passes g M r l e =
+    let T = was g M in
+    let s = accepted-state g M (Seal r) l e in
+    let f = newSlot T in
+    let a = q g M r l e in
+    let G = seal-grown (T .view) (slot T r) f (spare (T .view) (a .2) .1) in
+    let t = took g M r l e in
+    record {
+      slot = f;
+      number = t .num f (λ i. let z : ⊥ = omega (
+        arith,
+        t .notNewest f i,
+        G .num-f,
+        seal-num (T .view) (slot T r) (F g M r l e .sound) a,
+        F g M r l e .sound .links .records (slot T r) (a .0) .given,
+      ) in z) ∙ G .num-f;
+      window = ap (λ U. U .notes .window f) s ∙ put-same (T .notes .window) f (windowOf T r);
+      others = λ t d. ap (λ U. U .notes .window t) s ∙ put-other (T .notes .window) f (windowOf T r) t d;
+    }
