@@ -1,7 +1,7 @@
 -- EVERY SOUND VIEW HAS A BOOK: a line for each record that none stands before, with the records that follow it.
 use mathlib.Core.Path.{_≡_, refl, sym, ap, _∙_, subst}
 use mathlib.Core.Logic.{_⊎_, inl, inr}
-use mathlib.Core.Bool.{Bool, true, cond, _&&_}
+use mathlib.Core.Bool.{Bool, true, cond, _&&_, true≢false}
 use mathlib.Core.List.{List, [], _∷_, _++_}
 use Prim.Native.Nat.{ℕ, zero, suc, _+_, _≤_, _<_}
 use native.Mathlib.Omega.{arith}
@@ -12,9 +12,12 @@ use Rattle.model.specs.Table.{via}
 use Rattle.model.specs.Lists.{In, Once}
 use Rattle.model.specs.View.{View, baseNum}
 use Rattle.model.specs.Sound.{Sound}
+use Rattle.model.specs.State.{Notes}
 use Rattle.model.specs.Actions.{follower}
-use Rattle.model.specs.Book.{Rec, Line, Book, Some}
+use Rattle.model.specs.Book.{Rec, Line, Book, Some, inRecs, windowWith}
 use Rattle.model.proofs.Agree.{Every, Row, Agree}
+use Rattle.model.proofs.BookFacts.{in-recs, of-recs}
+use Rattle.model.proofs.Windows.{WindowsAgree}
 use Rattle.model.proofs.ListFacts.{of-append, pw-append}
 use Rattle.model.proofs.DoneSound.{and-l, and-r, hit, miss}
 use Rattle.ledger.proofs.Numbers.{numbersOf, numbersIn, Full}
@@ -29,28 +32,34 @@ chain K zero l = []
 chain K (suc f) zero = []
 chain K (suc f) (suc s) = recAt K s ∷ chain K f (follower K s)
 
+-- the window of that line: the one of its open record
+unfoldable windowFrom : View → Notes → ℕ → ℕ → ℕ
+windowFrom K N zero l = 0
+windowFrom K N (suc f) zero = 0
+windowFrom K N (suc f) (suc s) = cond (ltb 0 (K .isOpen s)) (N .window s) (windowFrom K N f (follower K s))
+
 -- the line whose first record is in slot s
-abbrev lineAt : View → ℕ → Line
-lineAt K s = record { base = baseNum K s; recs = chain K (suc (K .last)) (suc s) }
+abbrev lineAt : View → Notes → ℕ → Line
+lineAt K N s = record { base = baseNum K s; window = windowFrom K N (suc (K .last)) (suc s); recs = chain K (suc (K .last)) (suc s) }
 
 abbrev isFirst : View → ℕ → Bool
 isFirst K s = ltb 0 (K .num s) && eqb (K .prev s) 0
 
 -- the lines whose first records are in the n slots from s on
-unfoldable linesFrom : View → ℕ → ℕ → List Line
-linesFrom K s zero = []
-linesFrom K s (suc n) = cond (isFirst K s) (lineAt K s ∷ linesFrom K (suc s) n) (linesFrom K (suc s) n)
+unfoldable linesFrom : View → Notes → ℕ → ℕ → List Line
+linesFrom K N s zero = []
+linesFrom K N s (suc n) = cond (isFirst K s) (lineAt K N s ∷ linesFrom K N (suc s) n) (linesFrom K N (suc s) n)
 
-unfoldable pub bookOf : View → Book
-unfolding linesFrom chain
-bookOf K = record { last = K .last; lines = linesFrom K 0 (K .slots) }
+unfoldable pub bookOf : View → Notes → Book
+unfolding linesFrom chain windowFrom
+bookOf K N = record { last = K .last; lines = linesFrom K N 0 (K .slots) }
 
 -- t is h, or comes after it in its line
 data From (K : View) (h : ℕ) : ℕ → Type 0 where
   here : From K h h
   next : (p : ℕ) {t : ℕ} → K .prev t ≡ suc p → From K h p → From K h t
 
-module _ (K : View) (S : Sound K) where
+module _ (K : View) (N : Notes) (S : Sound K) where
   -- the slot that a follower's link names
   follows : (s n : ℕ) → follower K s ≡ suc n → (0 < K .num n) × (K .prev n ≡ suc s)
   unfolding follower
@@ -89,7 +98,7 @@ module _ (K : View) (S : Sound K) where
       go zero i rest = subst (Row K b (suc s)) (sym (no-link f)) tt
       go (suc n) i rest = let (hn, pn) = follows s n i in rest n hn pn
 
-  rows : (n s : ℕ) → Every (λ l. Row K (l .base) 0 (l .recs)) (linesFrom K s n)
+  rows : (n s : ℕ) → Every (λ l. Row K (l .base) 0 (l .recs)) (linesFrom K N s n)
   unfolding linesFrom
   rows zero s = tt
   rows (suc n) s =
@@ -101,7 +110,7 @@ module _ (K : View) (S : Sound K) where
       ))
       (λ z. rw z (rows n (suc s)))
 
-  full : (n s : ℕ) → Full (linesFrom K s n)
+  full : (n s : ℕ) → Full (linesFrom K N s n)
   unfolding linesFrom chain
   full zero s = tt
   full (suc n) s = cases (either (isFirst K s)) (λ y. rw y (omega arith, full n (suc s))) (λ z. rw z (full n (suc s)))
@@ -163,29 +172,29 @@ module _ (K : View) (S : Sound K) where
             has = extends (suc (K .last)) (I .slot) p t (omega (arith, I .live)) (I .live) l e (I .has);
           }
 
-  line-of : (P : Line → Type 0) (n a s : ℕ) → a ≤ s → s < a + n → 0 < K .num s → K .prev s ≡ 0 → P (lineAt K s) → Some P (linesFrom K a n)
+  line-of : (P : Line → Type 0) (n a s : ℕ) → a ≤ s → s < a + n → 0 < K .num s → K .prev s ≡ 0 → P (lineAt K N s) → Some P (linesFrom K N a n)
   unfolding linesFrom
   line-of P zero a s l u h e p = absurd (let z : ⊥ = omega arith in z)
   line-of P (suc n) a s l u h e p =
       cases (same? s a)
       (λ d.
       let y : isFirst K a ≡ true = rw (lt-ltb 0 (K .num a) (omega (arith, ap (K .num) d)), eq-eqb (K .prev a) 0 (ap (K .prev) (sym d) ∙ e)) in
-      rw y (inl (subst (λ m. P (lineAt K m)) d p)))
+      rw y (inl (subst (λ m. P (lineAt K N m)) d p)))
       (λ m.
       let I = line-of P n (suc a) s (omega arith) (omega arith) h e p in
       cases (either (isFirst K a)) (λ y. rw y (inr I)) (λ z. rw z I))
 
-  stored : (s : ℕ) → 0 < K .num s → Some (λ l. Some (λ q. q .number ≡ K .num s) (l .recs)) (linesFrom K 0 (K .slots))
+  stored : (s : ℕ) → 0 < K .num s → Some (λ l. Some (λ q. q .number ≡ K .num s) (l .recs)) (linesFrom K N 0 (K .slots))
   stored s h =
       let F = climb (K .num s) s (omega arith) h in
       line-of (λ l. Some (λ q. q .number ≡ K .num s) (l .recs)) (K .slots) 0 (F .slot) (omega arith)
       (omega (arith, S .links .records (F .slot) (F .live) .room)) (F .live) (F .first) (F .has)
 
-  pub book-agrees : Agree K (bookOf K)
+  pub book-agrees : Agree K (bookOf K N)
   unfolding bookOf
   book-agrees = record { last = refl; booked = rows (K .slots) 0; stored = stored }
 
-  pub book-full : Full (bookOf K .lines)
+  pub book-full : Full (bookOf K N .lines)
   unfolding bookOf
   book-full = full (K .slots) 0
 
@@ -253,7 +262,7 @@ module _ (K : View) (S : Sound K) where
     first : K .prev slot ≡ 0
     has : Numbered slot m
 
-  lined : (n a m : ℕ) → In m (numbersIn (linesFrom K a n)) → Lined a m
+  lined : (n a m : ℕ) → In m (numbersIn (linesFrom K N a n)) → Lined a m
   unfolding linesFrom numbersIn
   lined zero a m i = absurd i
   lined (suc n) a m i =
@@ -261,15 +270,15 @@ module _ (K : View) (S : Sound K) where
       (λ y.
       let h = ltb-true 0 (K .num a) (and-l (ltb 0 (K .num a)) (eqb (K .prev a) 0) y) in
       let e = eqb-true (K .prev a) 0 (and-r (ltb 0 (K .num a)) (eqb (K .prev a) 0) y) in
-      let j : In m (numbersOf (chain K (suc (K .last)) (suc a)) ++ numbersIn (linesFrom K (suc a) n)) = rw y at i in
-      cases (of-append m (numbersOf (chain K (suc (K .last)) (suc a))) (numbersIn (linesFrom K (suc a) n)) j)
+      let j : In m (numbersOf (chain K (suc (K .last)) (suc a)) ++ numbersIn (linesFrom K N (suc a) n)) = rw y at i in
+      cases (of-append m (numbersOf (chain K (suc (K .last)) (suc a))) (numbersIn (linesFrom K N (suc a) n)) j)
       (λ w. record { slot = a; above = omega arith; first = e; has = numbered (suc (K .last)) a m h w })
       (λ w. let I = lined n (suc a) m w in record { slot = I .slot; above = omega (arith, I .above); first = I .first; has = I .has }))
       (λ z.
-      let j : In m (numbersIn (linesFrom K (suc a) n)) = rw z at i in
+      let j : In m (numbersIn (linesFrom K N (suc a) n)) = rw z at i in
       let I = lined n (suc a) m j in record { slot = I .slot; above = omega (arith, I .above); first = I .first; has = I .has })
 
-  lines-once : (n a : ℕ) → Once (numbersIn (linesFrom K a n))
+  lines-once : (n a : ℕ) → Once (numbersIn (linesFrom K N a n))
   unfolding linesFrom numbersIn
   lines-once zero a = tt
   lines-once (suc n) a =
@@ -277,7 +286,7 @@ module _ (K : View) (S : Sound K) where
       (λ y.
       let h = ltb-true 0 (K .num a) (and-l (ltb 0 (K .num a)) (eqb (K .prev a) 0) y) in
       let e = eqb-true (K .prev a) 0 (and-r (ltb 0 (K .num a)) (eqb (K .prev a) 0) y) in
-      rw y (pw-append (λ b c. b ≡ c → ⊥) (numbersOf (chain K (suc (K .last)) (suc a))) (numbersIn (linesFrom K (suc a) n))
+      rw y (pw-append (λ b c. b ≡ c → ⊥) (numbersOf (chain K (suc (K .last)) (suc a))) (numbersIn (linesFrom K N (suc a) n))
       (chain-once (suc (K .last)) a h) (lines-once n (suc a))
       (λ b c i j d.
       let N = numbered (suc (K .last)) a b h i in
@@ -287,6 +296,55 @@ module _ (K : View) (S : Sound K) where
       let z : ⊥ = omega (arith, Q .above) in z)))
       (λ z. rw z (lines-once n (suc a)))
 
-  pub book-once : Once (numbersIn (bookOf K .lines))
+  pub book-once : Once (numbersIn (bookOf K N .lines))
   unfolding bookOf
   book-once = lines-once (K .slots) 0
+
+  -- ── the windows ──
+
+  -- an open record's window is that of the line that it is in
+  chain-window : (f h s : ℕ) → 0 < K .num h → 0 < K .num s → 0 < K .isOpen s → Some (λ q. q .number ≡ K .num s) (chain K f (suc h)) →
+      windowFrom K N f (suc h) ≡ N .window s
+  unfolding chain windowFrom
+  chain-window zero h s l k o i = absurd i
+  chain-window (suc f) h s l k o i = go (follower K h) refl (λ n hn w. chain-window f n s hn k o w) i
+    where
+      go : (m : ℕ) → follower K h ≡ m →
+          ((n : ℕ) → 0 < K .num n → Some (λ q. q .number ≡ K .num s) (chain K f (suc n)) → windowFrom K N f (suc n) ≡ N .window s) →
+          (K .num h ≡ K .num s) ⊎ Some (λ q. q .number ≡ K .num s) (chain K f (follower K h)) →
+          cond (ltb 0 (K .isOpen h)) (N .window h) (windowFrom K N f (follower K h)) ≡ N .window s
+      go m d rest (inl e) =
+          let same : h ≡ s = S .links .apart h s l e in
+          rw (lt-ltb 0 (K .isOpen h) (omega (arith, ap (K .isOpen) same))) (ap (N .window) same)
+      go zero d rest (inr w) = absurd (subst (Some (λ q. q .number ≡ K .num s)) (ap (chain K f) d ∙ no-link f) w)
+      go (suc n) d rest (inr w) =
+          let (hn, pn) = follows h n d in
+          let shut : K .isOpen h ≡ 0 = S .links .prevs n h hn pn .sealed in
+          rw (shut, d) (rest n hn (subst (λ m. Some (λ q. q .number ≡ K .num s) (chain K f m)) d w))
+
+  -- the lines that have record r have the window w
+  window-of : (r w : ℕ) (ls : List Line) → Every (λ l. inRecs r (l .recs) ≡ true → l .window ≡ w) ls →
+      Some (λ l. Some (λ q. q .number ≡ r) (l .recs)) ls → windowWith r ls ≡ w
+  unfolding windowWith
+  window-of r w [] e i = absurd i
+  window-of r w (l ∷ ls) e i =
+      cases (either (inRecs r (l .recs)))
+      (λ y. rw y (e .0 y))
+      (λ z. rw z (window-of r w ls (e .1) (cases i (λ j. absurd (true≢false (sym (in-recs r (l .recs) j) ∙ z))) (λ j. j))))
+
+  windows-in : (s : ℕ) → 0 < K .num s → 0 < K .isOpen s → (n a : ℕ) →
+      Every (λ l. inRecs (K .num s) (l .recs) ≡ true → l .window ≡ N .window s) (linesFrom K N a n)
+  unfolding linesFrom
+  windows-in s k o zero a = tt
+  windows-in s k o (suc n) a =
+      cases (either (isFirst K a))
+      (λ y. rw y (
+        λ e. chain-window (suc (K .last)) a s (ltb-true 0 (K .num a) (and-l (ltb 0 (K .num a)) (eqb (K .prev a) 0) y)) k o
+            (of-recs (K .num s) (chain K (suc (K .last)) (suc a)) e),
+        windows-in s k o n (suc a),
+      ))
+      (λ z. rw z (windows-in s k o n (suc a)))
+
+  pub book-windows : WindowsAgree K N (bookOf K N)
+  unfolding bookOf
+  book-windows s k o = window-of (K .num s) (N .window s) (linesFrom K N 0 (K .slots)) (windows-in s k o (K .slots) 0) (stored s k)

@@ -2,38 +2,40 @@
 use mathlib.Core.Path.{_≡_, refl, sym, ap, _∙_, subst}
 use mathlib.Core.Bool.{cond}
 use mathlib.Core.List.{List, [], _∷_, _++_, map, flatMap}
-use Prim.Native.Nat.{ℕ}
+use Prim.Native.Nat.{ℕ, suc}
 use native.Mathlib.Omega.{arith}
 use Rattle.answer.specs.Reply.{accepted}
 use Rattle.answer.specs.Refusal.{Condition, NoneHolds, Ordered}
 use Rattle.geometry.specs.declared.Geometry.{Geometry}
 use Rattle.geometry.specs.Limits.{Inside}
 use Rattle.log.specs.Word.{released}
-use Rattle.model.specs.Lists.{keepIf}
-use Rattle.model.specs.Results.{Item, plain, born, bornIn, blocksIn, itemsOf, numbersOf}
+use Rattle.model.specs.Lists.{keepIf, afterFirst}
+use Rattle.model.specs.Results.{Item, plain, born, bornIn, oneThenBorn, blocksIn, itemsOf, numbersOf}
 use Rattle.model.specs.Book.{Book, accept}
 use Rattle.model.specs.State.{State}
 use Rattle.model.specs.Calls as model
-use Rattle.model.specs.Calls.{looking, renews, wordsBy, leftBy, conditions, written, effect, spelling}
+use Rattle.model.specs.Calls.{looking, asNoted, renews, wordsBy, leftBy, conditions, written, effect, spelling}
 use Rattle.model.specs.History.{firstGiven, eventsOf}
 use Rattle.model.specs.Crash.{isC}
 use Rattle.model.specs.declared.Spelling.{Spelling}
 use Rattle.model.specs.declared.Call.{Call}
-use Rattle.model.specs.declared.Call.the-variants.{Begin, Write, Erase, Seal, Fork, Delete, Read, Barrier, Compress, FreeList, Estimate}
+use Rattle.model.specs.declared.Call.the-variants.{Begin, Write, Erase, Seal, Fork, Delete, Read, Barrier, Compress, FreeList, Estimate, Retain}
 use Rattle.model.proofs.ByNumber.{none-at}
 use Rattle.model.proofs.Fine.{Fine}
-use Rattle.model.proofs.EachCall.{Is, is}
+use Rattle.model.proofs.Closing.{closing-first, closing-12}
 use Rattle.ledger.specs.BookReading.{blockOn}
-use Rattle.ledger.specs.Ledger.{Ledger, withBirths, isFree, young, freedBy, picked, runsIn, afterKill, afterGiving, afterDelete, afterClearing}
+use Rattle.ledger.specs.Ledger.{Ledger, withBirths, isFree, young, freedBy, picked, runsIn, afterKill, afterGiving, afterDelete, afterClearing, closed}
 use Rattle.ledger.specs.Ledger.{account, refusalsOf, blockGiven, keeps}
 use Rattle.ledger.proofs.Tells.{Tells, Answered, Keeping, unmoved, still-told, list-answered}
 use Rattle.ledger.proofs.CallsTold.{barrier-answered, barrier-kept, compress-answered, compress-kept, compressed-told, read-answered}
 use Rattle.ledger.proofs.KillTold.{kill-told, erase-answered}
 use Rattle.ledger.proofs.WriteTold.{picked-told, write-answered}
-use Rattle.ledger.proofs.OpenTold.{begin-answered, seal-answered, fork-answered}
+use Rattle.ledger.proofs.OpenTold.{begin-answered, fork-answered}
 use Rattle.ledger.proofs.DeleteTold.{freed-told, delete-answered}
 use Rattle.ledger.proofs.EstimateTold.{estimate-answered}
-use Rattle.ledger.proofs.GrowKept.{begin-kept, seal-kept, fork-kept}
+use Rattle.ledger.proofs.GrowKept.{begin-kept, fork-kept}
+use Rattle.ledger.proofs.SealTold.{closed-freed, closed-log, seal-answered, seal-kept}
+use Rattle.ledger.proofs.RetainTold.{retain-answered, retain-kept}
 use Rattle.ledger.proofs.KillKept.{erase-kept, write-kept}
 use Rattle.ledger.proofs.DeleteKept.{delete-kept}
 
@@ -70,11 +72,7 @@ abbrev pub Still : Call → Type 0
 Still c = (g : Geometry) (L : Ledger) → (account g L c .words ≡ []) × (account g L c .leaving ≡ L)
 
 module _ (c : Call) {s : Spelling} {cs : Geometry → State → List Condition} {res : Geometry → State → List ℕ}
-    (e : model.account c ≡ looking s cs res) (z : Still c) where
-  -- the book does not read it
-  unread : (P : ℕ) (B : Book) (b : ℕ) → accept P B c b ≡ B
-  unread = subst (Is c) e (is c) .0
-
+    (e : model.account c ≡ looking s cs res asNoted) (unread : (P : ℕ) (B : Book) (b : ℕ) → accept P B c b ≡ B) (z : Still c) where
   still-kept : Keeping c
   unfolding keeps
   still-kept g L T inside fine t n =
@@ -116,7 +114,7 @@ items-runs (s ∷ l) = ap {B = List Item} (λ m. plain (s .0) ∷ plain (s .1) �
 -- ── each call ──
 
 pub told : (c : Call) → Told c
-unfolding account afterKill afterGiving afterDelete afterClearing itemsOf numbersOf bornIn blockGiven blocksIn
+unfolding account afterKill afterGiving afterDelete afterClearing itemsOf numbersOf bornIn oneThenBorn afterFirst blockGiven blocksIn
 told Begin = record {
   answered = begin-answered;
   keeping = begin-kept;
@@ -147,9 +145,9 @@ told (Erase r x) = record {
 told (Seal r) = record {
   answered = seal-answered r;
   keeping = seal-kept r;
-  words = λ g L T inside fine t n. refl;
-  log = λ g L. refl;
-  items = λ g L. refl;
+  words = λ g L T inside fine t n. ap (map released) (closed-freed g inside L T fine t r (closing-first g T r n) (closing-12 g T r n));
+  log = closed-log r;
+  items = λ g L. ap {B = List Item} (λ l. plain (suc (L .book .last)) ∷ l) (items-born L (closed g L r .freed));
   block = λ g L B. refl;
   ordered = λ g L. omega arith;
 }
@@ -171,7 +169,8 @@ told (Delete r) = record {
   block = λ g L B. refl;
   ordered = λ g L. omega arith;
 }
-told (Read r x) = looks-told (Read r x) refl (λ g L. (refl, refl)) (read-answered r x) (λ g L. items-born L (blockOn (L .book) r x)) (λ g L. omega arith)
+told (Read r x) =
+    looks-told (Read r x) refl (λ P B b. refl) (λ g L. (refl, refl)) (read-answered r x) (λ g L. items-born L (blockOn (L .book) r x)) (λ g L. omega arith)
 told Barrier = record {
   answered = barrier-answered;
   keeping = barrier-kept;
@@ -190,5 +189,14 @@ told Compress = record {
   block = λ g L B. refl;
   ordered = λ g L. omega arith;
 }
-told FreeList = looks-told FreeList refl (λ g L. (refl, refl)) list-answered (λ g L. items-runs (runsIn g (isFree L))) (λ g L. omega arith)
-told (Estimate r) = looks-told (Estimate r) refl (λ g L. (refl, refl)) (estimate-answered r) (λ g L. refl) (λ g L. omega arith)
+told FreeList = looks-told FreeList refl (λ P B b. refl) (λ g L. (refl, refl)) list-answered (λ g L. items-runs (runsIn g (isFree L))) (λ g L. omega arith)
+told (Estimate r) = looks-told (Estimate r) refl (λ P B b. refl) (λ g L. (refl, refl)) (estimate-answered r) (λ g L. refl) (λ g L. omega arith)
+told (Retain r k) = record {
+  answered = retain-answered r k;
+  keeping = retain-kept r k;
+  words = λ g L T inside fine t n. refl;
+  log = λ g L. refl;
+  items = λ g L. refl;
+  block = λ g L B. refl;
+  ordered = λ g L. omega arith;
+}

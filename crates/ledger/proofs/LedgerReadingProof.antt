@@ -1,14 +1,15 @@
 -- The reading laws of the ledger alone: it answers as the model does. The statement is `LedgerReading` in specs/LedgerReading.antt.
-use mathlib.Core.Path.{_≡_, _∙_, subst}
+use mathlib.Core.Path.{_≡_, sym, ap, _∙_}
+use mathlib.Core.Logic.{inl, inr}
 use mathlib.Core.List.{List, [], _∷_}
 use Prim.Native.Nat.{ℕ}
-use Rattle.answer.specs.Reply.{Reply, accepted}
+use Rattle.answer.specs.Reply.{Reply, accepted, refused}
+use Rattle.answer.proofs.Cases.{cases}
 use Rattle.geometry.specs.declared.Geometry.{Geometry}
 use Rattle.geometry.specs.Limits.{Inside}
 use Rattle.model.specs.State.{State, fresh}
-use Rattle.model.specs.Book.{Some}
-use Rattle.model.specs.History.{stateFrom}
-use Rattle.model.specs.ReadingLaws.{Shows, Touches, ShowsFrom, ReadingLaws}
+use Rattle.model.specs.History.{wasAccepted, stateFrom}
+use Rattle.model.specs.ReadingLaws.{Shows, Lost, Touched, ShowsFrom, ReadingLaws}
 use Rattle.model.specs.Model.{answer, modelAfter, model}
 use Rattle.model.specs.declared.Call.{Call}
 use Rattle.model.proofs.Fine.{Fine}
@@ -28,11 +29,29 @@ module _ (g : Geometry) (inside : Inside g) where
     there = λ v n c a. S .there (plain v) n c (plain-told g inside v L T F t ∙ a);
   }
 
+  lost-told : (L : Ledger) (T : State) → Fine g T → Tells g L T → (r x : ℕ) → Lost (model g) T r x → Lost (clerk g) L r x
+  lost-told L T F t r x W = record {
+    unread = λ v m c a. W .unread (plain v) m c (plain-told g inside v L T F t ∙ a);
+    eight = λ v n c a. W .eight (plain v) n c (plain-told g inside v L T F t ∙ a);
+  }
+
+  touched-told : (more : List Call) (L : Ledger) (T : State) → Fine g T → Tells g L T → (r x : ℕ) → Touched (model g) T r x (plains more) →
+      Touched (clerk g) L r x more
+  touched-told [] L T F t r x w = w
+  touched-told (c ∷ more) L T F t r x w =
+      let (fine, tells, same) = beside g inside (c ∷ []) L T F t in
+      cases w
+      (λ u. inl (
+        ap wasAccepted (sym (plain-told g inside c L T F t)) ∙ u .0,
+        cases (u .1) (λ d. inl d) (λ d. inr (d .0, lost-told (step g L c) (modelAfter g T (plain c)) fine tells r x (d .1))),
+      ))
+      (λ u. inr (touched-told more (step g L c) (modelAfter g T (plain c)) fine tells r x u))
+
   from-told : (L : Ledger) (T : State) → Fine g T → Tells g L T → (r x : ℕ) (l : List ℕ) → ShowsFrom (model g) T r x l → ShowsFrom (clerk g) L r x l
   from-told L T F t r x l S more n =
       let (fine, tells, same) = beside g inside more L T F t in
       shows-told (stateFrom (clerk g) L more) (stateFrom (model g) T (plains more)) fine tells r x l
-      (S (plains more) (λ w. n (subst (Some (Touches r x)) same w)))
+      (S (plains more) (λ w. n (touched-told more L T F t r x w)))
 
   module _ (L : Ledger) (T : State) (F : Fine g T) (t : Tells g L T) where
     same : (c : Call) (a : Reply) → says g L c ≡ a → answer g T (plain c) ≡ a
@@ -66,6 +85,14 @@ module _ (g : Geometry) (inside : Inside g) where
           erased = λ c r x l e a. next-told c r x [] (W .erased (plain c) r x l e (same c (accepted l) a));
           gone = λ c r l e a more v x m ev av.
               W .gone (plain c) r l e (same c (accepted l) a) (plains more) (plain v) x m ev (later-same c more v (accepted m) av);
+          kept = λ c v q r x l m e a ev av.
+              let (fine, tells, h) = beside g inside (c ∷ []) L T F t in
+              cases (W .kept (plain c) (plain v) q r x l m e (same c (accepted m) a) ev (same v (accepted l) av))
+              (λ s. inl (shows-told (step g L c) (modelAfter g T (plain c)) fine tells r x l s))
+              (λ s. inr (lost-told (step g L c) (modelAfter g T (plain c)) fine tells r x s));
+          taken = λ c v w r x y l ev av ew aw more u z m eu au.
+              W .taken (plain c) (plain v) (plain w) r x y l ev (same v (accepted l) av) ew (later-same c [] w (refused 8) aw)
+              (plains more) (plain u) z m eu (later-same c more u (accepted m) au);
           rises = λ c d n m rest others more oc od ac ad.
               W .rises (plain c) (plain d) n m rest others (plains more) oc od
               (same c (accepted (n ∷ rest)) ac) (later-same c more d (accepted (m ∷ others)) ad);

@@ -41,3 +41,10 @@ pub of-calls : Goes
     ∷ [])
 unfolding prints
 of-calls = refl
+
+-- K "refuses n outside 1 to 62 with 15"
+pub of-windows : Goes
+    (("store 1 4 2 4 8 10", "+") ∷ ("B", "+ 1") ∷ ("K 1 0", "- 15") ∷ ("K 1 1", "+") ∷ ("K 1 62", "+") ∷ ("K 1 63", "- 15") ∷ ("K 1", "- 1")
+    ∷ ("K 1 1 1", "- 1") ∷ [])
+unfolding prints
+of-windows = refl

@@ -1,6 +1,6 @@
 -- What the functions on logs answer and touch.
 use mathlib.Core.Path.{_≡_, refl, sym, ap, ap₂, _∙_, subst}
-use mathlib.Core.Logic.{_↔_, Iff·trans}
+use mathlib.Core.Logic.{_↔_, _⊎_, inl, inr, Iff·trans}
 use mathlib.Core.Bool.{Bool, true, false, not, _&&_}
 use mathlib.Core.List.{List, [], _∷_, _++_, append-assoc}
 use Prim.Native.Nat.{ℕ, zero, suc, _+_, _-_, _*_, _/_, _%_, _≤_, _<_}
@@ -8,7 +8,7 @@ use native.Mathlib.Nat.{div-div-eq-div-mul, div-one}
 use native.Mathlib.Omega.{arith}
 use lib.Dec.{ltb}
 use lib.ListN.{length, take, drop, getD, length-append, length-drop}
-use lib.Seq.{sets, sets-eq, take-at, drop-at, length-take-le, getD-drop, ext-getD}
+use lib.Seq.{sets, sets-eq, take-at, drop-at, length-take-le, getD-take, getD-drop, ext-getD}
 use borrow.Author.Tests.{ltb-true}
 use Rattle.answer.specs.Reply.{Reply, accepted, refused}
 use Rattle.answer.specs.Refusal.{Condition, decide, leaves}
@@ -50,6 +50,20 @@ beyond to old new h e same = record {
   front = refl;
   back = ext-getD 0 (drop to new) (drop to old) (simp length-drop (ap (λ (n : ℕ). n - to) e)) (λ i k. getD-drop to new i 0 ∙ same (to + i) (omega arith) ∙ sym (getD-drop to old i 0));
 }
+
+-- that agree but from `from` up to `to`
+pub changed-between : (from to : ℕ) (old new : List ℕ) → from ≤ to → to ≤ length old → length new ≡ length old →
+    ((i : ℕ) → (i < from) ⊎ (to ≤ i) → getD new i 0 ≡ getD old i 0) → Within from to old new
+changed-between from to old new l h e same =
+    let a = length-take-le from new (omega arith) in
+    let b = length-take-le from old (omega arith) in
+    record {
+      fits = h;
+      size = e;
+      front = ext-getD 0 (take from new) (take from old) (a ∙ sym b)
+          (λ i k. let m : i < from = omega arith in getD-take from new i 0 m ∙ same i (inl m) ∙ sym (getD-take from old i 0 m));
+      back = beyond to old new h e (λ i k. same i (inr k)) .back;
+    }
 
 pub unchanged : (from to : ℕ) (old new : List ℕ) → new ≡ old → to ≤ length old → Within from to old new
 unchanged from to old new e h = record { fits = h; size = ap length e; front = ap (take from) e; back = ap (drop to) e }

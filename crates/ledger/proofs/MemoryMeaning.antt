@@ -19,9 +19,9 @@ use Rattle.log.specs.Word.{writeAt, bytesOf}
 use Rattle.model.specs.Held.{waits, available}
 use Rattle.model.specs.Lists.{elem}
 use Rattle.model.specs.State.{State, fresh}
-use Rattle.model.specs.Calls.{conditions, result, written, effect}
-use Rattle.model.specs.Layout.{need, freeWord, stateOf, stored, made}
-use Rattle.model.specs.Memory.{Memory, short?, sound?, writtenAt, reply, after, makeReply, makeAfter}
+use Rattle.model.specs.Calls.{conditions, result, written}
+use Rattle.model.specs.Layout.{need, freeWord, stateOf, made}
+use Rattle.model.specs.Memory.{Memory, short?, sound?, writtenAt, reply, storedBy, after, makeReply, makeAfter}
 use Rattle.model.specs.SoundStore.{MadeFor, SoundStore}
 use Rattle.model.specs.RefusalMeans.{sentences, Say}
 use Rattle.model.specs.declared.Call.{Call}
@@ -141,7 +141,7 @@ call-means g M c =
           (λ i. later (is-short g M) 3 three l (accepted m) not-accepted
           (λ k. later (is-unsound g i (M .tables) (M .log)) 4 four l (accepted m) not-accepted (λ s. say-none four (sentences g T c) l m (say i s))));
       refusal = λ n e. ap (λ (r : Reply). record {
-        tables = leaves r (M .tables) (stored g (effect g T c) (M .tables));
+        tables = leaves r (M .tables) (storedBy g (M .tables) c);
         log = leaves r (M .log) (writeAt (M .log) (writtenAt T c) (bytesOf (written g T c)));
         out = leaves r (M .out) (sets (M .out) 0 l);
       }) e;

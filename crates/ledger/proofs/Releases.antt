@@ -101,7 +101,7 @@ module _ (g : Geometry) (inside : Inside g) (M : Memory) (s : SoundStore g (M .t
         header = λ i h nine eleven o.
             stored-header g U t room i h ∙ header-same g T t n i nine eleven o ∙ sym (stored-header g T t room i h) ∙ said i;
         column = λ f k hf hk a b c. stored-column g U t room f k hf hk ∙ sym (stored-column g T t room f k hf hk) ∙ said _;
-        spare = λ i l h a b c. stored-spare g U t room i l h;
+        spare = λ i l h a b c. stored-spare g U t room i l h ∙ sym (stored-spare g T t room i l h) ∙ said i;
         page = λ k x hk hx a b c. stored-page g U t room k x hk hx ∙ sym (stored-page g T t room k x hk hx) ∙ said _;
         list = λ k i hk hi a b c. stored-list g U t room k i hk hi ∙ sym (stored-list g T t room k i hk hi) ∙ said _;
         birth = λ b hb x y z. stored-birth g U t room b hb ∙ sym (stored-birth g T t room b hb) ∙ said _;

@@ -1,30 +1,36 @@
 -- What a call may touch of the memory that it is lent.
 use mathlib.Core.Path.{_≡_, refl, sym, ap, _∙_, subst}
+use mathlib.Core.Logic.{_⊎_}
 use mathlib.Core.Bool.{cond}
 use mathlib.Core.List.{List}
-use Prim.Native.Nat.{ℕ, _*_, _≤_}
+use Prim.Native.Nat.{ℕ, _-_, _*_, _≤_, _<_}
 use native.Mathlib.Omega.{arith}
 use lib.ListN.{length, getD}
 use lib.Seq.{sets}
+use borrow.Author.Tests.{lt-leb, le-leb, le-ltb}
+use Rattle.answer.proofs.Cases.{cases}
 use Rattle.answer.specs.Reply.{Reply, accepted, refused}
 use Rattle.answer.specs.Refusal.{leaves}
 use Rattle.geometry.specs.declared.Geometry.{Geometry}
 use Rattle.log.specs.Word.{writeAt, bytesOf}
 use Rattle.log.proofs.Writing.{write-none}
-use Rattle.model.specs.State.{State, withUsed, synced}
-use Rattle.model.specs.Calls.{Account, looking, opening, freeing, placing, marking, renewing, account, renews, wordsBy, leftBy, resultBy, result}
+use Rattle.model.specs.State.{State, Notes, withUsed, withNotes, synced}
+use Rattle.model.specs.Calls.{Account, looking, opening, freeing, closing, placing, marking, renewing, account, renews, wordsBy, leftBy, resultBy, result}
 use Rattle.model.specs.Calls.{written, effect, logged}
-use Rattle.model.specs.Layout.{need, stateOf, stored, headerNumber}
-use Rattle.model.specs.Memory.{Memory, writtenAt, reply, after}
+use Rattle.model.specs.Held.{waits, available}
+use Rattle.model.specs.Layout.{need, stateOf, stored, headerNumber, noteNumber, freeWord}
+use Rattle.model.specs.Memory.{Memory, writtenAt, reply, midway, storedBy, after}
 use Rattle.model.specs.declared.Call.{Call}
 use Rattle.model.proofs.Fine.{effect-fine}
 use Rattle.model.proofs.Keeps.{accepted-is, sound-fine}
-use Rattle.model.proofs.LayoutFacts.{stored-length, stored-header, stored-beyond}
+use Rattle.model.proofs.LayoutFacts.{by-address, stored-length, stored-header, stored-column, stored-spare, stored-page, stored-list, stored-birth}
+use Rattle.model.proofs.LayoutFacts.{stored-wait, stored-beyond}
+use Rattle.model.proofs.Midway.{midway-length, by-length, by-beyond}
 use Rattle.model.proofs.Restored.{stored-state}
 use Rattle.model.proofs.ResultSize.{accepted-short}
 use Rattle.ledger.specs.LogMeans.{Given, Within}
 use Rattle.ledger.specs.Touched.{Released, TouchedAs, TouchedBy, Touched, CallTouches}
-use Rattle.ledger.proofs.LogMeaning.{given, within, beyond}
+use Rattle.ledger.proofs.LogMeaning.{given, within, beyond, changed-between}
 use Rattle.ledger.proofs.LogTold.{ends-at}
 use Rattle.ledger.proofs.Releases.{released}
 
@@ -40,7 +46,7 @@ abbrev memoryAfter : Geometry → Memory → Call → Reply → Memory
 memoryAfter g M c r =
     let T = stateOf g (M .tables) in
     record {
-      tables = leaves r (M .tables) (stored g (effect g T c) (M .tables));
+      tables = leaves r (M .tables) (storedBy g (M .tables) c);
       log = leaves r (M .log) (writeAt (M .log) (writtenAt T c) (bytesOf (written g T c)));
       out = leaves r (M .out) (sets (M .out) 0 (result g T c));
     }
@@ -59,15 +65,43 @@ module _ (g : Geometry) (M : Memory) (c : Call) (l : List ℕ) (e : reply g M c 
   same : stored g T t ≡ t
   same = let s = accepted-is g M c l e .0 .sound in stored-state g t (s .made) (s .free) room
 
-  now-used : getD (stored g (effect g T c) t) 9 0 ≡ effect g T c .used
-  now-used = used-is g t (effect g T c) room
+  -- other notes change the column of the windows alone
+  windows-only : (N : Notes) → Within 576 640 (M .tables) (stored g (withNotes (stateOf g (M .tables)) N) (M .tables))
+  unfolding noteNumber headerNumber freeWord available waits
+  windows-only N =
+      let U : State = withNotes T N in
+      let said : (i : ℕ) → getD (stored g T t) i 0 ≡ getD t i 0 = λ i. ap (λ (l : List ℕ). getD l i 0) same in
+      let few : g .records ≤ 64 = accepted-is g M c l e .0 .inside .records-most in
+      changed-between 576 640 t (stored g U t) (omega arith) (omega (arith, room)) (stored-length g U t)
+      (by-address g (λ i. (i < 576) ⊎ (640 ≤ i) → getD (stored g U t) i 0 ≡ getD t i 0) (record {
+        header = λ i h o. stored-header g U t room i h ∙ same-header i ∙ sym (stored-header g T t room i h) ∙ said i;
+        column = λ f k hf hk o. stored-column g U t room f k hf hk ∙ sym (stored-column g T t room f k hf hk) ∙ said _;
+        spare = λ i a b o. stored-spare g U t room i a b ∙ note-off N i few o;
+        page = λ k x hk hx o. stored-page g U t room k x hk hx ∙ sym (stored-page g T t room k x hk hx) ∙ said _;
+        list = λ k i hk hi o. stored-list g U t room k i hk hi ∙ sym (stored-list g T t room k i hk hi) ∙ said _;
+        birth = λ b hb o. stored-birth g U t room b hb ∙ sym (stored-birth g T t room b hb) ∙ said _;
+        wait = λ i a b o. stored-wait g U t room i a b ∙ sym (stored-wait g T t room i a b) ∙ said i;
+        beyond = λ i a o. stored-beyond g U t i a;
+      }))
+    where
+      same-header : (i : ℕ) → headerNumber g (withNotes T N) t i ≡ headerNumber g T t i
+      same-header i = refl
+
+      note-off : (N : Notes) (i : ℕ) → g .records ≤ 64 → (i < 576) ⊎ (640 ≤ i) → noteNumber (g .records) N t i ≡ getD t i 0
+      note-off N i few o =
+          cases o
+          (λ h. rw (lt-leb 576 i h))
+          (λ h. rw (le-leb 576 i (omega arith), le-ltb (i - 576) (g .records) (omega arith)))
+
+  now-used : getD (storedBy g t c) 9 0 ≡ effect g T c .used
+  now-used = used-is g (midway g T (account c) t) (effect g T c) (omega (arith, room, midway-length g T (account c) t))
 
   -- the log, from where the call writes up to what is used then
-  words : Within (writtenAt T c) (8 * getD (stored g (effect g T c) t) 9 0) (M .log) (writeAt (M .log) (writtenAt T c) (bytesOf (written g T c)))
+  words : Within (writtenAt T c) (8 * getD (storedBy g t c) 9 0) (M .log) (writeAt (M .log) (writtenAt T c) (bytesOf (written g T c)))
   words =
       let A = accepted-is g M c l e .0 in
       let G = effect-fine g (A .inside) T (sound-fine g t (M .log) (A .sound)) c (A .none) in
-      let u : getD (stored g (effect g T c) t) 9 0 ≤ g .words = omega (arith, now-used, G .range .used) in
+      let u : getD (storedBy g t c) 9 0 ≤ g .words = omega (arith, now-used, G .range .used) in
       within (writtenAt T c) _ (M .log) (bytesOf (written g T c)) (ends-at g T c ∙ ap (λ (n : ℕ). 8 * n) (sym now-used)) (omega (arith, u, A .long .log))
 
   -- Y and C, with n words used: what waited may be given
@@ -80,7 +114,7 @@ abbrev leftAs : Geometry → Memory → Account → Memory
 leftAs g M A =
     let T = stateOf g (M .tables) in
     record {
-      tables = stored g (leftBy g T A) (M .tables);
+      tables = stored g (leftBy g T A) (midway g T A (M .tables));
       log = writeAt (M .log) (cond (renews A) 0 (8 * T .used)) (bytesOf (wordsBy g T A));
       out = sets (M .out) 0 (resultBy g T A);
     }
@@ -92,9 +126,16 @@ WordsIn g M A =
 
 by-kind : (g : Geometry) (M : Memory) (c : Call) (A : Account) (l : List ℕ) → account c ≡ A → reply g M c ≡ accepted l → TouchedAs g A M (leftAs g M A)
 unfolding stateOf logged
-by-kind g M c (looking s cs res) l d e = (write-none (M .log) _, same g M c l e)
+by-kind g M c (looking s cs res note) l d e = (
+  write-none (M .log) _,
+  (
+    λ z. ap (λ N. stored g (withNotes (stateOf g (M .tables)) N) (M .tables)) z ∙ same g M c l e,
+    windows-only g M c l e (note (stateOf g (M .tables))),
+  ),
+)
 by-kind g M c (opening cs a) l d e = write-none (M .log) _
 by-kind g M c (freeing cs a) l d e = subst (WordsIn g M) d (words g M c l e)
+by-kind g M c (closing r) l d e = subst (WordsIn g M) d (words g M c l e)
 by-kind g M c (placing r x k) l d e = subst (WordsIn g M) d (words g M c l e)
 by-kind g M c marking l d e = (
   subst (WordsIn g M) d (words g M c l e),
@@ -117,6 +158,6 @@ call-touches g M c = go (reply g M c) refl
         let T : State = stateOf g (M .tables) in
         record {
           out = subst (λ (k : List ℕ). Given l (M .out) (sets (M .out) 0 k)) (sym r) (given l (M .out) (omega (arith, accepted-short g M c l e)));
-          tables = beyond (need g) (M .tables) (stored g (effect g T c) (M .tables)) (A .long .tables) (stored-length g (effect g T c) (M .tables)) (stored-beyond g (effect g T c) (M .tables));
+          tables = beyond (need g) (M .tables) (storedBy g (M .tables) c) (A .long .tables) (by-length g (M .tables) c) (by-beyond g (M .tables) c);
           call = by-call g M c l e;
         }

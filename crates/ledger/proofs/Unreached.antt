@@ -18,7 +18,7 @@ use Rattle.model.specs.Lists.{elem, below?, rows, onPage}
 use Rattle.model.specs.Check.{imp, once?, takes?, prev?, base?, two?, linked?, like?, fits?, page?}
 use Rattle.model.specs.Check.{ownAt, owns, allOwn, goneAt, gone, list?, slot?, empty?, good?}
 use Rattle.model.specs.Layout.{freeWord, field, numbers, viewOf, stateOf}
-use Rattle.model.specs.Memory.{numbers?, range?, logHolds?, waiting?, free?, sound?}
+use Rattle.model.specs.Memory.{numbers?, range?, logHolds?, waiting?, windows?, free?, sound?}
 use Rattle.model.specs.SoundStore.{SoundStore}
 use Rattle.model.proofs.SoundTest.{sound-iff}
 use Rattle.ledger.proofs.PaperTable.{small}
@@ -27,7 +27,7 @@ use Rattle.ledger.proofs.PaperTable.{small}
 unfoldable tested : Geometry → List ℕ → List ℕ → Bool
 unfolding wordOf words heldIn readLog firstWord byCode byProgress free ended readable marksOf markRun all held waits available elem below? rows onPage imp
     once? takes? prev? base? two? linked? like? fits? page? ownAt owns allOwn goneAt gone list? slot? empty? good? freeWord field numbers viewOf stateOf
-    numbers? range? logHolds? waiting? free? sound? put via firstLink Rattle.model.specs.Check.marksOf
+    numbers? range? logHolds? waiting? windows? free? sound? put via firstLink Rattle.model.specs.Check.marksOf
 tested g t log = sound? g t log
 
 -- six numbers as in `store 1 4 2 4 8 10`; the last number used is 2, slot 0 has the open record 2 with no page; the mark of arena 0 stands at 3, though no

@@ -1,7 +1,7 @@
 -- WHAT A CALL MAY TOUCH (rules 6.3, 7.1), told of the memory before it and the memory that it left.
 use mathlib.Core.Path.{_≡_}
 use mathlib.Core.Logic.{_↔_, _⊎_}
-use mathlib.Core.List.{List, []}
+use mathlib.Core.List.{List}
 use Prim.Native.Nat.{ℕ, suc, _+_, _*_, _/_, _%_, _^_, _≤_, _<_}
 use lib.ListN.{getD}
 use Rattle.answer.specs.Reply.{Reply, accepted, refused}
@@ -9,7 +9,7 @@ use Rattle.geometry.specs.declared.Geometry.{Geometry}
 use Rattle.geometry.specs.Limits.{blocks}
 use Rattle.ledger.specs.LogMeans.{Given, Within}
 use Rattle.model.specs.Lists.{In}
-use Rattle.model.specs.Calls.{Account, looking, opening, freeing, placing, marking, renewing, account}
+use Rattle.model.specs.Calls.{Account, looking, opening, freeing, closing, placing, marking, renewing, account}
 use Rattle.model.specs.Layout.{stateOf}
 use Rattle.model.specs.Memory.{Memory, wordsUsed, reply, after}
 use Rattle.ledger.specs.MemoryMeans.{tableSize}
@@ -34,11 +34,14 @@ pub record Released (g : Geometry) (M left : Memory) : Type 0 where
 
 -- what each call may touch beyond that
 abbrev pub TouchedAs : Geometry → Account → Memory → Memory → Type 0
--- these look only
-TouchedAs g (looking s cs res) M left = (left .log ≡ M .log) × (left .tables ≡ M .tables)
+-- these look only; of the tables, a call that notes something changes the column of the windows
+TouchedAs g (looking s cs res note) M left =
+    (left .log ≡ M .log) ×
+    ((note (stateOf g (M .tables)) ≡ stateOf g (M .tables) .notes → left .tables ≡ M .tables) × Within 576 640 (M .tables) (left .tables))
 -- these write no log word
 TouchedAs g (opening cs a) M left = left .log ≡ M .log
 TouchedAs g (freeing cs a) M left = Appended M left
+TouchedAs g (closing r) M left = Appended M left
 TouchedAs g (placing r x k) M left = Appended M left
 -- of the tables, the count of the log words, and what waited is released
 TouchedAs g marking M left = Appended M left × ((wordsUsed left ≡ suc (wordsUsed M)) × Released g M left)

@@ -16,7 +16,7 @@ use Rattle.model.specs.Results.{numbersOf}
 use Rattle.script.specs.ReplyText.{spellingOf, replyText, plus, replyRead}
 use Rattle.ledger.specs.Transcript.{Runner, without-store, asked, lineSays, lineGives, lineText, printed, left}
 
--- how a line may be refused, whatever stands before it (5 to 14: `says`)
+-- how a line may be refused, whatever stands before it (5 to 15: `says`)
 pub record LineRefused (R : Runner) (p : Parsed) : Type 0 where
   -- "1: a script line that is no call." (7.1)
   pub one : (lineSays R p ≡ refused 1) ↔ (p ≡ No)
