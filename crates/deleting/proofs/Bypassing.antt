@@ -31,7 +31,7 @@ use Rattle.tables.proofs.Puts.{shaped-list, shaped-prev}
 use Rattle.tables.proofs.Steps.{Holds, holds-as, holds-first, step-prev}
 use Rattle.tables.proofs.Lists.{step-list, rest-said}
 use Rattle.tables.proofs.Reading.{reads-prev}
-use Rattle.deleting.specs.Stages.{younger, older, bypassed}
+use Rattle.deleting.specs.Stages.{younger, others, bypassed}
 use Rattle.deleting.proofs.Buffers.{get-before, get-behind, get-in, get-first, sets-append, sets-over, take-sets}
 use Rattle.deleting.proofs.Sifting.{length-sorted}
 use Rattle.deleting.proofs.Parting.{parts, freed-is}
@@ -98,9 +98,9 @@ module _ {g : Geometry} {t₀ : List ℕ} (R : Ready g t₀) (s n : ℕ) (asks :
   -- ── the row of n is parted at p, the number of the pred of s ──
 
   module _ (p : ℕ) (ep : p ≡ predNum (viewOf g t₀) s) (t₁ : List ℕ)
-      (e₁ : t₁ ≡ sets t₀ (listCell (g .records) n 0) (older (viewOf g t₀) p (viewOf g t₀ .list n))) where
+      (e₁ : t₁ ≡ sets t₀ (listCell (g .records) n 0) (others (viewOf g t₀) p (viewOf g t₀ .list n))) where
     abbrev O : List ℕ
-    O = older (viewOf g t₀) p (viewOf g t₀ .list n)
+    O = others (viewOf g t₀) p (viewOf g t₀ .list n)
 
     abbrev Y : List ℕ
     Y = younger (viewOf g t₀) p (viewOf g t₀ .list n)
@@ -110,7 +110,7 @@ module _ {g : Geometry} {t₀ : List ℕ} (R : Ready g t₀) (s n : ℕ) (asks :
 
     joined-is : O ++ K .list s ≡ joined K s n
     unfolding joined
-    joined-is = ap (λ q. older K q (K .list n) ++ K .list s) ep
+    joined-is = ap (λ q. others K q (K .list n) ++ K .list s) ep
 
     both : length O + length (K .list s) ≤ g .pages
     both = omega (arith, length-append O (K .list s), ap length joined-is, joined-short)

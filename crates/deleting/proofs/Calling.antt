@@ -207,6 +207,7 @@ module _ (g : Geometry) (t : List ℕ) (R : Ready g t) (r : ℕ) (v : Verdict) (
             pages = z .pages ∙ S .pages;
             blocks = z .blocks ∙ S .blocks;
             mark = S .mark;
+            window = λ i h. S .window i (omega (arith, z .slots));
             few = omega (arith, deleted-fit R s accept-asks f accept-follows, z .blocks ∙ S .blocks);
           };
         }

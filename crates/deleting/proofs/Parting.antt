@@ -15,6 +15,7 @@ use Rattle.geometry.specs.Limits.{blocks}
 use Rattle.model.specs.Lists.{keepIf}
 use Rattle.model.specs.View.{View, predNum}
 use Rattle.model.specs.Effects.{unlinked}
+use Rattle.model.specs.Window.{bornAbove}
 use Rattle.model.specs.Layout.{lengthCell, listCell, birthCell, viewOf}
 use Rattle.model.proofs.ListFacts.{keep-yes, keep-no, keep-append}
 use Rattle.model.specs.Sorted.{sortedOnto}
@@ -22,7 +23,7 @@ use Rattle.model.proofs.Sorting.{unlinked-sorted}
 use Rattle.tables.specs.Ready.{Ready}
 use Rattle.tables.proofs.Fields
 use Rattle.tables.proofs.Ranges
-use Rattle.deleting.specs.Stages.{younger, older}
+use Rattle.deleting.specs.Stages.{younger, others}
 use Rattle.deleting.proofs.Buffers.{get-behind, sets-last}
 use Rattle.deleting.proofs.Sifting.{length-sorted}
 
@@ -51,7 +52,7 @@ keep-front c l i =
     )
 
 -- the two parts are all
-pub parts : (K : View) (p : ℕ) (l : List ℕ) → length (younger K p l) + length (older K p l) ≡ length l
+pub parts : (K : View) (p : ℕ) (l : List ℕ) → length (younger K p l) + length (others K p l) ≡ length l
 unfolding keepIf
 parts K p [] = omega arith
 parts K p (b ∷ l) =
@@ -69,6 +70,11 @@ module _ {g : Geometry} {t : List ℕ} (R : Ready g t) (s n p : ℕ) (ep : p ≡
   pub freed-many : length (younger (viewOf g t) p (viewOf g t .list n)) ≡ length (unlinked (viewOf g t) s n)
   freed-many =
       omega (arith, length-sorted (viewOf g t .birth) [] (younger (viewOf g t) p (viewOf g t .list n)), ap length freed-is)
+
+  -- as `count_gone` counts them
+  pub frees-many : bornAbove (viewOf g t) p n ≡ length (unlinked (viewOf g t) s n)
+  unfolding bornAbove
+  frees-many = freed-many
 
 -- no more than there are entries, and pages
 pub unlinked-short : {g : Geometry} {t : List ℕ} → Ready g t → (s n : ℕ) → length (unlinked (viewOf g t) s n) ≤ g .pages
@@ -107,7 +113,7 @@ module _ {g : Geometry} {t₀ : List ℕ} (R : Ready g t₀) (n : ℕ) (hn : n <
           keep-more (λ c. ltb p (K .birth c)) l i has (lt-ltb p (K .birth (getD l i 0)) (omega (arith, here))) ∙
           ap (λ (d : ℕ). younger K p (take i l) ++ (d ∷ [])) (sym e)
 
-      old-past : older K p (take (i + 1) l) ≡ older K p (take i l)
+      old-past : others K p (take (i + 1) l) ≡ others K p (take i l)
       old-past = keep-past (λ c. leb (K .birth c) p) l i has (lt-leb (K .birth (getD l i 0)) p (omega (arith, here)))
 
       pub count-more : (c : ℕ) → c ≡ length (younger (viewOf g t₀) p (take i (viewOf g t₀ .list n))) →
@@ -122,19 +128,20 @@ module _ {g : Geometry} {t₀ : List ℕ} (R : Ready g t₀) (n : ℕ) (hn : n <
       out-more c d o₀ o eo =
           ap (λ (u : List ℕ). set u c b) eo ∙ sets-last o₀ 0 (younger K p (take i l)) b c (omega arith) ∙ ap (sets o₀ 0) (sym young-more)
 
-      pub kept-past : (k : ℕ) → k ≡ length (older (viewOf g t₀) p (take i (viewOf g t₀ .list n))) → k ≡ length (older (viewOf g t₀) p (take (i + 1) (viewOf g t₀ .list n)))
+      pub kept-past : (k : ℕ) → k ≡ length (others (viewOf g t₀) p (take i (viewOf g t₀ .list n))) →
+          k ≡ length (others (viewOf g t₀) p (take (i + 1) (viewOf g t₀ .list n)))
       kept-past k d = d ∙ sym (ap length old-past)
 
-      pub row-past : {t : List ℕ} → t ≡ sets t₀ (listCell (g .records) n 0) (older (viewOf g t₀) p (take i (viewOf g t₀ .list n))) →
-          t ≡ sets t₀ (listCell (g .records) n 0) (older (viewOf g t₀) p (take (i + 1) (viewOf g t₀ .list n)))
+      pub row-past : {t : List ℕ} → t ≡ sets t₀ (listCell (g .records) n 0) (others (viewOf g t₀) p (take i (viewOf g t₀ .list n))) →
+          t ≡ sets t₀ (listCell (g .records) n 0) (others (viewOf g t₀) p (take (i + 1) (viewOf g t₀ .list n)))
       row-past d = d ∙ ap (sets t₀ (listCell (g .records) n 0)) (sym old-past)
 
     -- it stays
     module _ (y : viewOf g t₀ .birth b ≤ p) where
-      old-more : older K p (take (i + 1) l) ≡ older K p (take i l) ++ (b ∷ [])
+      old-more : others K p (take (i + 1) l) ≡ others K p (take i l) ++ (b ∷ [])
       old-more =
           keep-more (λ c. leb (K .birth c) p) l i has (le-leb (K .birth (getD l i 0)) p (omega (arith, here))) ∙
-          ap (λ (d : ℕ). older K p (take i l) ++ (d ∷ [])) (sym e)
+          ap (λ (d : ℕ). others K p (take i l) ++ (d ∷ [])) (sym e)
 
       young-past : younger K p (take (i + 1) l) ≡ younger K p (take i l)
       young-past = keep-past (λ c. ltb p (K .birth c)) l i has (le-ltb p (K .birth (getD l i 0)) (omega (arith, here)))
@@ -147,30 +154,30 @@ module _ {g : Geometry} {t₀ : List ℕ} (R : Ready g t₀) (n : ℕ) (hn : n <
           o ≡ sets o₀ 0 (younger (viewOf g t₀) p (take (i + 1) (viewOf g t₀ .list n)))
       out-past o₀ o d = d ∙ ap (sets o₀ 0) (sym young-past)
 
-      pub kept-more : (k : ℕ) → k ≡ length (older (viewOf g t₀) p (take i (viewOf g t₀ .list n))) →
-          k + 1 ≡ length (older (viewOf g t₀) p (take (i + 1) (viewOf g t₀ .list n)))
-      kept-more k d = omega (arith, ap length old-more, length-append (older K p (take i l)) (b ∷ []))
+      pub kept-more : (k : ℕ) → k ≡ length (others (viewOf g t₀) p (take i (viewOf g t₀ .list n))) →
+          k + 1 ≡ length (others (viewOf g t₀) p (take (i + 1) (viewOf g t₀ .list n)))
+      kept-more k d = omega (arith, ap length old-more, length-append (others K p (take i l)) (b ∷ []))
 
-      pub row-more : (k : ℕ) → k ≡ length (older (viewOf g t₀) p (take i (viewOf g t₀ .list n))) → {t : List ℕ} →
-          t ≡ sets t₀ (listCell (g .records) n 0) (older (viewOf g t₀) p (take i (viewOf g t₀ .list n))) →
-          set t (listCell (g .records) n k) b ≡ sets t₀ (listCell (g .records) n 0) (older (viewOf g t₀) p (take (i + 1) (viewOf g t₀ .list n)))
+      pub row-more : (k : ℕ) → k ≡ length (others (viewOf g t₀) p (take i (viewOf g t₀ .list n))) → {t : List ℕ} →
+          t ≡ sets t₀ (listCell (g .records) n 0) (others (viewOf g t₀) p (take i (viewOf g t₀ .list n))) →
+          set t (listCell (g .records) n k) b ≡ sets t₀ (listCell (g .records) n 0) (others (viewOf g t₀) p (take (i + 1) (viewOf g t₀ .list n)))
       row-more k d {t} et =
           ap (λ (u : List ℕ). set u (listCell (g .records) n k) b) et ∙
-          sets-last t₀ (listCell (g .records) n 0) (older K p (take i l)) b (listCell (g .records) n k) (omega arith) ∙
+          sets-last t₀ (listCell (g .records) n 0) (others K p (take i l)) b (listCell (g .records) n k) (omega arith) ∙
           ap (sets t₀ (listCell (g .records) n 0)) (sym old-more)
 
   -- entry i and its birth in tables whose row n is parted up to i
-  module _ (k : ℕ) (ek : k ≡ length (older (viewOf g t₀) p (take i (viewOf g t₀ .list n)))) (low : k ≤ i) {t : List ℕ}
-      (et : t ≡ sets t₀ (listCell (g .records) n 0) (older (viewOf g t₀) p (take i (viewOf g t₀ .list n)))) where
+  module _ (k : ℕ) (ek : k ≡ length (others (viewOf g t₀) p (take i (viewOf g t₀ .list n)))) (low : k ≤ i) {t : List ℕ}
+      (et : t ≡ sets t₀ (listCell (g .records) n 0) (others (viewOf g t₀) p (take i (viewOf g t₀ .list n)))) where
     pub entry-read : getD t (listCell (g .records) n i) 0 ≡ getD (viewOf g t₀ .list n) i 0
     entry-read =
         ap (λ (u : List ℕ). getD u (listCell (g .records) n i) 0) et ∙
-        get-behind (older K p (take i l)) t₀ (listCell (g .records) n 0) (listCell (g .records) n i) (omega arith) ∙ sym (Fields.list-at g t₀ n i hn more)
+        get-behind (others K p (take i l)) t₀ (listCell (g .records) n 0) (listCell (g .records) n i) (omega arith) ∙ sym (Fields.list-at g t₀ n i hn more)
 
     pub birth-read : (b : ℕ) → b < blocks g → getD t (birthCell (g .records) b) 0 ≡ viewOf g t₀ .birth b
     birth-read b h =
         ap (λ (u : List ℕ). getD u (birthCell (g .records) b) 0) et ∙
-        get-behind (older K p (take i l)) t₀ (listCell (g .records) n 0) (birthCell (g .records) b)
+        get-behind (others K p (take i l)) t₀ (listCell (g .records) n 0) (birthCell (g .records) b)
         (omega (arith, Ranges.length-cell-le R n hn, R .roomy .inside .pages-most)) ∙ sym (Fields.birth-is g t₀ b h)
 
 -- a count as it was read

@@ -26,7 +26,7 @@ use Rattle.deleting.proofs.Logging.{map-length}
 
 pub ready-fine : {g : Geometry} {t : List ℕ} → Ready g t → Fine g (stateOf g t)
 unfolding stateOf viewOf
-ready-fine R = record { sound = R .sound; slots = refl; pages = refl; blocks = refl; range = R .range; waits = R .waiting }
+ready-fine R = record { sound = R .sound; slots = refl; pages = refl; blocks = refl; range = R .range; waits = R .waiting; windows = R .windows }
 
 -- ── the code's tests ──
 

@@ -13,8 +13,8 @@ use Rattle.tables.specs.Births.{freed}
 abbrev pub younger : View → ℕ → List ℕ → List ℕ
 younger K p l = keepIf (λ b. ltb p (K .birth b)) l
 
-abbrev pub older : View → ℕ → List ℕ → List ℕ
-older K p l = keepIf (λ b. leb (K .birth b) p) l
+abbrev pub others : View → ℕ → List ℕ → List ℕ
+others K p l = keepIf (λ b. leb (K .birth b) p) l
 
 -- s, which n follows, is taken out of its line: its deadlist joins that of n, what is freed leaves it, and n's link is that of s.
 -- The births of the freed blocks, the deadlist of s and its number stay.

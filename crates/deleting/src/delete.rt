@@ -50,7 +50,7 @@ pub fn count_frees(t: &[u32], g: Geometry, s: usize, follower: usize) -> usize
     if follower == 0 {
         return count_young(t, g, s);
     }
-    count_gone(t, g, s, follower - 1, pred_number(t, g, s))
+    count_gone(t, g, follower - 1, pred_number(t, g, s))
 }
 
 // Whether the log has too few unused words for the frees of slot s. No deletion frees more blocks than there are pages: they are counted only
@@ -86,7 +86,7 @@ fn delete_verdict(t: &[u32], g: Geometry, number: u32, link: usize) -> Verdict
 }
 
 // The words of the first n blocks of `out`, each with its birth behind it, freed in order, behind the used words.
-fn log_frees(t: &mut [u32], log: &mut [u8], out: &[u32], n: usize)
+pub fn log_frees(t: &mut [u32], log: &mut [u8], out: &[u32], n: usize)
     requires { ⌜ (10 ≤ length (now t)) × (2 * n ≤ length (now out)) × (8 * (getD (now t) 9 0 + n) ≤ length (now log)) × (getD (now t) 9 0 + n ≤ 8192) ⌝ }
     ensures tables { λ _. ⌜ now (t .exit) ≡ set (now (t .entry)) 9 (getD (now (t .entry)) 9 0 + n) ⌝ }
     ensures log { λ _. ⌜ now (log .exit) ≡ writeAt (now (log .entry)) (8 * getD (now (t .entry)) 9 0) (bytesOf (map released (blocksIn (take (2 * n) (now (out .entry)))))) ⌝ }
@@ -142,7 +142,7 @@ fn free_all(g: Geometry, t: &mut [u32], out: &[u32], n: usize)
 
 // Deletes the record in slot s, with the link of the one that follows. The freed blocks are written to `out`, each with its birth behind it. Returns how
 // many they are. `out` may be a part of a buffer: no more is asked of it than room for them.
-fn delete_record(g: Geometry, t: &mut [u32], out: &mut [u32], s: usize, link: usize) -> usize
+pub fn delete_record(g: Geometry, t: &mut [u32], out: &mut [u32], s: usize, link: usize) -> usize
     requires { ⌜ Ready g (now t) × (2 * length (deleted (viewOf g (now t)) s link) ≤ length (now out)) × Asks (viewOf g (now t)) (doD s) × (follower (viewOf g (now t)) s ≡ link) ⌝ }
     ensures count { λ r. ⌜ r ≡ length (deleted (viewOf g (now (t .entry))) s link) ⌝ }
     ensures tables { λ r. ⌜ now (t .exit) ≡ stored g (freeAll (deleted (viewOf g (now (t .entry))) s link) (withView (stateOf g (now (t .entry))) (deleteAt (viewOf g (now (t .entry))) s link))) (now (t .entry)) ⌝ }

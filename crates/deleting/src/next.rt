@@ -6,9 +6,10 @@ ghost use lib.Seq.{sets};
 ghost use Rattle.model.specs.View.{predNum};
 ghost use Rattle.model.specs.Actions.{doD, Asks, follower};
 ghost use Rattle.model.specs.Effects.{unlinked};
+ghost use Rattle.model.specs.Window.{bornAbove};
 ghost use Rattle.model.specs.Layout.{listCell, lengthCell, viewOf, stateOf, stored};
 ghost use Rattle.tables.specs.Ready.{Roomy, Ready};
-ghost use Rattle.deleting.specs.Stages.{younger, older, bypassed};
+ghost use Rattle.deleting.specs.Stages.{younger, others, bypassed};
 use crate::sort::sort_by_birth;
 use geometry::Geometry;
 use tables::cells::LENGTH;
@@ -18,10 +19,11 @@ use tables::cells::ROW;
 use tables::cells::ROWS;
 use tables::find::wide;
 
-// How many blocks the deletion of slot s frees, where slot n follows: p is the number of the pred of s.
-pub fn count_gone(t: &[u32], g: Geometry, s: usize, n: usize, p: u32) -> usize
-    requires { ⌜ Ready g (now t) × (n < g .records) × (p ≡ predNum (viewOf g (now t)) s) ⌝ }
-    ensures { λ r. ⌜ r ≡ length (unlinked (viewOf g (now (t .entry))) s n) ⌝ }
+// How many blocks on the deadlist of slot n were born above p: where n follows a record whose pred has the number p, the deletion of that record frees them.
+pub fn count_gone(t: &[u32], g: Geometry, n: usize, p: u32) -> usize
+    requires { ⌜ Ready g (now t) × (n < g .records) ⌝ }
+    ensures is { λ r. ⌜ r ≡ bornAbove (viewOf g (now (t .entry))) p n ⌝ }
+    ensures range { λ r. ⌜ r ≤ 256 ⌝ }
 {
     let len = wide(t[LENGTH + n]);
     let mut count: usize = 0;
@@ -42,7 +44,8 @@ pub fn count_gone(t: &[u32], g: Geometry, s: usize, n: usize, p: u32) -> usize
 fn part_row(t: &mut [u32], g: Geometry, out: &mut [u32], n: usize, p: u32) -> usize
     requires { ⌜ Ready g (now t) × (n < g .records) × (length (younger (viewOf g (now t)) p (viewOf g (now t) .list n)) ≤ length (now out)) ⌝ }
     ensures count { λ r. ⌜ r ≡ length (younger (viewOf g (now (t .entry))) p (viewOf g (now (t .entry)) .list n)) ⌝ }
-    ensures tables { λ r. ⌜ now (t .exit) ≡ sets (now (t .entry)) (listCell (g .records) n 0) (older (viewOf g (now (t .entry))) p (viewOf g (now (t .entry)) .list n)) ⌝ }
+    ensures tables { λ r. ⌜ now (t .exit) ≡ sets (now (t .entry)) (listCell (g .records) n 0)
+        (others (viewOf g (now (t .entry))) p (viewOf g (now (t .entry)) .list n)) ⌝ }
     ensures out { λ r. ⌜ now (out .exit) ≡ sets (now (out .entry)) 0 (younger (viewOf g (now (t .entry))) p (viewOf g (now (t .entry)) .list n)) ⌝ }
 {
     let len = wide(t[LENGTH + n]);

@@ -1,4 +1,4 @@
--- What B, S and F answer and leave, from the verdict and from what their code has done.
+-- What B and F answer and leave, from the verdict and from what their code has done.
 use mathlib.Core.Path.{_≡_, refl, sym, ap, ap₂, _∙_}
 use mathlib.Core.Bool.{false}
 use mathlib.Core.List.{List, [], _∷_, _++_, append-nil}
@@ -16,13 +16,14 @@ use Rattle.answer.proofs.Decided.{decide-accepts}
 use Rattle.geometry.specs.declared.Geometry.{Geometry}
 use Rattle.model.specs.Held.{frees}
 use Rattle.model.specs.declared.Call.{Call}
-use Rattle.model.specs.declared.Call.the-variants.{Begin, Seal, Fork}
+use Rattle.model.specs.declared.Call.the-variants.{Begin, Fork}
 use Rattle.model.specs.View.{View}
-use Rattle.model.specs.State.{State, withView}
-use Rattle.model.specs.Effects.{begin, seal, fork}
-use Rattle.model.specs.Actions.{Action, doB, doS, doF, done, slotOf, vacant}
-use Rattle.model.specs.Calls.{slot, conditions, result, acted, effect}
+use Rattle.model.specs.State.{State, withView, withNotes, withWindow}
+use Rattle.model.specs.Effects.{begin, fork}
+use Rattle.model.specs.Actions.{Action, doB, doF, done, slotOf, vacant}
+use Rattle.model.specs.Calls.{account, slot, conditions, result, acted, effect, withoutWindow}
 use Rattle.model.specs.Layout.{viewOf, stateOf, stored}
+use Rattle.model.specs.Memory.{midway, storedBy}
 use Rattle.model.proofs.ByNumber.{none-at}
 use Rattle.model.proofs.Fine.{slot-named, not-zero}
 use Rattle.model.proofs.DoneSound.{spare}
@@ -42,9 +43,9 @@ one [] v h = absurd (let z : ⊥ = omega arith in z)
 one (x ∷ l) v h = refl
 
 -- an action with no log word, which frees nothing
-acted-is : (T : State) (a : Action) → frees (T .view) a ≡ [] → withView T (done (T .view) a) ≡ acted T a 0
+pub acted-is : (T : State) (a : Action) → frees (T .view) a ≡ [] → withView T (done (T .view) a) ≡ acted T a 0
 unfolding acted
-acted-is T a e = state-ext _ _ refl refl refl refl (omega arith) (sym (ap (λ l. T .waiting ++ l) e ∙ append-nil (T .waiting)))
+acted-is T a e = state-ext _ _ refl refl refl refl (omega arith) (sym (ap (λ l. T .waiting ++ l) e ∙ append-nil (T .waiting))) refl
 
 module _ {g : Geometry} {t : List ℕ} (R : Ready g t) where
   abbrev T : State
@@ -62,7 +63,7 @@ module _ {g : Geometry} {t : List ℕ} (R : Ready g t) where
       let a : replied g t c ≡ refused k = refuses (conditions g T c) s (pred (vacant (T .view))) k (result g T c) (sym e ∙ d) in (
         sym a,
         (
-          sym (ap (λ (r : Reply). leaves r t (stored g (effect g T c) t)) a),
+          sym (ap (λ (r : Reply). leaves r t (storedBy g t c)) a),
           sym (ap (λ (r : Reply). leaves r out (sets out 0 (result g T c))) a),
         ),
       )
@@ -92,10 +93,10 @@ module _ {g : Geometry} {t : List ℕ} (R : Ready g t) where
       let r = room f (past 11) (past 12) (w .2) in
       (r .0, r .1)
 
-  abbrev Needs : ℕ → ℕ → Type 0
+  abbrev pub Needs : ℕ → ℕ → Type 0
   Needs s f = (f < g .records) × (getD t 6 0 < 999999) × (s < g .records) × (s ≡ f → ⊥)
 
-  on-needs : (n s f : ℕ) → eqb (slotOf (T .view) n) 0 ≡ false → eqb (vacant (T .view)) 0 ≡ false → leb 999999 (T .view .last) ≡ false →
+  pub on-needs : (n s f : ℕ) → eqb (slotOf (T .view) n) 0 ≡ false → eqb (vacant (T .view)) 0 ≡ false → leb 999999 (T .view .last) ≡ false →
       s ≡ slot T n → f ≡ pred (vacant (T .view)) → Needs s f
   unfolding stateOf
   on-needs n s f x y z i j =
@@ -103,12 +104,6 @@ module _ {g : Geometry} {t : List ℕ} (R : Ready g t) where
       let w = slot-named (T .view) (R .sound) n (not-zero (slotOf (T .view) n) x) in
       let l : 0 < T .view .num s = omega (arith, w .0, ap (T .view .num) i) in
       (r .0, r .1, num-in g t s l, λ e. let z : ⊥ = omega (arith, r .2, ap (T .view .num) e) in z)
-
-  pub seal-needs : (n s f : ℕ) (v : Verdict) → v ≡ verdict g t (Seal n) (slot T n) → v ≡ Accept s f → Needs s f
-  seal-needs n s f v e d =
-      let w = taken (Seal n) (slot T n) s f v e d in
-      let past = none-at (conditions g T (Seal n)) (w .0) in
-      on-needs n s f (past 8) (past 11) (past 12) (w .1) (w .2)
 
   pub fork-needs : (n s f : ℕ) (v : Verdict) → v ≡ verdict g t (Fork n) (slot T n) → v ≡ Accept s f → Needs s f
   fork-needs n s f v e d =
@@ -119,33 +114,32 @@ module _ {g : Geometry} {t : List ℕ} (R : Ready g t) where
   -- ── an accepted call, which left the tables u and gave r ──
 
   module _ (u out : List ℕ) (r : ℕ) (num : r ≡ getD t 6 0 + 1) (long : OutLong g out) where
-    grown : (c : Call) (K : View) → NoneHolds (conditions g T c) → result g T c ≡ suc (T .view .last) ∷ [] → withView T K ≡ effect g T c →
-        u ≡ viewed g t K → Left c out (answer.Done 1) u (set out 0 r)
+    grown : (c : Call) (K : View) (f : ℕ) → NoneHolds (conditions g T c) → result g T c ≡ suc (T .view .last) ∷ [] →
+        withNotes (withView T K) (withWindow (T .notes) f 0) ≡ effect g T c → midway g T (account c) t ≡ t → u ≡ viewed g t K f 0 →
+        Left c out (answer.Done 1) u (set out 0 r)
     unfolding viewed replied replyOf tablesLeft outLeft
-    grown c K n e k d =
+    grown c K f n e k way d =
         let a : replied g t c ≡ accepted (result g T c) = decide-accepts (conditions g T c) (result g T c) n in
         let v : r ≡ suc (T .view .last) = omega (arith, last-at) in (
           ap accepted (one out r (omega arith) ∙ ap (λ (n : ℕ). n ∷ []) v ∙ sym e) ∙ sym a,
           (
-            d ∙ ap (λ (U : State). stored g U t) k ∙ sym (ap (λ (r : Reply). leaves r t (stored g (effect g T c) t)) a),
+            d ∙ ap (λ (U : State). stored g U t) k ∙ ap (stored g (effect g T c)) (sym way) ∙ sym (ap (λ (r : Reply). leaves r t (storedBy g t c)) a),
             ap (set out 0) v ∙ ap (sets out 0) (sym e) ∙ sym (ap (λ (r : Reply). leaves r out (sets out 0 (result g T c))) a),
           ),
         )
 
-    pub begin-left : (s f : ℕ) (v : Verdict) → v ≡ verdict g t Begin 0 → v ≡ Accept s f → u ≡ viewed g t (begin (T .view) f) →
+    -- the action of a new line, which has no window
+    bare : (a : Action) → frees (T .view) a ≡ [] → withNotes (withView T (done (T .view) a)) (withoutWindow T) ≡ withNotes (acted T a 0) (withoutWindow T)
+    bare a e = ap (λ U. withNotes U (withoutWindow T)) (acted-is T a e)
+
+    pub begin-left : (s f : ℕ) (v : Verdict) → v ≡ verdict g t Begin 0 → v ≡ Accept s f → u ≡ viewed g t (begin (T .view) f) f 0 →
         Left Begin out (answer.Done 1) u (set out 0 r)
     begin-left s f v e d b =
         let w = taken Begin 0 s f v e d in
-        grown Begin _ (w .0) refl (acted-is T doB refl) (b ∙ ap (λ (f : ℕ). viewed g t (begin (T .view) f)) (w .2))
+        grown Begin _ _ (w .0) refl (bare doB refl) refl (b ∙ ap (λ (f : ℕ). viewed g t (begin (T .view) f) f 0) (w .2))
 
-    pub seal-left : (n s f : ℕ) (v : Verdict) → v ≡ verdict g t (Seal n) (slot T n) → v ≡ Accept s f → u ≡ viewed g t (seal (T .view) s f) →
-        Left (Seal n) out (answer.Done 1) u (set out 0 r)
-    seal-left n s f v e d b =
-        let w = taken (Seal n) (slot T n) s f v e d in
-        grown (Seal n) _ (w .0) refl (acted-is T (doS (slot T n)) refl) (b ∙ ap₂ (λ (s f : ℕ). viewed g t (seal (T .view) s f)) (w .1) (w .2))
-
-    pub fork-left : (n s f : ℕ) (v : Verdict) → v ≡ verdict g t (Fork n) (slot T n) → v ≡ Accept s f → u ≡ viewed g t (fork (T .view) s f) →
+    pub fork-left : (n s f : ℕ) (v : Verdict) → v ≡ verdict g t (Fork n) (slot T n) → v ≡ Accept s f → u ≡ viewed g t (fork (T .view) s f) f 0 →
         Left (Fork n) out (answer.Done 1) u (set out 0 r)
     fork-left n s f v e d b =
         let w = taken (Fork n) (slot T n) s f v e d in
-        grown (Fork n) _ (w .0) refl (acted-is T (doF (slot T n)) refl) (b ∙ ap₂ (λ (s f : ℕ). viewed g t (fork (T .view) s f)) (w .1) (w .2))
+        grown (Fork n) _ _ (w .0) refl (bare (doF (slot T n)) refl) refl (b ∙ ap₂ (λ (s f : ℕ). viewed g t (fork (T .view) s f) f 0) (w .1) (w .2))

@@ -6,18 +6,18 @@ use native.Mathlib.Numerals.{add-one}
 use lib.ListN.{length, getD, set}
 use Rattle.geometry.specs.declared.Geometry.{Geometry}
 use Rattle.model.specs.View.{View, pageOf}
-use Rattle.model.specs.State.{State, withView}
+use Rattle.model.specs.State.{State, withView, withNotes, withWindow}
 use Rattle.model.specs.Table.{firstLink}
 use Rattle.model.specs.Effects.{grow, close, begin, seal, fork}
-use Rattle.model.specs.Layout.{openCell, baseCell, pageCell, viewOf, stateOf, stored}
+use Rattle.model.specs.Layout.{openCell, baseCell, windowCell, pageCell, viewOf, stateOf, stored}
 use Rattle.model.proofs.TabFacts.{via-suc, via-zero}
 use Rattle.model.proofs.LayoutFacts.{stored-length}
 use Rattle.tables.specs.Ready.{Ready}
-use Rattle.tables.specs.Puts.{withLast, withNum, withOpen, withPrev, withBase, withRow, withPages, withList}
+use Rattle.tables.specs.Puts.{withLast, withNum, withOpen, withPrev, withBase, withRow, withPages, withList, withWindowAt}
 use Rattle.tables.proofs.Puts.{shaped-row}
-use Rattle.tables.proofs.Steps.{Holds, holds-as, holds-first, holds-length, step-last, step-num, step-open, step-prev, step-base}
+use Rattle.tables.proofs.Steps.{Holds, holds-as, holds-first, holds-length, step-last, step-num, step-open, step-prev, step-base, step-window}
 use Rattle.tables.proofs.Lists.{step-dropped, rest-said}
-use Rattle.tables.proofs.Reading.{reads-last, reads-base, reads-page}
+use Rattle.tables.proofs.Reading.{reads-last, reads-base, reads-window, reads-page}
 use Rattle.tables.proofs.Matches.{grow-is}
 use Rattle.tables.proofs.Loops.{pages-none, pages-all, pages-other, step-pages, row-ends}
 use Rattle.lines.specs.Growing.{paged, opened, viewed}
@@ -30,9 +30,9 @@ module _ (g : Geometry) (t : List ℕ) where
   abbrev pub Paging : ℕ → ℕ → ℕ → List ℕ → Type 0
   Paging f l x u = Holds g t (withPages (stateOf g t) f x (pageOf (stateOf g t .view) l)) u
 
--- the state T with the number n, the links p and q and an empty deadlist in slot f
-abbrev pub withOpened : State → ℕ → ℕ → ℕ → ℕ → State
-withOpened T f n p q = withList (withBase (withPrev (withOpen (withNum (withLast T n) f n) f 1) f p) f q) f []
+-- the state T with the number n, the links p and q, an empty deadlist and the window w in slot f
+abbrev pub withOpened : State → ℕ → ℕ → ℕ → ℕ → ℕ → State
+withOpened T f n p q w = withWindowAt (withList (withBase (withPrev (withOpen (withNum (withLast T n) f n) f 1) f p) f q) f []) f w
 
 -- its deadlist before it is dropped
 linked-list : (T : State) (f n p q : ℕ) →
@@ -42,18 +42,22 @@ linked-list T f n p q = refl
 
 -- the states that the code reaches are the model's
 module _ (T : State) (f : ℕ) where
-  begin-is : withOpened (withRow T f (pageOf (T .view) 0)) f (T .view .last + 1) 0 0 ≡ withView T (begin (T .view) f)
-  unfolding begin firstLink
-  begin-is = grow-is T f 0 0
+  -- with the view K, and w as the window of slot f
+  abbrev seen : View → ℕ → State
+  seen K w = withNotes (withView T K) (withWindow (T .notes) f w)
 
-  fork-is : (s : ℕ) → withOpened (withRow T f (pageOf (T .view) (suc s))) f (T .view .last + 1) 0 (suc s) ≡ withView T (fork (T .view) s f)
-  unfolding fork firstLink
-  fork-is s = grow-is T f 0 (suc s)
+  begin-is : withOpened (withRow T f (pageOf (T .view) 0)) f (T .view .last + 1) 0 0 0 ≡ seen (begin (T .view) f) 0
+  unfolding begin firstLink withWindowAt
+  begin-is = ap (λ U. withWindowAt U f 0) (grow-is T f 0 0)
+
+  fork-is : (s : ℕ) → withOpened (withRow T f (pageOf (T .view) (suc s))) f (T .view .last + 1) 0 (suc s) 0 ≡ seen (fork (T .view) s f) 0
+  unfolding fork firstLink withWindowAt
+  fork-is s = ap (λ U. withWindowAt U f 0) (grow-is T f 0 (suc s))
 
   seal-is : (s : ℕ) →
-      withOpened (withOpen (withRow T f (pageOf (T .view) (suc s))) s 0) f (T .view .last + 1) (suc s) (T .view .base s)
-      ≡ withView T (seal (T .view) s f)
-  unfolding withList withBase withPrev withOpen withNum withLast withRow grow close seal firstLink
+      withOpened (withOpen (withRow T f (pageOf (T .view) (suc s))) s 0) f (T .view .last + 1) (suc s) (T .view .base s) (T .notes .window s)
+      ≡ seen (seal (T .view) s f) (T .notes .window s)
+  unfolding withWindowAt withList withBase withPrev withOpen withNum withLast withRow grow close seal firstLink
   seal-is s = refl
 
 module _ {g : Geometry} {t : List ℕ} (R : Ready g t) where
@@ -94,18 +98,18 @@ module _ {g : Geometry} {t : List ℕ} (R : Ready g t) where
 
   -- ── the rest ──
 
-  pub opened-holds : (T : State) (u : List ℕ) (f p q : ℕ) → Holds g t T u → f < g .records → T .view .list f ≡ stateOf g t .view .list f →
-      Holds g t (withOpened T f (getD u 6 0 + 1) p q) (opened u f p q)
+  pub opened-holds : (T : State) (u : List ℕ) (f p q w : ℕ) → Holds g t T u → f < g .records → T .view .list f ≡ stateOf g t .view .list f →
+      Holds g t (withOpened T f (getD u 6 0 + 1) p q w) (opened u f p q w)
   unfolding opened
-  opened-holds T u f p q H h e =
+  opened-holds T u f p q w H h e =
       let n : ℕ = getD u 6 0 + 1 in
       let r = R .roomy in
-      step-dropped g t r (step-base g t r (step-prev g t r (step-open g t r (step-num g t r (step-last g t r H n) f n h) f 1 h) f p h) f q h) f h
-      (rest-said g t _ f h (linked-list T f n p q ∙ e) 0)
+      let linked = step-base g t r (step-prev g t r (step-open g t r (step-num g t r (step-last g t r H n) f n h) f 1 h) f p h) f q h in
+      step-window g t r (step-dropped g t r linked f h (rest-said g t _ f h (linked-list T f n p q ∙ e) 0)) f w h
 
-pub viewed-length : (g : Geometry) (t u : List ℕ) (K : View) → u ≡ viewed g t K → length u ≡ length t
+pub viewed-length : (g : Geometry) (t u : List ℕ) (K : View) (f w : ℕ) → u ≡ viewed g t K f w → length u ≡ length t
 unfolding viewed
-viewed-length g t u K e = ap length e ∙ stored-length g (withView (stateOf g t) K) t
+viewed-length g t u K f w e = ap length e ∙ stored-length g _ t
 
 -- ── the three calls: p are the tables with the new pages ──
 
@@ -127,18 +131,18 @@ module _ {g : Geometry} {t : List ℕ} (R : Ready g t) (f : ℕ) (p : List ℕ) 
   unfolding stateOf viewOf
   last-at = refl
 
-  pub begun : (u : List ℕ) → p ≡ paged g t f 0 → u ≡ opened p f 0 0 → u ≡ viewed g t (begin (T .view) f)
+  pub begun : (u : List ℕ) → p ≡ paged g t f 0 → u ≡ opened p f 0 0 0 → u ≡ viewed g t (begin (T .view) f) f 0
   unfolding viewed
   begun u e d =
       let n : getD p 6 0 ≡ T .view .last = paged-last 0 e ∙ last-at in
-      d ∙ opened-holds R _ p f 0 0 (paged-holds R f 0 p hf e) hf (paged-list 0) .is ∙ ap (λ U. stored g U t) (rw n (begin-is T f))
+      d ∙ opened-holds R _ p f 0 0 0 (paged-holds R f 0 p hf e) hf (paged-list 0) .is ∙ ap (λ U. stored g U t) (rw n (begin-is T f))
 
-  pub forked : (s l : ℕ) (u : List ℕ) → p ≡ paged g t f (suc s) → u ≡ opened p f 0 l → l ≡ suc s →
-      u ≡ viewed g t (fork (T .view) s f)
+  pub forked : (s l : ℕ) (u : List ℕ) → p ≡ paged g t f (suc s) → u ≡ opened p f 0 l 0 → l ≡ suc s →
+      u ≡ viewed g t (fork (T .view) s f) f 0
   unfolding viewed
   forked s l u e d i =
       let n : getD p 6 0 ≡ T .view .last = paged-last (suc s) e ∙ last-at in
-      d ∙ opened-holds R _ p f 0 l (paged-holds R f (suc s) p hf e) hf (paged-list (suc s)) .is ∙ ap (λ U. stored g U t) (rw (n, i) (fork-is T f s))
+      d ∙ opened-holds R _ p f 0 l 0 (paged-holds R f (suc s) p hf e) hf (paged-list (suc s)) .is ∙ ap (λ U. stored g U t) (rw (n, i) (fork-is T f s))
 
   -- S: v are the tables with w as the mark of s, which is 0 for sealed
   module _ (s w : ℕ) (v : List ℕ) (hs : s < g .records) (e : p ≡ paged g t f (suc s)) (a : v ≡ set p (openCell s) w) where
@@ -153,13 +157,17 @@ module _ {g : Geometry} {t : List ℕ} (R : Ready g t) (f : ℕ) (p : List ℕ) 
     unfolding withOpen withRow
     closed-base = reads-base g t (R .roomy) closed s hs
 
+    closed-window : getD v (windowCell s) 0 ≡ T .notes .window s
+    unfolding withOpen withRow
+    closed-window = reads-window g t (R .roomy) closed s hs
+
     closed-list : withOpen (withRow T f (pageOf (T .view) (suc s))) s w .view .list f ≡ T .view .list f
     unfolding withOpen withRow
     closed-list = refl
 
-    pub sealed : (l : ℕ) (u : List ℕ) → u ≡ opened v f l (getD v (baseCell s) 0) → l ≡ suc s → w ≡ 0 →
-        u ≡ viewed g t (seal (T .view) s f)
+    pub sealed : (l : ℕ) (u : List ℕ) → u ≡ opened v f l (getD v (baseCell s) 0) (getD v (windowCell s) 0) → l ≡ suc s → w ≡ 0 →
+        u ≡ viewed g t (seal (T .view) s f) f (T .notes .window s)
     unfolding viewed
     sealed l u d i z =
         let n : getD v 6 0 ≡ T .view .last = closed-last ∙ last-at in
-        d ∙ opened-holds R _ v f l _ closed hf closed-list .is ∙ ap (λ U. stored g U t) (rw (n, i, z, closed-base) (seal-is T f s))
+        d ∙ opened-holds R _ v f l _ _ closed hf closed-list .is ∙ ap (λ U. stored g U t) (rw (n, i, z, closed-base, closed-window) (seal-is T f s))

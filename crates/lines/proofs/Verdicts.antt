@@ -11,7 +11,7 @@ use Rattle.answer.specs.Reply.{refused}
 use Rattle.answer.specs.Refusal.{Condition, decide, NoneHolds}
 use Rattle.answer.proofs.Cases.{cases, either}
 use Rattle.geometry.specs.declared.Geometry.{Geometry}
-use Rattle.model.specs.declared.Call.the-variants.{Begin, Seal, Fork}
+use Rattle.model.specs.declared.Call.the-variants.{Begin, Fork}
 use Rattle.model.specs.Actions.{slotOf, vacant}
 use Rattle.model.specs.Calls.{slot, conditions}
 use Rattle.model.specs.Layout.{openCell, viewOf, stateOf}
@@ -67,24 +67,24 @@ module _ (g : Geometry) (t : List ℕ) (s e : ℕ) (is : e ≡ vacant (viewOf g 
       let d : e - 1 ≡ pred (vacant (viewOf g t)) = omega arith in
       rw d (sym (rw (some n, lt-leb 999999 (viewOf g t .last) (omega (arith, last-is g t)))))
 
--- ── 8 and 9, e being the link of the record of number n ──
+-- ── 8 and 9 of a call on a record, e being the link of the record of number n: w says whether 9 holds ──
 
 module _ (g : Geometry) (t : List ℕ) (n e : ℕ) (is : e ≡ slotOf (viewOf g t) n) where
-  abbrev on : Bool → Verdict
+  abbrev pub on : Bool → Verdict
   on w = verdictOf ((8, eqb (slotOf (viewOf g t) n) 0) ∷ (9, w) ∷ conditions g (stateOf g t) Begin) (slot (stateOf g t) n) (pred (vacant (stateOf g t .view)))
 
-  on-none : (w : Bool) → e ≡ 0 → Refused 8 ≡ on w
+  pub on-none : (w : Bool) → e ≡ 0 → Refused 8 ≡ on w
   unfolding verdictOf
   on-none w z = sym (rw (eq-eqb (slotOf (viewOf g t) n) 0 (sym is ∙ z)))
 
   here : (e ≡ 0 → ⊥) → eqb (slotOf (viewOf g t) n) 0 ≡ false
   here m = ne-eqb (slotOf (viewOf g t) n) 0 (λ z. m (is ∙ z))
 
-  on-wrong : (w : Bool) → (e ≡ 0 → ⊥) → w ≡ true → Refused 9 ≡ on w
+  pub on-wrong : (w : Bool) → (e ≡ 0 → ⊥) → w ≡ true → Refused 9 ≡ on w
   unfolding verdictOf
   on-wrong w m y = sym (rw (here m, y))
 
-  on-room : (w : Bool) (r : Verdict) → (e ≡ 0 → ⊥) → w ≡ false → r ≡ verdict g t Begin (e - 1) → r ≡ on w
+  pub on-room : (w : Bool) (r : Verdict) → (e ≡ 0 → ⊥) → w ≡ false → r ≡ verdict g t Begin (e - 1) → r ≡ on w
   unfolding verdict verdictOf stateOf
   on-room w r m y h =
       let d : e - 1 ≡ pred (slotOf (viewOf g t) n) = omega arith in
@@ -92,29 +92,16 @@ module _ (g : Geometry) (t : List ℕ) (n e : ℕ) (is : e ≡ slotOf (viewOf g 
 
   -- whether it is open
   module _ (m : e ≡ 0 → ⊥) (l : e ≤ g .records) where
-    open-at : viewOf g t .isOpen (pred (slotOf (viewOf g t) n)) ≡ getD t (openCell (e - 1)) 0
+    pub open-at : viewOf g t .isOpen (pred (slotOf (viewOf g t) n)) ≡ getD t (openCell (e - 1)) 0
     open-at =
         let d : e - 1 ≡ pred (slotOf (viewOf g t) n) = omega arith in
         rw (← d) (open-is g t (e - 1) (omega arith))
-
-  pub seal-none : e ≡ 0 → Refused 8 ≡ verdict g t (Seal n) (slot (stateOf g t) n)
-  unfolding verdict stateOf
-  seal-none z = on-none _ z
 
   pub fork-none : e ≡ 0 → Refused 8 ≡ verdict g t (Fork n) (slot (stateOf g t) n)
   unfolding verdict stateOf
   fork-none z = on-none _ z
 
   module _ (m : e ≡ 0 → ⊥) (l : e ≤ g .records) where
-    pub seal-sealed : getD t (openCell (e - 1)) 0 ≡ 0 → Refused 9 ≡ verdict g t (Seal n) (slot (stateOf g t) n)
-    unfolding verdict stateOf
-    seal-sealed z = on-wrong _ m (eq-eqb (viewOf g t .isOpen (pred (slotOf (viewOf g t) n))) 0 (open-at m l ∙ z))
-
-    pub seal-room : (r : Verdict) → (getD t (openCell (e - 1)) 0 ≡ 0 → ⊥) → r ≡ verdict g t Begin (e - 1) →
-        r ≡ verdict g t (Seal n) (slot (stateOf g t) n)
-    unfolding verdict stateOf
-    seal-room r z h = on-room _ r m (ne-eqb (viewOf g t .isOpen (pred (slotOf (viewOf g t) n))) 0 (λ k. z (sym (open-at m l) ∙ k))) h
-
     pub fork-open : 0 < getD t (openCell (e - 1)) 0 → Refused 9 ≡ verdict g t (Fork n) (slot (stateOf g t) n)
     unfolding verdict stateOf
     fork-open z = on-wrong _ m (lt-ltb 0 (viewOf g t .isOpen (pred (slotOf (viewOf g t) n))) (omega (arith, open-at m l)))

@@ -1,3 +1,3 @@
--- What the parts of B, S and F do.
+-- What the parts of B and F do, and the part of S that seals.
 pub mod Verdicts
 pub mod Growing

@@ -1,4 +1,4 @@
-// A new record in an empty slot: its pages, then its number, its links and its empty deadlist; and what B, S and F do with it.
+// A new record in an empty slot: its pages, then its number, its links, its empty deadlist and its window; and what B, S and F do with it.
 ghost use mathlib.Core.Path.{_≡_};
 ghost use Prim.Native.Nat.{suc, _+_, _≤_, _<_};
 ghost use lib.ListN.{length, getD};
@@ -15,6 +15,7 @@ use tables::cells::OPEN;
 use tables::cells::PAGES;
 use tables::cells::PREV;
 use tables::cells::ROW;
+use tables::cells::WINDOW;
 
 // The pages of slot f become those of slot s.
 fn copy_pages(t: &mut [u32], g: Geometry, f: usize, s: usize)
@@ -40,10 +41,10 @@ fn clear_pages(t: &mut [u32], g: Geometry, f: usize)
     }
 }
 
-// The record in slot f is open, of the next number, with these links and an empty deadlist. Gives its number.
-fn open_record(t: &mut [u32], f: usize, prev: u32, base: u32) -> u32
+// The record in slot f is open, of the next number, with these links, an empty deadlist and this window. Gives its number.
+fn open_record(t: &mut [u32], f: usize, prev: u32, base: u32, window: u32) -> u32
     requires { ⌜ (f < 64) × (2048 ≤ length (now t)) × (getD (now t) 6 0 < 999999) ⌝ }
-    ensures is { λ r. ⌜ now (t .exit) ≡ opened (now (t .entry)) f prev base ⌝ }
+    ensures is { λ r. ⌜ now (t .exit) ≡ opened (now (t .entry)) f prev base window ⌝ }
     ensures number { λ r. ⌜ r ≡ getD (now (t .entry)) 6 0 + 1 ⌝ }
 {
     let number = t[LAST] + 1;
@@ -53,37 +54,40 @@ fn open_record(t: &mut [u32], f: usize, prev: u32, base: u32) -> u32
     t[PREV + f] = prev;
     t[BASE + f] = base;
     t[LENGTH + f] = 0;
+    t[WINDOW + f] = window;
     number
 }
 
-// B with the empty slot f. Gives the new number, as do the next two.
+// B with the empty slot f: a line without a window. Gives the new number, as do the next two.
 pub fn begin_at(t: &mut [u32], g: Geometry, f: usize) -> u32
     requires { ⌜ Ready g (now t) × (f < g .records) × (getD (now t) 6 0 < 999999) ⌝ }
-    ensures is { λ r. ⌜ now (t .exit) ≡ viewed g (now (t .entry)) (begin (stateOf g (now (t .entry)) .view) f) ⌝ }
+    ensures is { λ r. ⌜ now (t .exit) ≡ viewed g (now (t .entry)) (begin (stateOf g (now (t .entry)) .view) f) f 0 ⌝ }
     ensures number { λ r. ⌜ r ≡ getD (now (t .entry)) 6 0 + 1 ⌝ }
 {
     clear_pages(t, g, f);
-    open_record(t, f, 0, 0)
+    open_record(t, f, 0, 0, 0)
 }
 
-// S on the record in slot s: it is sealed, and the new one follows it.
+// The seal of S: the record in slot s is sealed, and the new one follows it, with the window of the line.
 pub fn seal_at(t: &mut [u32], g: Geometry, f: usize, s: usize) -> u32
     requires { ⌜ Ready g (now t) × (f < g .records) × (getD (now t) 6 0 < 999999) × (s < g .records) × (s ≡ f → ⊥) ⌝ }
-    ensures is { λ r. ⌜ now (t .exit) ≡ viewed g (now (t .entry)) (seal (stateOf g (now (t .entry)) .view) s f) ⌝ }
+    ensures is { λ r. ⌜ now (t .exit) ≡ viewed g (now (t .entry)) (seal (stateOf g (now (t .entry)) .view) s f) f
+        (stateOf g (now (t .entry)) .notes .window s) ⌝ }
     ensures number { λ r. ⌜ r ≡ getD (now (t .entry)) 6 0 + 1 ⌝ }
 {
     copy_pages(t, g, f, s);
     t[OPEN + s] = 0;
     let base = t[BASE + s];
-    open_record(t, f, (s + 1) as u32, base)
+    let window = t[WINDOW + s];
+    open_record(t, f, (s + 1) as u32, base, window)
 }
 
-// F on the record in slot s: it is the base of a new line.
+// F on the record in slot s: it is the base of a new line, without a window.
 pub fn fork_at(t: &mut [u32], g: Geometry, f: usize, s: usize) -> u32
     requires { ⌜ Ready g (now t) × (f < g .records) × (getD (now t) 6 0 < 999999) × (s < g .records) × (s ≡ f → ⊥) ⌝ }
-    ensures is { λ r. ⌜ now (t .exit) ≡ viewed g (now (t .entry)) (fork (stateOf g (now (t .entry)) .view) s f) ⌝ }
+    ensures is { λ r. ⌜ now (t .exit) ≡ viewed g (now (t .entry)) (fork (stateOf g (now (t .entry)) .view) s f) f 0 ⌝ }
     ensures number { λ r. ⌜ r ≡ getD (now (t .entry)) 6 0 + 1 ⌝ }
 {
     copy_pages(t, g, f, s);
-    open_record(t, f, 0, (s + 1) as u32)
+    open_record(t, f, 0, (s + 1) as u32, 0)
 }

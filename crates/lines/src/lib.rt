@@ -1,19 +1,17 @@
-// The calls that open a record: B, S, F. S and F get the link of theirs.
+// The calls that begin a line, B and F (F gets the link of its record), and the seal of S.
 pub mod grow;
 pub mod verdict;
 
 ghost use mathlib.Core.Path.{_≡_};
 ghost use Rattle.answer.specs.Reply.{replyOf};
-ghost use Rattle.model.specs.declared.Call.the-variants.{Begin, Seal, Fork};
+ghost use Rattle.model.specs.declared.Call.the-variants.{Begin, Fork};
 ghost use Rattle.tables.specs.Ready.{Ready, OutLong, LinkOf};
 ghost use Rattle.tables.specs.Outcome.{replied, tablesLeft, outLeft};
 use crate::grow::begin_at;
 use crate::grow::fork_at;
-use crate::grow::seal_at;
 use crate::verdict::Verdict;
 use crate::verdict::forking;
 use crate::verdict::room;
-use crate::verdict::sealing;
 use answer::Answer;
 use geometry::Geometry;
 
@@ -29,24 +27,6 @@ pub fn begin(g: Geometry, t: &mut [u32], out: &mut [u32]) -> Answer
         Verdict::Refused(k) => Answer::Refused(k),
         Verdict::Accept(_, f) => {
             let number = begin_at(t, g, f);
-            out[0] = number;
-            Answer::Done(1)
-        }
-    }
-}
-
-// S: the record is sealed, and an open one with its pages follows it.
-pub fn seal(g: Geometry, t: &mut [u32], out: &mut [u32], n: u32, link: usize) -> Answer
-    requires { ⌜ Ready g (now t) × OutLong g (now out) × LinkOf g (now t) n link ⌝ }
-    ensures reply { λ r. ⌜ replyOf r (now (out .exit)) ≡ replied g (now (t .entry)) (Seal n) ⌝ }
-    ensures tables { λ r. ⌜ now (t .exit) ≡ tablesLeft g (now (t .entry)) (Seal n) ⌝ }
-    ensures out { λ r. ⌜ now (out .exit) ≡ outLeft g (now (t .entry)) (now (out .entry)) (Seal n) ⌝ }
-{
-    let verdict = sealing(t, g, n, link);
-    match verdict {
-        Verdict::Refused(k) => Answer::Refused(k),
-        Verdict::Accept(s, f) => {
-            let number = seal_at(t, g, f, s);
             out[0] = number;
             Answer::Done(1)
         }

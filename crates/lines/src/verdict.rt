@@ -1,6 +1,6 @@
 // Whether a call that opens a record is refused, and on which slots it works.
 ghost use mathlib.Core.Path.{_≡_};
-ghost use Rattle.model.specs.declared.Call.the-variants.{Begin, Seal, Fork};
+ghost use Rattle.model.specs.declared.Call.the-variants.{Begin, Fork};
 ghost use Rattle.model.specs.Layout.{stateOf};
 ghost use Rattle.model.specs.Calls.{slot};
 ghost use Rattle.tables.specs.Ready.{Roomy, Ready, LinkOf};
@@ -31,21 +31,7 @@ pub fn room(t: &[u32], g: Geometry, s: usize) -> Verdict
     Verdict::Accept(s, empty - 1)
 }
 
-// The verdict on S of the record of number n, with its link: 9 if it is sealed.
-pub fn sealing(t: &[u32], g: Geometry, n: u32, link: usize) -> Verdict
-    requires { ⌜ Ready g (now t) × LinkOf g (now t) n link ⌝ }
-    ensures { λ r. ⌜ r ≡ verdict g (now (t .entry)) (Seal n) (slot (stateOf g (now (t .entry))) n) ⌝ }
-{
-    if link == 0 {
-        return Verdict::Refused(8);
-    }
-    if t[OPEN + (link - 1)] == 0 {
-        return Verdict::Refused(9);
-    }
-    room(t, g, link - 1)
-}
-
-// The verdict on F: 9 if the record is open.
+// The verdict on F of the record of number n, with its link: 9 if it is open.
 pub fn forking(t: &[u32], g: Geometry, n: u32, link: usize) -> Verdict
     requires { ⌜ Ready g (now t) × LinkOf g (now t) n link ⌝ }
     ensures { λ r. ⌜ r ≡ verdict g (now (t .entry)) (Fork n) (slot (stateOf g (now (t .entry))) n) ⌝ }

@@ -21,8 +21,8 @@ use Rattle.model.specs.declared.Call.{Call}
 use Rattle.model.specs.declared.Call.the-variants.{Barrier, Compress, FreeList}
 use Rattle.model.specs.State.{synced}
 use Rattle.model.specs.Layout.{stateOf, stored}
-use Rattle.model.specs.Memory.{writtenAt}
-use Rattle.model.specs.Calls.{pairs, compressed, freeList, logged, result, written, effect}
+use Rattle.model.specs.Memory.{writtenAt, storedBy}
+use Rattle.model.specs.Calls.{pairs, compressed, freeList, logged, result, written}
 use Rattle.model.proofs.RoomAfterC.{compressed-short}
 use Rattle.tables.specs.Ready.{Ready, OutLong}
 use Rattle.tables.specs.Outcome.{replied, tablesLeft, logLeft, outLeft}
@@ -41,9 +41,9 @@ module _ (g : Geometry) (t : List ℕ) (c : Call) where
     unfolding replyOf
     reply-done out h = ap accepted (take-sets (result g (stateOf g t) c) out h) ∙ sym a
 
-    pub tables-done : tablesLeft g t c ≡ stored g (effect g (stateOf g t) c) t
+    pub tables-done : tablesLeft g t c ≡ storedBy g t c
     unfolding tablesLeft
-    tables-done = ap (λ (k : Reply). leaves k t (stored g (effect g (stateOf g t) c) t)) a
+    tables-done = ap (λ (k : Reply). leaves k t (storedBy g t c)) a
 
     pub log-done : (log : List ℕ) → logLeft g t log c ≡ writeAt log (writtenAt (stateOf g t) c) (bytesOf (written g (stateOf g t) c))
     unfolding logLeft
@@ -57,7 +57,7 @@ module _ (g : Geometry) (t : List ℕ) (c : Call) where
   module _ (n : ℕ) (e : replied g t c ≡ refused n) where
     pub tables-refused : t ≡ tablesLeft g t c
     unfolding tablesLeft
-    tables-refused = sym (ap (λ (k : Reply). leaves k t (stored g (effect g (stateOf g t) c) t)) e)
+    tables-refused = sym (ap (λ (k : Reply). leaves k t (storedBy g t c)) e)
 
     pub log-refused : (log : List ℕ) → log ≡ logLeft g t log c
     unfolding logLeft
@@ -88,7 +88,18 @@ module _ {g : Geometry} {t : List ℕ} (R : Ready g t) where
 pub synced-holds : {g : Geometry} {t u : List ℕ} → Ready g t → u ≡ stored g (synced (stateOf g t)) t → Holds g t (synced (stateOf g t)) u
 synced-holds {g} {t} {u} R e =
     let S = holds-first R .shaped in
-    record { is = e; shaped = record { view = S .view; slots = S .slots; pages = S .pages; blocks = S .blocks; mark = S .mark; few = omega arith } }
+    record {
+      is = e;
+      shaped = record {
+        view = S .view;
+        slots = S .slots;
+        pages = S .pages;
+        blocks = S .blocks;
+        mark = S .mark;
+        window = S .window;
+        few = omega arith;
+      };
+    }
 
 -- ── Y ──
 

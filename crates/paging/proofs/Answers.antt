@@ -12,9 +12,9 @@ use Rattle.answer.proofs.Decided.{decide-accepts}
 use Rattle.geometry.specs.declared.Geometry.{Geometry}
 use Rattle.log.specs.Word.{writeAt, bytesOf}
 use Rattle.model.specs.declared.Call.{Call}
-use Rattle.model.specs.Calls.{conditions, result, written, effect}
-use Rattle.model.specs.Layout.{stateOf, stored}
-use Rattle.model.specs.Memory.{writtenAt}
+use Rattle.model.specs.Calls.{conditions, result, written}
+use Rattle.model.specs.Layout.{stateOf}
+use Rattle.model.specs.Memory.{writtenAt, storedBy}
 use Rattle.tables.specs.Outcome.{replied, tablesLeft, logLeft, outLeft}
 
 -- the first numbers of a buffer that a result was put into
@@ -32,7 +32,7 @@ module _ (g : Geometry) (t : List ℕ) (c : Call) where
 
     pub refused-tables : t ≡ tablesLeft g t c
     unfolding tablesLeft
-    refused-tables = sym (ap (λ r. leaves r t (stored g (effect g (stateOf g t) c) t)) e)
+    refused-tables = sym (ap (λ r. leaves r t (storedBy g t c)) e)
 
     pub refused-log : (log : List ℕ) → log ≡ logLeft g t log c
     unfolding logLeft
@@ -53,9 +53,9 @@ module _ (g : Geometry) (t : List ℕ) (c : Call) where
       d ∙ sym (ap (λ r. leaves r out (sets out 0 (result g (stateOf g t) c))) accepts),
     )
 
-    pub done-tables : (u : List ℕ) → u ≡ stored g (effect g (stateOf g t) c) t → u ≡ tablesLeft g t c
+    pub done-tables : (u : List ℕ) → u ≡ storedBy g t c → u ≡ tablesLeft g t c
     unfolding tablesLeft
-    done-tables u d = d ∙ sym (ap (λ r. leaves r t (stored g (effect g (stateOf g t) c) t)) accepts)
+    done-tables u d = d ∙ sym (ap (λ r. leaves r t (storedBy g t c)) accepts)
 
     pub done-log : (log w : List ℕ) → w ≡ writeAt log (writtenAt (stateOf g t) c) (bytesOf (written g (stateOf g t) c)) → w ≡ logLeft g t log c
     unfolding logLeft

@@ -30,7 +30,7 @@ use Rattle.paging.proofs.Answers
 
 pub ready-fine : {g : Geometry} {t : List ℕ} → Ready g t → Fine g (stateOf g t)
 unfolding stateOf viewOf
-ready-fine R = record { sound = R .sound; slots = refl; pages = refl; blocks = refl; range = R .range; waits = R .waiting }
+ready-fine R = record { sound = R .sound; slots = refl; pages = refl; blocks = refl; range = R .range; waits = R .waiting; windows = R .windows }
 
 -- no more log words are used than there are
 pub used-le : {g : Geometry} {t : List ℕ} → Ready g t → getD t 9 0 ≤ g .words

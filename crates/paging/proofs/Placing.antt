@@ -125,6 +125,7 @@ module _ {g : Geometry} {t : List ℕ} {s x a o : ℕ} (A : Target g t s x) (P :
         pages = z .pages ∙ S .pages;
         blocks = z .blocks ∙ S .blocks;
         mark = S .mark;
+        window = λ r h. S .window r (omega (arith, z .slots));
         few = omega (arith, Killing.emptied-few A, z .blocks ∙ S .blocks);
       }
 

@@ -13,8 +13,9 @@ use Rattle.log.specs.Marks.{heldIn}
 use Rattle.model.specs.Table.{all}
 use Rattle.model.specs.View.{View}
 use Rattle.model.specs.Held.{held}
-use Rattle.model.specs.Layout.{numCell, prevCell, birthCell, viewOf}
+use Rattle.model.specs.Layout.{numCell, openCell, prevCell, windowCell, birthCell, viewOf, stateOf}
 use Rattle.model.specs.Check.{imp, same, prev?, base?, two?}
+use Rattle.model.specs.Memory.{windows?}
 use Rattle.tables.proofs.Fields
 use Rattle.soundness.specs.Pairs.{linkedTo?}
 use Rattle.soundness.proofs.Loops.{all-at, all-same}
@@ -96,6 +97,17 @@ module _ (g : Geometry) (t : List ℕ) where
   pub others-are : (s : ℕ) {r : Bool} → s < g .records → r ≡ all s (apart? t (getD t (numCell s) 0) (getD t (prevCell s) 0)) →
       r ≡ all s (λ k. imp (ltb 0 (viewOf g t .num k)) (two? (viewOf g t) s k))
   others-are s h e = e ∙ all-same s _ _ (λ k l. two-is s k h l)
+
+  -- the window of slot s, and all of them
+  abbrev pub window? : ℕ → Bool
+  window? s = not (ltb 0 (getD t (numCell s) 0) && ltb 0 (getD t (openCell s) 0)) || leb (getD t (windowCell s) 0) 62
+
+  pub windows-are : {r : Bool} → r ≡ all (g .records) window? → r ≡ windows? (viewOf g t) (stateOf g t .notes)
+  unfolding windows?
+  windows-are e =
+      let p : ℕ → Bool = λ s. not (ltb 0 (viewOf g t .num s) && ltb 0 (viewOf g t .isOpen s)) || leb (stateOf g t .notes .window s) 62 in
+      e ∙ all-same (g .records) window? p (λ s h. rw (Fields.num-is g t s h, Fields.open-is g t s h, Fields.window-is g t s h)) ∙
+      ap (λ n. all n p) (sym (Fields.slots-is g t))
 
   -- block b
   pub same-is : (m : List ℕ) (b : ℕ) → b < blocks g →

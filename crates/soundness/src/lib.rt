@@ -17,6 +17,7 @@ use crate::held::log_holds;
 use crate::held::words_fit;
 use crate::pages::pages_fit;
 use crate::records::records_fit;
+use crate::records::windows_fit;
 use geometry::Geometry;
 
 // Whether the tables and the log are a sound store.
@@ -41,6 +42,9 @@ pub fn is_sound(g: Geometry, t: &[u32], log: &[u8]) -> bool
         return false;
     }
     if !words_fit(g, t) {
+        return false;
+    }
+    if !windows_fit(g, t) {
         return false;
     }
     log_holds(g, t, log, &own)

@@ -1,11 +1,12 @@
-// The records: their numbers and links, and two of them at a time.
+// The records: their numbers and links, two of them at a time, and the windows of their lines.
 ghost use mathlib.Core.Path.{_≡_};
-ghost use mathlib.Core.Bool.{not, _&&_};
+ghost use mathlib.Core.Bool.{not, _&&_, _||_};
 ghost use Prim.Native.Nat.{_<_};
-ghost use lib.Dec.{eqb, ltb};
+ghost use lib.Dec.{eqb, ltb, leb};
 ghost use Rattle.model.specs.Table.{all};
 ghost use Rattle.model.specs.Check.{imp, prev?, base?, two?};
-ghost use Rattle.model.specs.Layout.{viewOf};
+ghost use Rattle.model.specs.Layout.{viewOf, stateOf};
+ghost use Rattle.model.specs.Memory.{windows?};
 ghost use Rattle.tables.specs.Ready.{Roomy};
 ghost use Rattle.soundness.specs.Pairs.{linkedTo?};
 use crate::read::column_number;
@@ -16,6 +17,7 @@ use tables::cells::LAST;
 use tables::cells::NUMBER;
 use tables::cells::OPEN;
 use tables::cells::PREV;
+use tables::cells::WINDOW;
 
 // The record behind a link, if there is one, is in the store, sealed, and older than the one in slot s.
 fn link_fits(g: Geometry, t: &[u32], s: usize, link: usize) -> bool
@@ -110,4 +112,25 @@ pub fn records_fit(g: Geometry, t: &[u32]) -> bool
         s += 1;
     }
     true
+}
+
+// The window of one slot: of an open record it is at most 62.
+fn window_fits(number: u32, opened: u32, window: u32) -> bool
+    ensures { λ r. ⌜ r ≡ (not (ltb 0 number && ltb 0 opened) || leb window 62) ⌝ }
+{
+    !((0 < number) & (0 < opened)) | (window <= 62)
+}
+
+// All windows. It looks at all slots, several in one instruction.
+pub fn windows_fit(g: Geometry, t: &[u32]) -> bool
+    requires { ⌜ Roomy g (now t) ⌝ }
+    ensures { λ r. ⌜ r ≡ windows? (viewOf g (now (t .entry))) (stateOf g (now (t .entry)) .notes) ⌝ }
+{
+    let mut fit = true;
+    let mut s: usize = 0;
+    while s < g.records {
+        fit = fit & window_fits(t[NUMBER + s], t[OPEN + s], t[WINDOW + s]);
+        s += 1;
+    }
+    fit
 }

@@ -1,9 +1,9 @@
 -- The blocks that wait are released one after another: their bits of the free words are set, then none waits.
-use mathlib.Core.Path.{_≡_, refl, sym, ap, ap₂, _∙_}
-use mathlib.Core.Logic.{_⊎_, inl, inr}
-use mathlib.Core.Bool.{Bool, true, false, not, _&&_, _||_, or-false, or-assoc}
+use mathlib.Core.Path.{_≡_, refl, sym, ap, _∙_}
+use mathlib.Core.Logic.{inl, inr}
+use mathlib.Core.Bool.{Bool, true, not, _&&_, _||_, or-false, or-assoc}
 use mathlib.Core.List.{List, [], _∷_, _++_}
-use Prim.Native.Nat.{ℕ, zero, suc, _+_, _-_, _*_, _/_, _%_, _^_, _≤_, _<_, min}
+use Prim.Native.Nat.{ℕ, zero, suc, _+_, _-_, _*_, _/_, _%_, _^_, _<_, min}
 use native.Mathlib.Omega.{arith}
 use lib.Dec.{eqb}
 use lib.Bits.{bitOr}
@@ -14,10 +14,10 @@ use Rattle.answer.proofs.Cases.{cases, either, same?, lt?}
 use Rattle.geometry.specs.declared.Geometry.{Geometry}
 use Rattle.geometry.specs.Limits.{blocks}
 use Rattle.choice.specs.Words.{wordOf}
-use Rattle.model.specs.Lists.{In, elem}
+use Rattle.model.specs.Lists.{elem}
 use Rattle.model.specs.Held.{waits, available}
 use Rattle.model.specs.State.{State, synced}
-use Rattle.model.specs.Layout.{freeCell, waitCell, birthCell, freeWord, viewOf, stateOf, headerNumber, columnNumber, pageNumber, listNumber, stored}
+use Rattle.model.specs.Layout.{freeCell, freeWord, viewOf, stateOf, headerNumber, columnNumber, pageNumber, listNumber, stored}
 use Rattle.model.proofs.LayoutFacts.{stored-header}
 use Rattle.model.proofs.StoredFacts.{free-number}
 use Rattle.model.proofs.BirthPut.{word-ext}
@@ -27,7 +27,7 @@ use Rattle.tables.specs.Ready.{Ready}
 use Rattle.tables.specs.Births.{raised}
 use Rattle.tables.proofs.Ranges.{in-getD, waiting-in, waiting-le}
 use Rattle.tables.proofs.Bits.{word-with}
-use Rattle.tables.proofs.Freeing.{waiting-length, waits-header, wait-dropped}
+use Rattle.tables.proofs.Freeing.{waits-header, wait-dropped}
 use Rattle.tables.proofs.Stores.{header-same, several}
 
 take-next : (l : List ℕ) (k : ℕ) → k < length l → take (suc k) l ≡ take k l ++ (getD l k 0 ∷ [])
@@ -123,6 +123,7 @@ module _ (g : Geometry) (t₀ : List ℕ) (R : Ready g t₀) where
         page = λ s x hs hx p. refl;
         list = λ s i hs hi p. refl;
         birth = λ b hb p. refl;
+        note = λ i l h p. refl;
         wait = λ i l h p. wait-dropped g t₀ i;
       })
       (length-set t 11 0 ∙ H .long)

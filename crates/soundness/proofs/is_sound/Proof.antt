@@ -5,7 +5,8 @@ use borrow.Author.Needs.{needs}
 use borrow.Author.Tests.{not-false}
 use Rattle.soundness.proofs.Clauses.{own-are}
 use Rattle.soundness.proofs.Loops.{failed, passed}
-use Rattle.soundness.proofs.Whole.{range-known, seen-none, sound-no-numbers, sound-no-range, sound-no-links, sound-no-pages, sound-no-births, sound-no-words, sound-yes}
+use Rattle.soundness.proofs.Whole.{range-known, seen-none, sound-no-numbers, sound-no-range, sound-no-links, sound-no-pages, sound-no-births}
+use Rattle.soundness.proofs.Whole.{sound-no-words, sound-no-windows, sound-yes}
 use Rattle.soundness.proofs.is_sound.Statement.{statement}
 use Rattle.soundness.proofs.is_sound.Tie as tie
 
@@ -48,9 +49,15 @@ words-fit-requires c κs = search needs
 returns-6 : tie.Need-returns-6
 returns-6 c = sound-no-words _ _ _ (failed (c .before .words-fit .ensures) (c .if6 .taken))
 
+windows-fit-requires : tie.Need-windows-fit-requires
+windows-fit-requires c κs = search needs
+
+returns-7 : tie.Need-returns-7
+returns-7 c = sound-no-windows _ _ _ (failed (c .before .windows-fit .ensures) (c .if7 .taken))
+
 log-holds-requires : tie.Need-log-holds-requires
 log-holds-requires c κs =
-    let at-if5 = c .before .before .before in
+    let at-if5 = c .before .before .before .before .before in
     let at-births = at-if5 .before in
     let at-if2 = at-births .before .before .before .before .before .before .before in
     let d = at-if2 .before .before .before .before .before .before in (
@@ -60,9 +67,10 @@ log-holds-requires c κs =
       own-are (d .args .g) (d .args .t .now) _ (passed (at-births .births-agree .ensures) (at-if5 .if5 .left)),
     )
 
-returns-7 : tie.Need-returns-7
-returns-7 c =
-    let at-if6 = c .before .before in
+returns-8 : tie.Need-returns-8
+returns-8 c =
+    let at-if7 = c .before .before in
+    let at-if6 = at-if7 .before .before in
     let at-if5 = at-if6 .before .before in
     let at-if4 = at-if5 .before .before .before in
     let at-if3 = at-if4 .before .before .before in
@@ -77,6 +85,7 @@ returns-7 c =
     (passed (p .ensures .0) q)
     (passed (at-if5 .before .births-agree .ensures) (at-if5 .if5 .left))
     (passed (at-if6 .before .words-fit .ensures) (at-if6 .if6 .left))
+    (passed (at-if7 .before .windows-fit .ensures) (at-if7 .if7 .left))
     (c .log-holds .ensures)
 
 pub is-sound-spec : {M : Type 1} → statement M
@@ -95,5 +104,7 @@ is-sound-spec =
     returns-5
     words-fit-requires
     returns-6
+    windows-fit-requires
+    returns-7
     log-holds-requires
-    returns-7)
+    returns-8)

@@ -5,6 +5,7 @@ use mathlib.Core.Path.{_≡_, refl, sym, ap, _∙_}
 use Prim.Native.Nat.{_-_, _≤_}
 use lib.ListN.{length, take}
 use Rattle.model.specs.Lists.{keepIf}
+use Rattle.model.specs.Window.{bornAbove}
 use Rattle.model.specs.Layout.{viewOf}
 use Rattle.tables.proofs.Fields
 use Rattle.tables.proofs.Ranges
@@ -14,10 +15,10 @@ use Rattle.deleting.proofs.next.count_gone.Statement.{statement}
 use Rattle.deleting.proofs.next.count_gone.Tie as tie
 
 abbrev Inv-loop : tie.InvT-loop
-Inv-loop t g s n p len count₀ i₀ count i = (i ≤ len) × (count ≤ i) × (len ≤ 256) × (count ≡ length (younger (viewOf g t) p (take i (viewOf g t .list n))))
+Inv-loop t g n p len count₀ i₀ count i = (i ≤ len) × (count ≤ i) × (len ≤ 256) × (count ≡ length (younger (viewOf g t) p (take i (viewOf g t .list n))))
 
 abbrev μ-loop : tie.MeasureT-loop
-μ-loop t g s n p len count₀ i₀ count i = len - i
+μ-loop t g n p len count₀ i₀ count i = len - i
 
 add-wide : tie.Need-add-wide Inv-loop μ-loop
 add-wide c = omega arith
@@ -148,12 +149,12 @@ loop-again-2 c =
     )
 
 returns : tie.Need-returns Inv-loop μ-loop
+unfolding bornAbove
 returns c =
     let start = c .before .before .before .before .before in
     let turn = c .before .loop in
     let all = Parting.part-end (start .args .g) (start .args .t .now) (start .args .n) (start .pre .1) (turn .i) _ (c .before .before .wide .ensures) (turn .inv .0) (c .loop-test .left) in
-    turn .inv .3 ∙ ap (λ m. length (younger (viewOf (start .args .g) (start .args .t .now)) (start .args .p) m)) all ∙
-    Parting.freed-many (start .pre .0) (start .args .s) (start .args .n) (start .args .p) (start .pre .2)
+    (turn .inv .3 ∙ ap (λ m. length (younger (viewOf (start .args .g) (start .args .t .now)) (start .args .p) m)) all, omega arith)
 
 pub count-gone-spec : {M : Type 1} → statement M
 count-gone-spec =

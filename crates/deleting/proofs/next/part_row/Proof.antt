@@ -8,7 +8,7 @@ use lib.Seq.{sets}
 use Rattle.model.specs.Lists.{keepIf}
 use Rattle.model.specs.Layout.{listCell, viewOf}
 use Rattle.tables.proofs.Ranges
-use Rattle.deleting.specs.Stages.{younger, older}
+use Rattle.deleting.specs.Stages.{younger, others}
 use Rattle.deleting.proofs.Parting
 use Rattle.deleting.proofs.next.part_row.Statement.{statement}
 use Rattle.deleting.proofs.next.part_row.Tie as tie
@@ -16,9 +16,9 @@ use Rattle.deleting.proofs.next.part_row.Tie as tie
 abbrev Inv-loop : tie.InvT-loop
 Inv-loop t₀ g out₀ n p len count₀ kept₀ i₀ t out count kept i =
     (length t ≡ length t₀) × (length out ≡ length out₀) × (i ≤ len) × (len ≤ 256) × (count + kept ≡ i) ×
-    (count ≡ length (younger (viewOf g t₀) p (take i (viewOf g t₀ .list n)))) × (kept ≡ length (older (viewOf g t₀) p (take i (viewOf g t₀ .list n)))) ×
+    (count ≡ length (younger (viewOf g t₀) p (take i (viewOf g t₀ .list n)))) × (kept ≡ length (others (viewOf g t₀) p (take i (viewOf g t₀ .list n)))) ×
     (out ≡ sets out₀ 0 (younger (viewOf g t₀) p (take i (viewOf g t₀ .list n)))) ×
-    (t ≡ sets t₀ (listCell (g .records) n 0) (older (viewOf g t₀) p (take i (viewOf g t₀ .list n))))
+    (t ≡ sets t₀ (listCell (g .records) n 0) (others (viewOf g t₀) p (take i (viewOf g t₀ .list n))))
 
 abbrev μ-loop : tie.MeasureT-loop
 μ-loop t₀ g out₀ n p len count₀ kept₀ i₀ t out count kept i = len - i
@@ -240,7 +240,7 @@ returns c =
     let all = Parting.part-end (start .args .g) (start .args .t .now) (start .args .n) (start .pre .1) (turn .i) _ (c .before .before .wide .ensures) (turn .inv .2) (c .loop-test .left) in (
       turn .inv .5 ∙ ap (λ m. length (younger K p m)) all,
       (
-        turn .inv .8 ∙ ap (λ m. sets (start .args .t .now) (listCell (start .args .g .records) (start .args .n) 0) (older K p m)) all,
+        turn .inv .8 ∙ ap (λ m. sets (start .args .t .now) (listCell (start .args .g .records) (start .args .n) 0) (others K p m)) all,
         turn .inv .7 ∙ ap (λ m. sets (start .args .out .now) 0 (younger K p m)) all,
       ),
     )

@@ -61,6 +61,15 @@ mul-t-5 c = search needs
 slice-write-t-6 : tie.Need-slice-write-t-6
 slice-write-t-6 c = simp length-set (omega arith)
 
+add-t-6 : tie.Need-add-t-6
+add-t-6 c = search needs
+
+mul-t-6 : tie.Need-mul-t-6
+mul-t-6 c = search needs
+
+slice-write-t-7 : tie.Need-slice-write-t-7
+slice-write-t-7 c = simp length-set (omega arith)
+
 same-length : tie.Need-same-length
 same-length c = simp length-set
 
@@ -90,5 +99,8 @@ open-record-spec =
     add-t-5
     mul-t-5
     slice-write-t-6
+    add-t-6
+    mul-t-6
+    slice-write-t-7
     same-length
     returns)
