@@ -1,7 +1,7 @@
 -- A look leaves tables and log; what it promises is what a call promises.
 use mathlib.Core.Path.{_≡_, refl, sym, ap, subst}
 use mathlib.Core.List.{List, [], _∷_}
-use mathlib.Core.Option.{none, some}
+use mathlib.Core.Option.{some}
 use types.Run.{OneOf, miss}
 use denote.Enum.Declared.{tagOf}
 use Prim.Native.Nat.{ℕ}
@@ -10,9 +10,10 @@ use Rattle.answer.specs.Reply.{replyOf}
 use Rattle.geometry.specs.declared.Geometry.{Geometry}
 use Rattle.model.specs.declared.Call.{Call}
 use Rattle.model.proofs.Call.{the-type}
-use Rattle.model.specs.declared.Call.the-variants.{Begin, Write, Erase, Seal, Fork, Delete, Read, Barrier, Compress, FreeList, Estimate}
-use Rattle.model.specs.Calls.{written, effect}
+use Rattle.model.specs.declared.Call.the-variants.{Begin, Write, Erase, Seal, Fork, Delete, Read, Barrier, Compress, FreeList, Estimate, Retain}
+use Rattle.model.specs.Calls.{account, written, effect}
 use Rattle.model.specs.Layout.{stateOf}
+use Rattle.model.specs.Memory.{midway}
 use Rattle.tables.specs.Ready.{Ready, LinkOf, recordOf}
 use Rattle.tables.specs.Outcome.{replied, outLeft}
 use Rattle.engine.specs.declared.looks.Look.{Look}
@@ -44,11 +45,16 @@ keeps-state g t (look.Read n x) = refl
 keeps-state g t look.FreeList = refl
 keeps-state g t (look.Estimate n) = refl
 
+stores-once : (g : Geometry) (t : List ℕ) (l : Look) → midway g (stateOf g t) (account (lookCall l)) t ≡ t
+stores-once g t (look.Read n x) = refl
+stores-once g t look.FreeList = refl
+stores-once g t (look.Estimate n) = refl
+
 -- tables and log are those that were lent
 pub look-performed : (r : Answer) (g : Geometry) (t log out left : List ℕ) (l : Look) → Ready g t → Looked r g t out left (lookCall l) →
     Performed r t log left g t log out (lookCall l)
 look-performed r g t log out left l R p =
-    (p .0, (tables-stay g t (lookCall l) R (keeps-state g t l), (log-stays g t (lookCall l) log (writes-none g t l), p .1)))
+    (p .0, (tables-stay g t (lookCall l) R (keeps-state g t l) (stores-once g t l), (log-stays g t (lookCall l) log (writes-none g t l), p .1)))
 
 -- ── the look that a call is ──
 
@@ -60,7 +66,7 @@ seen-as c (look.Estimate n) e = rw e
 
 -- the places of the calls that do more, in the order of `Call`
 abbrev acting : List ℕ
-acting = 0 ∷ 1 ∷ 2 ∷ 3 ∷ 4 ∷ 5 ∷ 7 ∷ 8 ∷ []
+acting = 0 ∷ 1 ∷ 2 ∷ 3 ∷ 4 ∷ 5 ∷ 7 ∷ 8 ∷ 11 ∷ []
 
 pub not-seen : (c : Call) → OneOf acting (tagOf the-type c) → seenCall seen.Nothing ≡ onlyLooks (some c)
 not-seen Begin h = refl
@@ -74,3 +80,4 @@ not-seen Barrier h = refl
 not-seen Compress h = refl
 not-seen FreeList h = absurd (miss acting 9 tt h)
 not-seen (Estimate r) h = absurd (miss acting 10 tt h)
+not-seen (Retain r n) h = refl

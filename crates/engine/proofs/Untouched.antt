@@ -1,6 +1,6 @@
 -- What a call is not lent, it leaves: a call that writes no words leaves the log, one that gives no number the result buffer, one that keeps the
 -- state the tables.
-use mathlib.Core.Path.{_≡_, refl, sym, ap, _∙_, subst}
+use mathlib.Core.Path.{_≡_, refl, sym, ap, ap₂, _∙_, subst}
 use mathlib.Core.List.{List, []}
 use Prim.Native.Nat.{ℕ}
 use lib.Seq.{sets}
@@ -11,9 +11,10 @@ use Rattle.geometry.specs.declared.Geometry.{Geometry}
 use Rattle.log.specs.Word.{writeAt, bytesOf}
 use Rattle.log.proofs.Writing.{write-none}
 use Rattle.model.specs.declared.Call.{Call}
-use Rattle.model.specs.Calls.{result, written, effect}
+use Rattle.model.specs.State.{State}
+use Rattle.model.specs.Calls.{account, result, written, effect}
 use Rattle.model.specs.Layout.{stateOf, stored}
-use Rattle.model.specs.Memory.{writtenAt}
+use Rattle.model.specs.Memory.{writtenAt, midway, storedBy}
 use Rattle.model.proofs.Restored.{stored-state}
 use Rattle.tables.specs.Ready.{Ready, OutLong, LogLong, LinkOf, recordOf}
 use Rattle.tables.specs.Outcome.{replied, tablesLeft, logLeft, outLeft}
@@ -35,11 +36,11 @@ module _ (g : Geometry) (t : List ℕ) (c : Call) where
   unfolding outLeft
   out-stays out e = either-way (replied g t c) out (sets out 0 (result g (stateOf g t) c)) (ap (sets out 0) e)
 
-  pub tables-stay : Ready g t → effect g (stateOf g t) c ≡ stateOf g t → t ≡ tablesLeft g t c
+  pub tables-stay : Ready g t → effect g (stateOf g t) c ≡ stateOf g t → midway g (stateOf g t) (account c) t ≡ t → t ≡ tablesLeft g t c
   unfolding tablesLeft
-  tables-stay R e =
-      either-way (replied g t c) t (stored g (effect g (stateOf g t) c) t)
-      (ap (λ U. stored g U t) e ∙ stored-state g t (R .made) (R .free) (R .roomy .room))
+  tables-stay R e way =
+      either-way (replied g t c) t (storedBy g t c)
+      (ap₂ (λ (U : State) (u : List ℕ). stored g U u) e way ∙ stored-state g t (R .made) (R .free) (R .roomy .room))
 
 -- the four promises of a call
 abbrev pub Performed : Answer → List ℕ → List ℕ → List ℕ → Geometry → List ℕ → List ℕ → List ℕ → Call → Type 0

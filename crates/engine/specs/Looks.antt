@@ -1,9 +1,8 @@
--- The calls that only look: R, L and Q, those whose account says so.
+-- The calls that only look: R, L and Q. (K looks too, and notes a window.)
 use mathlib.Core.Bool.{Bool, true, false, cond}
 use mathlib.Core.Option.{Option, none, some}
 use Rattle.model.specs.declared.Call.{Call}
-use Rattle.model.specs.declared.Call.the-variants.{Read, FreeList, Estimate}
-use Rattle.model.specs.Calls.{Account, looking, opening, freeing, placing, marking, renewing, account}
+use Rattle.model.specs.declared.Call.the-variants.{Begin, Write, Erase, Seal, Fork, Delete, Read, Barrier, Compress, FreeList, Estimate, Retain}
 use Rattle.engine.specs.declared.looks.Look.{Look}
 use Rattle.engine.specs.declared.looks.Look.the-variants as look
 use Rattle.engine.specs.declared.looks.Seen.{Seen}
@@ -15,17 +14,23 @@ lookCall (look.Read n x) = Read n x
 lookCall look.FreeList = FreeList
 lookCall (look.Estimate n) = Estimate n
 
-abbrev pub looks : Account → Bool
-looks (looking s cs res) = true
-looks (opening cs a) = false
-looks (freeing cs a) = false
-looks (placing r x k) = false
-looks marking = false
-looks renewing = false
+abbrev pub looks : Call → Bool
+looks Begin = false
+looks (Write r x k) = false
+looks (Erase r x) = false
+looks (Seal r) = false
+looks (Fork r) = false
+looks (Delete r) = false
+looks (Read r x) = true
+looks Barrier = false
+looks Compress = false
+looks FreeList = true
+looks (Estimate r) = true
+looks (Retain r n) = false
 
 -- of what is asked, a call that only looks
 abbrev pub onlyLooks : Option Call → Option Call
-onlyLooks (some c) = cond (looks (account c)) (some c) none
+onlyLooks (some c) = cond (looks c) (some c) none
 onlyLooks none = none
 
 -- the call that an answer stands for

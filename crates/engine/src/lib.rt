@@ -1,4 +1,4 @@
-// The eleven calls on tables that are known to be sound. Internal: `store` is what users call.
+// The twelve calls on tables that are known to be sound. Internal: `store` is what users call.
 pub mod looks;
 
 ghost use mathlib.Core.Path.{_≡_};
@@ -13,7 +13,6 @@ use geometry::Geometry;
 use geometry::copied;
 use lines::begin;
 use lines::fork;
-use lines::seal;
 use logging::barrier;
 use logging::compress_log;
 use logging::free_list;
@@ -21,6 +20,8 @@ use model::Call;
 use paging::erase::erase;
 use paging::read::read;
 use paging::write::write;
+use retaining::retain;
+use retaining::seal;
 
 // The number of the record that a call is on, 0 for a call that is on none.
 pub fn record_of(c: Call) -> u32
@@ -38,6 +39,7 @@ pub fn record_of(c: Call) -> u32
         Call::Compress => 0,
         Call::FreeList => 0,
         Call::Estimate(n) => n,
+        Call::Retain(n, _) => n,
     }
 }
 
@@ -61,7 +63,7 @@ pub fn perform(
         Call::Begin => begin(g, t, out),
         Call::Write(n, page, kind) => write(g, t, log, out, n, link, page, kind),
         Call::Erase(n, page) => erase(g, t, log, out, n, link, page),
-        Call::Seal(n) => seal(g, t, out, n, link),
+        Call::Seal(n) => seal(copied(g), t, log, out, n, link),
         Call::Fork(n) => fork(g, t, out, n, link),
         Call::Delete(n) => delete(copied(g), t, log, out, n, link),
         Call::Read(n, page) => read(g, t, out, n, link, page),
@@ -69,6 +71,7 @@ pub fn perform(
         Call::Compress => compress_log(g, t, log, out),
         Call::FreeList => free_list(g, t, out),
         Call::Estimate(n) => estimate(copied(g), t, out, n, link),
+        Call::Retain(n, most) => retain(g, t, n, link, most),
     }
 }
 

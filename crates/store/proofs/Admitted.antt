@@ -1,5 +1,5 @@
 -- The promises of `call`, return by return: what each refusal leaves, and what the engine's promises on a sound store come to.
-use mathlib.Core.Path.{_≡_, refl, sym, ap, _∙_, subst}
+use mathlib.Core.Path.{_≡_, sym, ap, _∙_, subst}
 use mathlib.Core.Bool.{Bool, true, false, not}
 use mathlib.Core.List.{List}
 use Prim.Native.Nat.{ℕ}
@@ -14,9 +14,9 @@ use Rattle.geometry.specs.Limits.{Inside, fits}
 use Rattle.geometry.proofs.Made.{inside-fits}
 use Rattle.log.specs.Word.{writeAt, bytesOf}
 use Rattle.log.proofs.Tools.{MadeOf}
-use Rattle.model.specs.Calls.{result, written, effect}
-use Rattle.model.specs.Layout.{stateOf, stored}
-use Rattle.model.specs.Memory.{Memory, short?, sound?, writtenAt, reply, after}
+use Rattle.model.specs.Calls.{result, written}
+use Rattle.model.specs.Layout.{stateOf}
+use Rattle.model.specs.Memory.{Memory, short?, sound?, writtenAt, reply, storedBy, after}
 use Rattle.model.specs.SoundStore.{SoundStore}
 use Rattle.model.specs.declared.Call.{Call}
 use Rattle.model.proofs.SoundTest.{sound-iff}
@@ -29,7 +29,9 @@ use Rattle.tables.specs.Outcome.{replied, tablesLeft, logLeft, outLeft}
 
 -- what the calls ask of their caller
 pub sound-ready : (g : Geometry) (t log : List ℕ) → Roomy g t → SoundStore g t log → Ready g t
-sound-ready g t log R s = record { roomy = R; made = s .made; sound = sound-fine g t log s .sound; range = s .range; waiting = s .waiting; free = s .free }
+sound-ready g t log R s = record {
+  roomy = R; made = s .made; sound = sound-fine g t log s .sound; range = s .range; waiting = s .waiting; windows = s .windows; free = s .free;
+}
 
 -- on a sound store and long enough memory the model's definitions are those read off the tables
 module _ (g : Geometry) (M : Memory) (c : Call) (i : Inside g) (L : Long g M) (s : SoundStore g (M .tables) (M .log)) where
@@ -39,7 +41,7 @@ module _ (g : Geometry) (M : Memory) (c : Call) (i : Inside g) (L : Long g M) (s
 
   pub tables-are : after g M c .tables ≡ tablesLeft g (M .tables) c
   unfolding after tablesLeft
-  tables-are = ap (λ (r : Reply). leaves r (M .tables) (stored g (effect g (stateOf g (M .tables)) c) (M .tables))) reply-is
+  tables-are = ap (λ (r : Reply). leaves r (M .tables) (storedBy g (M .tables) c)) reply-is
 
   pub log-is : after g M c .log ≡ logLeft g (M .tables) (M .log) c
   unfolding after logLeft
@@ -66,7 +68,7 @@ module _ (M : Memory) (c : Call) where
       let T = stateOf g (M .tables) in (
         sym e,
         (
-          sym (ap (λ (r : Reply). leaves r (M .tables) (stored g (effect g T c) (M .tables))) e),
+          sym (ap (λ (r : Reply). leaves r (M .tables) (storedBy g (M .tables) c)) e),
           (
             sym (ap (λ (r : Reply). leaves r (M .log) (writeAt (M .log) (writtenAt T c) (bytesOf (written g T c)))) e),
             sym (ap (λ (r : Reply). leaves r (M .out) (sets (M .out) 0 (result g T c))) e),

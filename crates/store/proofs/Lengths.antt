@@ -1,5 +1,5 @@
 -- What a call leaves is as long as what it was lent: the words it writes fit the log.
-use mathlib.Core.Path.{_≡_, refl, sym, ap, _∙_}
+use mathlib.Core.Path.{_≡_, refl}
 use mathlib.Core.Bool.{cond}
 use mathlib.Core.List.{List, [], _∷_}
 use Prim.Native.Nat.{ℕ, _+_, _*_, _-_, _≤_}
@@ -13,14 +13,14 @@ use Rattle.geometry.specs.declared.Geometry.{Geometry}
 use Rattle.log.specs.Word.{writeAt, bytesOf}
 use Rattle.log.proofs.Writing.{length-write, length-bytes}
 use Rattle.model.specs.State.{State, InRange}
-use Rattle.model.specs.Calls.{Account, looking, opening, freeing, placing, marking, renewing, account, refusalsBy, renews, shortBy, wordsBy}
-use Rattle.model.specs.Calls.{freed, compressed, conditions, result, written, effect}
-use Rattle.model.specs.Layout.{stateOf, stored, made}
-use Rattle.model.specs.Memory.{Memory, writtenAt, reply, after, makeReply, makeAfter}
+use Rattle.model.specs.Calls.{Account, looking, opening, freeing, closing, placing, marking, renewing, account, refusalsBy, renews, shortBy, wordsBy}
+use Rattle.model.specs.Calls.{freed, compressed, conditions, result, written}
+use Rattle.model.specs.Layout.{stateOf, made}
+use Rattle.model.specs.Memory.{Memory, writtenAt, reply, storedBy, after, makeReply, makeAfter}
 use Rattle.model.specs.declared.Call.{Call}
 use Rattle.model.proofs.ByNumber.{none-at}
 use Rattle.model.proofs.CallKinds.{none-right}
-use Rattle.model.proofs.LayoutFacts.{stored-length}
+use Rattle.model.proofs.Midway.{by-length}
 use Rattle.model.proofs.MadeFacts.{made-length}
 use Rattle.model.proofs.Keeps.{accepted-is}
 
@@ -33,11 +33,14 @@ module _ (g : Geometry) (T : State) (R : InRange g T) where
   nothing = behind [] (omega arith)
 
   fit-by : (A : Account) → NoneHolds (refusalsBy g T A) → cond (renews A) 0 (8 * T .used) + length (bytesOf (wordsBy g T A)) ≤ 8 * g .words
-  fit-by (looking s cs res) n = nothing
+  fit-by (looking s cs res note) n = nothing
   fit-by (opening cs a) n = nothing
   fit-by (freeing cs a) n =
       let past = none-at ((14, shortBy g T (freeing cs a)) ∷ []) (none-right (cs g T) _ n) in
       behind (freed T (a T)) (ltb-false (g .words - T .used) (length (freed T (a T))) (past 14))
+  fit-by (closing r) n =
+      let past = none-at (refusalsBy g T (closing r)) n in
+      behind (wordsBy g T (closing r)) (ltb-false (g .words - T .used) (length (wordsBy g T (closing r))) (past 14))
   fit-by (placing r x k) n =
       let past = none-at (refusalsBy g T (placing r x k)) n in
       behind (wordsBy g T (placing r x k)) (ltb-false (g .words - T .used) (length (wordsBy g T (placing r x k))) (past 14))
@@ -55,8 +58,8 @@ module _ (g : Geometry) (M : Memory) (c : Call) where
   unfolding after
   tables-length = go (reply g M c)
     where
-      go : (r : Reply) → length (leaves r (M .tables) (stored g (effect g T c) (M .tables))) ≡ length (M .tables)
-      go (accepted l) = stored-length g (effect g T c) (M .tables)
+      go : (r : Reply) → length (leaves r (M .tables) (storedBy g (M .tables) c)) ≡ length (M .tables)
+      go (accepted l) = by-length g (M .tables) c
       go (refused n) = refl
 
   pub out-length : length (after g M c .out) ≡ length (M .out)

@@ -22,7 +22,7 @@ number-of n out l e k =
     (λ a. absurd (let z : ⊥ = omega (arith, ap length (sym (take-all n out a) ∙ e)) in z))
 
 -- the number that an answer names
-pub done-le : (n : ℕ) (out : List ℕ) (g : Geometry) (M : Memory) (c : Call) → replyOf (Done n) out ≡ reply g M c → 4160 ≤ length out → n ≤ 4096
+pub done-le : (n : ℕ) (out : List ℕ) (g : Geometry) (M : Memory) (c : Call) → replyOf (Done n) out ≡ reply g M c → 4160 ≤ length out → n ≤ 4097
 unfolding replyOf
 done-le n out g M c e k =
     let i = accepted-is g M c (take n out) (sym e) .0 .inside in

@@ -1,7 +1,6 @@
 -- `perform`: each arm is one call; what it is not lent stays.
 use mathlib.Core.Path.{refl}
 use Rattle.engine.proofs.Untouched.{log-stays, out-stays, tables-stay, its-link, of-call, copy-asked, copy-looked, copy-performed, copy-answers}
-use native.Mathlib.Omega.{arith}
 use borrow.Author.Needs.{needs}
 use Rattle.engine.proofs.perform.Statement.{statement}
 use Rattle.engine.proofs.perform.Tie as tie
@@ -31,10 +30,16 @@ erase-requires c κs =
 enum-known-c-3 : tie.Need-enum-known-c-3
 enum-known-c-3 c = search needs
 
+copied-requires : tie.Need-copied-requires
+copied-requires c κs = search needs
+
 seal-requires : tie.Need-seal-requires
 seal-requires c κs =
-    let s = c .before .before .before .before .before .before .before .before in
-    (s .pre .0, s .pre .2, its-link (s .args .g) (s .args .t .now) (c .before .before .before .c3 .given .1) (s .args .link) (s .pre .3))
+    let at-copied = c .before .before .before in
+    let at-c3 = at-copied .before .before in
+    let s = at-c3 .before .before .before .before .before in
+    copy-asked (at-copied .copied .ensures) (s .args .t .now) (s .args .log .now) (s .args .out .now) _ (s .args .link)
+    (s .pre .0, s .pre .1, s .pre .2, its-link (s .args .g) (s .args .t .now) (at-c3 .c3 .given .1) (s .args .link) (s .pre .3))
 
 enum-known-c-4 : tie.Need-enum-known-c-4
 enum-known-c-4 c = search needs
@@ -47,15 +52,15 @@ fork-requires c κs =
 enum-known-c-5 : tie.Need-enum-known-c-5
 enum-known-c-5 c = search needs
 
-copied-requires : tie.Need-copied-requires
-copied-requires c κs = search needs
+copied-requires-2 : tie.Need-copied-requires-2
+copied-requires-2 c κs = search needs
 
 delete-requires : tie.Need-delete-requires
 delete-requires c κs =
     let at-copied = c .before .before .before in
     let at-c5 = at-copied .before .before in
     let s = at-c5 .before .before .before .before .before in
-    copy-asked (at-copied .copied .ensures) (s .args .t .now) (s .args .log .now) (s .args .out .now) _ (s .args .link)
+    copy-asked (at-copied .copied2 .ensures) (s .args .t .now) (s .args .log .now) (s .args .out .now) _ (s .args .link)
     (s .pre .0, s .pre .1, s .pre .2, its-link (s .args .g) (s .args .t .now) (at-c5 .c5 .given .1) (s .args .link) (s .pre .3))
 
 enum-known-c-6 : tie.Need-enum-known-c-6
@@ -87,16 +92,24 @@ free-list-requires c κs = let p = c .before .before .before .before .before .be
 enum-known-c-7 : tie.Need-enum-known-c-7
 enum-known-c-7 c = search needs
 
-copied-requires-2 : tie.Need-copied-requires-2
-copied-requires-2 c κs = search needs
+copied-requires-3 : tie.Need-copied-requires-3
+copied-requires-3 c κs = search needs
 
 estimate-requires : tie.Need-estimate-requires
 estimate-requires c κs =
     let at-copied = c .before .before in
     let at-c7 = at-copied .before .before in
     let s = at-c7 .before .before .before .before .before in
-    copy-looked (at-copied .copied2 .ensures) (s .args .t .now) (s .args .out .now) _ (s .args .link)
+    copy-looked (at-copied .copied3 .ensures) (s .args .t .now) (s .args .out .now) _ (s .args .link)
     (s .pre .0, s .pre .2, its-link (s .args .g) (s .args .t .now) (at-c7 .c7 .given .1) (s .args .link) (s .pre .3))
+
+enum-known-c-8 : tie.Need-enum-known-c-8
+enum-known-c-8 c = search needs
+
+retain-requires : tie.Need-retain-requires
+retain-requires c κs =
+    let s = c .before .before .before .before .before .before .before in
+    (s .pre .0, its-link (s .args .g) (s .args .t .now) (c .before .before .c8 .given .1) (s .args .link) (s .pre .3))
 
 same-length : tie.Need-same-length
 same-length c = search needs
@@ -152,19 +165,23 @@ same-length-9 c = search needs
 same-length-10 : tie.Need-same-length-10
 same-length-10 c = search needs
 
-returns-4 : tie.Need-returns-4
-returns-4 c =
-    let s = c .before .before .before .before .before .before .before .before .before .before .before .before .before in
-    let a = s .args in
-    let e = c .before .before .before .before .seal .ensures in
-    of-call (a .g) (a .t .now) (a .log .now) (a .out .now) (c .before .before .before .before .before .before .before .before .c3 .given .1) _ _ _ _
-    (e .0, (e .1 .0, (log-stays (a .g) (a .t .now) _ (a .log .now) refl, e .1 .1)))
-
 same-length-11 : tie.Need-same-length-11
 same-length-11 c = search needs
 
+returns-4 : tie.Need-returns-4
+returns-4 c =
+    let at-seal = c .before .before .before .before .before .before in
+    let at-copied = at-seal .before .before .before .before in
+    let at-c3 = at-copied .before .before in
+    let a = at-c3 .before .before .before .before .before .args in
+    of-call (a .g) (a .t .now) (a .log .now) (a .out .now) (at-c3 .c3 .given .1) _ _ _ _
+    (copy-performed (at-copied .copied .ensures) _ _ _ _ (a .t .now) (a .log .now) (a .out .now) _ (at-seal .seal .ensures))
+
 same-length-12 : tie.Need-same-length-12
 same-length-12 c = search needs
+
+same-length-13 : tie.Need-same-length-13
+same-length-13 c = search needs
 
 returns-5 : tie.Need-returns-5
 returns-5 c =
@@ -174,14 +191,14 @@ returns-5 c =
     of-call (a .g) (a .t .now) (a .log .now) (a .out .now) (c .before .before .before .before .before .before .before .before .c4 .given .1) _ _ _ _
     (e .0, (e .1 .0, (log-stays (a .g) (a .t .now) _ (a .log .now) refl, e .1 .1)))
 
-same-length-13 : tie.Need-same-length-13
-same-length-13 c = search needs
-
 same-length-14 : tie.Need-same-length-14
 same-length-14 c = search needs
 
 same-length-15 : tie.Need-same-length-15
 same-length-15 c = search needs
+
+same-length-16 : tie.Need-same-length-16
+same-length-16 c = search needs
 
 returns-6 : tie.Need-returns-6
 returns-6 c =
@@ -190,13 +207,13 @@ returns-6 c =
     let at-c5 = at-copied .before .before in
     let a = at-c5 .before .before .before .before .before .args in
     of-call (a .g) (a .t .now) (a .log .now) (a .out .now) (at-c5 .c5 .given .1) _ _ _ _
-    (copy-performed (at-copied .copied .ensures) _ _ _ _ (a .t .now) (a .log .now) (a .out .now) _ (at-delete .delete .ensures))
-
-same-length-16 : tie.Need-same-length-16
-same-length-16 c = search needs
+    (copy-performed (at-copied .copied2 .ensures) _ _ _ _ (a .t .now) (a .log .now) (a .out .now) _ (at-delete .delete .ensures))
 
 same-length-17 : tie.Need-same-length-17
 same-length-17 c = search needs
+
+same-length-18 : tie.Need-same-length-18
+same-length-18 c = search needs
 
 returns-7 : tie.Need-returns-7
 returns-7 c =
@@ -204,13 +221,13 @@ returns-7 c =
     let a = s .args in
     let e = c .before .before .read .ensures in
     of-call (a .g) (a .t .now) (a .log .now) (a .out .now) (c .before .before .before .before .before .before .c6 .given .1) _ _ _ _
-    (e .0, (tables-stay (a .g) (a .t .now) _ (s .pre .0) refl, (log-stays (a .g) (a .t .now) _ (a .log .now) refl, e .1)))
-
-same-length-18 : tie.Need-same-length-18
-same-length-18 c = search needs
+    (e .0, (tables-stay (a .g) (a .t .now) _ (s .pre .0) refl refl, (log-stays (a .g) (a .t .now) _ (a .log .now) refl, e .1)))
 
 same-length-19 : tie.Need-same-length-19
 same-length-19 c = search needs
+
+same-length-20 : tie.Need-same-length-20
+same-length-20 c = search needs
 
 returns-8 : tie.Need-returns-8
 returns-8 c =
@@ -220,14 +237,14 @@ returns-8 c =
     of-call (a .g) (a .t .now) (a .log .now) (a .out .now) (c .before .before .before .before .before .before .before .enum-told2 .given .1) _ _ _ _
     (e .0 _, (e .1 .0, (e .1 .1, out-stays (a .g) (a .t .now) _ (a .out .now) refl)))
 
-same-length-20 : tie.Need-same-length-20
-same-length-20 c = search needs
-
 same-length-21 : tie.Need-same-length-21
 same-length-21 c = search needs
 
 same-length-22 : tie.Need-same-length-22
 same-length-22 c = search needs
+
+same-length-23 : tie.Need-same-length-23
+same-length-23 c = search needs
 
 returns-9 : tie.Need-returns-9
 returns-9 c =
@@ -237,11 +254,11 @@ returns-9 c =
     of-call (a .g) (a .t .now) (a .log .now) (a .out .now) (c .before .before .before .before .before .before .before .before .before .before .enum-told3 .given .1) _ _ _ _
     e
 
-same-length-23 : tie.Need-same-length-23
-same-length-23 c = search needs
-
 same-length-24 : tie.Need-same-length-24
 same-length-24 c = search needs
+
+same-length-25 : tie.Need-same-length-25
+same-length-25 c = search needs
 
 returns-10 : tie.Need-returns-10
 returns-10 c =
@@ -249,13 +266,13 @@ returns-10 c =
     let a = s .args in
     let e = c .before .before .free-list .ensures in
     of-call (a .g) (a .t .now) (a .log .now) (a .out .now) (c .before .before .before .before .before .enum-told4 .given .1) _ _ _ _
-    (e .0, (tables-stay (a .g) (a .t .now) _ (s .pre .0) refl, (log-stays (a .g) (a .t .now) _ (a .log .now) refl, e .1)))
-
-same-length-25 : tie.Need-same-length-25
-same-length-25 c = search needs
+    (e .0, (tables-stay (a .g) (a .t .now) _ (s .pre .0) refl refl, (log-stays (a .g) (a .t .now) _ (a .log .now) refl, e .1)))
 
 same-length-26 : tie.Need-same-length-26
 same-length-26 c = search needs
+
+same-length-27 : tie.Need-same-length-27
+same-length-27 c = search needs
 
 returns-11 : tie.Need-returns-11
 returns-11 c =
@@ -264,9 +281,20 @@ returns-11 c =
     let at-c7 = at-copied .before .before in
     let s = at-c7 .before .before .before .before .before in
     let a = s .args in
-    let e = copy-answers (at-copied .copied2 .ensures) _ _ (a .t .now) (a .out .now) _ (at-estimate .estimate .ensures) in
+    let e = copy-answers (at-copied .copied3 .ensures) _ _ (a .t .now) (a .out .now) _ (at-estimate .estimate .ensures) in
     of-call (a .g) (a .t .now) (a .log .now) (a .out .now) (at-c7 .c7 .given .1) _ _ _ _
-    (e .0, (tables-stay (a .g) (a .t .now) _ (s .pre .0) refl, (log-stays (a .g) (a .t .now) _ (a .log .now) refl, e .1)))
+    (e .0, (tables-stay (a .g) (a .t .now) _ (s .pre .0) refl refl, (log-stays (a .g) (a .t .now) _ (a .log .now) refl, e .1)))
+
+same-length-28 : tie.Need-same-length-28
+same-length-28 c = search needs
+
+returns-12 : tie.Need-returns-12
+returns-12 c =
+    let s = c .before .before .before .before .before .before .before .before .before .before in
+    let a = s .args in
+    let e = c .before .before .retain .ensures in
+    of-call (a .g) (a .t .now) (a .log .now) (a .out .now) (c .before .before .before .before .before .c8 .given .1) _ _ _ _
+    (e .0 _, (e .1, (log-stays (a .g) (a .t .now) _ (a .log .now) refl, out-stays (a .g) (a .t .now) _ (a .out .now) refl)))
 
 pub perform-spec : {M : Type 1} → statement M
 perform-spec =
@@ -279,11 +307,12 @@ perform-spec =
     enum-known-c-2
     erase-requires
     enum-known-c-3
+    copied-requires
     seal-requires
     enum-known-c-4
     fork-requires
     enum-known-c-5
-    copied-requires
+    copied-requires-2
     delete-requires
     enum-known-c-6
     read-requires
@@ -294,8 +323,10 @@ perform-spec =
     enum-told-4
     free-list-requires
     enum-known-c-7
-    copied-requires-2
+    copied-requires-3
     estimate-requires
+    enum-known-c-8
+    retain-requires
     same-length
     same-length-2
     returns
@@ -309,27 +340,30 @@ perform-spec =
     returns-3
     same-length-9
     same-length-10
-    returns-4
     same-length-11
+    returns-4
     same-length-12
-    returns-5
     same-length-13
+    returns-5
     same-length-14
     same-length-15
-    returns-6
     same-length-16
+    returns-6
     same-length-17
-    returns-7
     same-length-18
+    returns-7
     same-length-19
-    returns-8
     same-length-20
+    returns-8
     same-length-21
     same-length-22
-    returns-9
     same-length-23
+    returns-9
     same-length-24
-    returns-10
     same-length-25
+    returns-10
     same-length-26
-    returns-11)
+    same-length-27
+    returns-11
+    same-length-28
+    returns-12)

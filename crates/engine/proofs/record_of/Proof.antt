@@ -36,6 +36,9 @@ enum-told-4 c = search needs
 enum-known-c-7 : tie.Need-enum-known-c-7
 enum-known-c-7 c = search needs
 
+enum-known-c-8 : tie.Need-enum-known-c-8
+enum-known-c-8 c = search needs
+
 returns : tie.Need-returns
 returns c = rw (c .enum-told .given .1)
 
@@ -69,6 +72,9 @@ returns-10 c = rw (c .enum-told4 .given .1)
 returns-11 : tie.Need-returns-11
 returns-11 c = rw (c .before .c7 .given .1)
 
+returns-12 : tie.Need-returns-12
+returns-12 c = rw (c .before .c8 .given .1)
+
 pub record-of-spec : {M : Type 1} → statement M
 record-of-spec =
     tie.close
@@ -84,6 +90,7 @@ record-of-spec =
     enum-told-3
     enum-told-4
     enum-known-c-7
+    enum-known-c-8
     returns
     returns-2
     returns-3
@@ -94,4 +101,5 @@ record-of-spec =
     returns-8
     returns-9
     returns-10
-    returns-11)
+    returns-11
+    returns-12)

@@ -1,0 +1,187 @@
+-- One action on the tables of a store: the tables that it is stored in say what it leaves, and are ready for the next.
+use mathlib.Core.Path.{_≡_, refl, sym, ap, _∙_, subst}
+use mathlib.Core.List.{List, [], _∷_, map}
+use Prim.Native.Nat.{ℕ, pred, _+_, _≤_, _<_}
+use native.Mathlib.Omega.{arith}
+use Rattle.geometry.specs.declared.Geometry.{Geometry}
+use Rattle.geometry.specs.Limits.{blocks}
+use Rattle.model.specs.Sound.{Sound}
+use Rattle.model.specs.State.{State, Notes, withView, withUsed, withWindow, withNotes, freeAll, InRange, WaitingFits, WindowsFit}
+use Rattle.model.specs.Effects.{seal, grow, close}
+use Rattle.model.specs.Actions.{Action, doS, doD, Asks, done, vacant, follower, deleteAt, delete}
+use Rattle.model.specs.Held.{deleted, frees}
+use Rattle.model.specs.Window.{AsksAlong, actedAll}
+use Rattle.model.specs.Calls.{acted}
+use Rattle.model.specs.Layout.{viewOf, stateOf, stored}
+use Rattle.model.specs.Memory.{storedAlong}
+use Rattle.model.proofs.TabFacts.{put-other}
+use Rattle.model.proofs.DoneSound.{spare, done-sound}
+use Rattle.model.proofs.DoneShaped.{done-shaped}
+use Rattle.model.proofs.Sizes.{done-sized}
+use Rattle.model.proofs.BirthStays.{Gives}
+use Rattle.model.proofs.Waiting.{once-short, acted-waits}
+use Rattle.model.proofs.Windows.{fit-done}
+use Rattle.model.proofs.WindowDelete.{cut}
+use Rattle.model.proofs.WindowMoves.{acted-none, acted-next}
+use Rattle.model.proofs.Shape.{Shaped}
+use Rattle.tables.specs.Ready.{Ready}
+use Rattle.tables.proofs.Fields
+use Rattle.tables.proofs.Ranges
+use Rattle.tables.proofs.Steps.{Holds, holds-first, holds-roomy, holds-made, holds-says, holds-free}
+
+-- an action that gives no block, with the notes N after it
+module _ {g : Geometry} {t : List ℕ} (R : Ready g t) (a : Action) (asks : Asks (viewOf g t) a) (giveless : (c : ℕ) → Gives a c → ⊥) (N : Notes)
+    (fit : WindowsFit (done (viewOf g t) a) N) (out : (s : ℕ) → g .records ≤ s → N .window s ≡ 0) (low : done (viewOf g t) a .last ≤ 999999) where
+  abbrev T : State
+  T = stateOf g t
+
+  abbrev pub after : State
+  after = withNotes (acted (stateOf g t) a 0) N
+
+  waits : WaitingFits (acted T a 0)
+  unfolding stateOf
+  waits = acted-waits T a (Ranges.sound R) asks (R .waiting) (λ c i. absurd (giveless c i)) 0
+
+  after-sound : Sound (after .view)
+  unfolding acted stateOf
+  after-sound = done-sound (viewOf g t) a (Ranges.sound R) asks
+
+  after-waits : WaitingFits after
+  after-waits = record { below = waits .below; unborn = waits .unborn; once = waits .once }
+
+  after-shaped : Shaped g after
+  unfolding acted stateOf
+  after-shaped =
+      let S = holds-first R .shaped in
+      let z = done-sized (viewOf g t) a in
+      let b : done (viewOf g t) a .blocks ≡ blocks g = z .blocks ∙ S .blocks in
+      record {
+        view = done-shaped (viewOf g t) a (Ranges.sound R) asks (S .view);
+        slots = z .slots ∙ S .slots;
+        pages = z .pages ∙ S .pages;
+        blocks = b;
+        mark = S .mark;
+        window = λ s h. out s (omega (arith, z .slots, S .slots));
+        few = once-short (after .waiting) (done (viewOf g t) a .blocks) (waits .once) (waits .below);
+      }
+
+  after-range : InRange g after
+  unfolding acted stateOf
+  after-range =
+      record {
+        last = low;
+        marks = R .range .marks;
+        counter = R .range .counter;
+        writes = R .range .writes;
+        used = omega (arith, R .range .used);
+      }
+
+  after-fit : WindowsFit (after .view) (after .notes)
+  unfolding acted stateOf
+  after-fit = fit
+
+  -- the tables u are those in which it is stored
+  module _ (u : List ℕ) (e : u ≡ stored g (withNotes (acted (stateOf g t) a 0) N) t) where
+    held : Holds g t after u
+    held = record { is = e; shaped = after-shaped }
+
+    after-says : stateOf g u ≡ withNotes (acted (stateOf g t) a 0) N
+    after-says = holds-says g t (R .roomy) held
+
+    after-ready : Ready g u
+    after-ready =
+        let d : after ≡ stateOf g u = sym after-says in
+        record {
+          roomy = holds-roomy g t (R .roomy) held;
+          made = holds-made g t (R .roomy) held;
+          sound = subst (λ U. Sound (U .view)) d after-sound;
+          range = subst (InRange g) d after-range;
+          waiting = subst WaitingFits d after-waits;
+          windows = subst (λ U. WindowsFit (U .view) (U .notes)) d after-fit;
+          free = holds-free g t (R .roomy) held;
+        }
+
+-- ── a delete ──
+
+module _ {g : Geometry} {t : List ℕ} (R : Ready g t) (s : ℕ) (asks : Asks (viewOf g t) (doD s)) where
+  gone-fit : WindowsFit (delete (viewOf g t) s) (stateOf g t .notes)
+  unfolding stateOf
+  gone-fit = fit-done (viewOf g t) (doD s) (stateOf g t .notes) (Ranges.sound R) asks (R .windows)
+
+  gone-last : delete (viewOf g t) s .last ≤ 999999
+  unfolding stateOf
+  gone-last = omega (arith, cut (viewOf g t) (Ranges.sound R) s (asks .0) (asks .1) .last, R .range .last)
+
+  window-ends : (x : ℕ) → g .records ≤ x → stateOf g t .notes .window x ≡ 0
+  window-ends x h = Fields.window-out g t x h
+
+  module _ (u : List ℕ) (e : u ≡ stored g (acted (stateOf g t) (doD s) 0) t) where
+    pub gone-says : stateOf g u ≡ acted (stateOf g t) (doD s) 0
+    unfolding acted
+    gone-says = after-says R (doD s) asks (λ c i. i) (stateOf g t .notes) gone-fit window-ends gone-last u e
+
+    pub gone-view : viewOf g u ≡ delete (viewOf g t) s
+    unfolding acted stateOf
+    gone-view = ap (λ B. B .view) gone-says
+
+    pub gone-ready : Ready g u
+    unfolding acted
+    gone-ready = after-ready R (doD s) asks (λ c i. i) (stateOf g t .notes) gone-fit window-ends gone-last u e
+
+  -- as `delete_record` says it, with the link of the record that follows
+  pub gone-is : (l : ℕ) → follower (viewOf g t) s ≡ l →
+      freeAll (deleted (viewOf g t) s l) (withView (stateOf g t) (deleteAt (viewOf g t) s l)) ≡ acted (stateOf g t) (doD s) 0
+  unfolding acted stateOf delete
+  gone-is l e =
+      ap (λ m. freeAll (deleted (viewOf g t) s m) (withView (stateOf g t) (deleteAt (viewOf g t) s m))) (sym e) ∙
+      ap (λ n. freeAll (frees (viewOf g t) (doD s)) (withUsed (withView (stateOf g t) (delete (viewOf g t) s)) n))
+      (let z : stateOf g t .used ≡ stateOf g t .used + 0 = omega arith in z)
+
+-- ── deletes one after another ──
+
+pub acted-nothing : (T : State) → actedAll T [] 0 ≡ T
+acted-nothing T = acted-none T 0 ∙ ap (λ n. withUsed T n) (let z : T .used + 0 ≡ T .used = omega arith in z)
+
+-- where each is one that the store it meets allows, the tables are ready after them, and say what all of them leave
+pub gone-along : {g : Geometry} (vs : List ℕ) (t : List ℕ) → Ready g t → AsksAlong (viewOf g t) (map doD vs) →
+    Ready g (storedAlong g (stateOf g t) (map doD vs) t) ×
+    (stateOf g (storedAlong g (stateOf g t) (map doD vs) t) ≡ actedAll (stateOf g t) (map doD vs) 0)
+unfolding storedAlong
+gone-along [] t R q = (R, sym (acted-nothing (stateOf _ t)))
+gone-along {g} (v ∷ vs) t R (q, qs) =
+    let T : State = stateOf g t in
+    let U : State = acted T (doD v) 0 in
+    let u : List ℕ = stored g U t in
+    let d : stateOf g u ≡ U = gone-says R v q u refl in
+    let w = gone-along vs u (gone-ready R v q u refl) (subst (λ K. AsksAlong K (map doD vs)) (sym (gone-view R v q u refl)) qs) in
+    let e : storedAlong g (stateOf g u) (map doD vs) u ≡ storedAlong g U (map doD vs) u = ap (λ B. storedAlong g B (map doD vs) u) d in (
+      subst (Ready g) e (w .0),
+      ap (stateOf g) (sym e) ∙ w .1 ∙ ap (λ B. actedAll B (map doD vs) 0) d ∙ sym (acted-next T (doD v) (map doD vs) 0 0),
+    )
+
+-- ── the seal ──
+
+module _ {g : Geometry} {t : List ℕ} (R : Ready g t) (s : ℕ) (asks : Asks (viewOf g t) (doS s)) (low : viewOf g t .last < 999999)
+    (f w : ℕ) (ef : f ≡ pred (vacant (viewOf g t))) (ew : w ≡ stateOf g t .notes .window s) where
+  abbrev N : Notes
+  N = withWindow (stateOf g t .notes) f w
+
+  sealed-fit : WindowsFit (done (viewOf g t) (doS s)) N
+  unfolding stateOf
+  sealed-fit = rw (ef, ew) (fit-done (viewOf g t) (doS s) (stateOf g t .notes) (Ranges.sound R) asks (R .windows))
+
+  sealed-ends : (x : ℕ) → g .records ≤ x → N .window x ≡ 0
+  sealed-ends x h =
+      let k = spare (viewOf g t) (asks .2) .0 in
+      put-other (stateOf g t .notes .window) f w x (λ e. let z : ⊥ = omega (arith, Fields.slots-is g t) in z) ∙ Fields.window-out g t x h
+
+  sealed-last : done (viewOf g t) (doS s) .last ≤ 999999
+  unfolding seal grow close
+  sealed-last = omega arith
+
+  module _ (u : List ℕ) (e : u ≡ stored g (withNotes (acted (stateOf g t) (doS s) 0) (withWindow (stateOf g t .notes) f w)) t) where
+    pub sealed-says : stateOf g u ≡ withNotes (acted (stateOf g t) (doS s) 0) (withWindow (stateOf g t .notes) f w)
+    sealed-says = after-says R (doS s) asks (λ c i. i) N sealed-fit sealed-ends sealed-last u e
+
+    pub sealed-ready : Ready g u
+    sealed-ready = after-ready R (doS s) asks (λ c i. i) N sealed-fit sealed-ends sealed-last u e

@@ -1,0 +1,11 @@
+-- Laws of K and S.
+pub mod Verdicts
+pub mod Retaining
+pub mod Lining
+pub mod Counting
+pub mod Parts
+pub mod Acting
+pub mod Walking
+pub mod Trimming
+pub mod Closing
+pub mod Sealing

@@ -1,0 +1,151 @@
+-- The call S: a refusal leaves everything; in a line with a window `close` does the rest, in another the seal is all.
+use native.Mathlib.Omega.{arith}
+use borrow.Author.Needs.{needs}
+use Rattle.retaining.proofs.Closing
+use Rattle.retaining.proofs.Sealing
+use Rattle.retaining.proofs.seal.Statement.{statement}
+use Rattle.retaining.proofs.seal.Tie as tie
+
+sealing-requires : tie.Need-sealing-requires
+sealing-requires c κs =
+    let start = c .before .before .before .before in
+    (start .pre .0, start .pre .3)
+
+enum-known-verdict : tie.Need-enum-known-verdict
+enum-known-verdict c = search needs
+
+enum-known-verdict-2 : tie.Need-enum-known-verdict-2
+enum-known-verdict-2 c = search needs
+
+add-wide : tie.Need-add-wide
+add-wide c =
+    let at-told = c in
+    let at-verdict = at-told .before .before .before in
+    let start = at-verdict .before .before .before .before .before in
+    let verdict = at-verdict .sealing .ensures in
+    let accepted = at-told .before .verdict2 .given .1 in
+    omega (arith, Sealing.slot-below (start .pre .0) _ _ verdict _ _ accepted, start .pre .0 .roomy .inside .records-most)
+
+mul-wide : tie.Need-mul-wide
+mul-wide c =
+    let at-told = c in
+    let at-verdict = at-told .before .before .before in
+    let start = at-verdict .before .before .before .before .before in
+    let verdict = at-verdict .sealing .ensures in
+    let accepted = at-told .before .verdict2 .given .1 in
+    omega (arith, Sealing.slot-below (start .pre .0) _ _ verdict _ _ accepted, start .pre .0 .roomy .inside .records-most)
+
+slice-read-wide : tie.Need-slice-read-wide
+slice-read-wide c =
+    let at-told = c .before in
+    let at-verdict = at-told .before .before .before in
+    let start = at-verdict .before .before .before .before .before in
+    let verdict = at-verdict .sealing .ensures in
+    let accepted = at-told .before .verdict2 .given .1 in
+    omega (arith, Sealing.slot-below (start .pre .0) _ _ verdict _ _ accepted, start .pre .0 .roomy .inside .records-most, start .pre .0 .roomy .room)
+
+wide-requires : tie.Need-wide-requires
+wide-requires c κs = search needs
+
+close-requires : tie.Need-close-requires
+close-requires c κs =
+    let at-told = c .before .before .before .before .before .before in
+    let at-verdict = at-told .before .before .before in
+    let start = at-verdict .before .before .before .before .before in
+    let verdict = at-verdict .sealing .ensures in
+    let accepted = at-told .before .verdict2 .given .1 in (
+      start .pre .0,
+      start .pre .1,
+      start .pre .2,
+      Sealing.closes-so (start .pre .0) _ _ verdict _ _ accepted _ (c .before .before .before .before .wide .ensures),
+      omega (arith, c .before .before .before .if1 .taken),
+    )
+
+same-length : tie.Need-same-length
+same-length c = search needs
+
+same-length-2 : tie.Need-same-length-2
+same-length-2 c = search needs
+
+same-length-3 : tie.Need-same-length-3
+same-length-3 c = search needs
+
+returns : tie.Need-returns
+returns c =
+    let at-told = c .before .before .before .before .before .before .before .before .before .before .before .before .before in
+    let at-verdict = at-told .before .before .before in
+    let start = at-verdict .before .before .before .before .before in
+    let verdict = at-verdict .sealing .ensures in
+    let accepted = at-told .before .verdict2 .given .1 in
+    let a = start .args in
+    let at-close = c .before .before .before .before .before .before in
+    Sealing.closed-left (start .pre .0) _ _ verdict _ _ accepted _ (at-close .before .before .before .before .before .wide .ensures)
+    _ _ (a .log .now) _ (a .out .now) _ (at-close .close .ensures)
+
+seal-at-requires : tie.Need-seal-at-requires
+seal-at-requires c κs =
+    let at-told = c .before .before .before .before in
+    let at-verdict = at-told .before .before .before in
+    let start = at-verdict .before .before .before .before .before in
+    let verdict = at-verdict .sealing .ensures in
+    let accepted = at-told .before .verdict2 .given .1 in
+    let closes = Sealing.closes-so (start .pre .0) _ _ verdict _ _ accepted _ (c .before .before .wide .ensures) in
+    let needs = Closing.seal-needs (start .pre .0) _ _ _ closes in
+    (start .pre .0, needs .0, needs .1, needs .2, needs .3)
+
+slice-write-out : tie.Need-slice-write-out
+slice-write-out c = search needs
+
+same-length-4 : tie.Need-same-length-4
+same-length-4 c = search needs
+
+returns-2 : tie.Need-returns-2
+returns-2 c =
+    let at-verdict = c .before .before .before in
+    let start = at-verdict .before .before .before .before .before in
+    Sealing.refused-left (start .pre .0) _ _ (at-verdict .sealing .ensures) _ (c .before .verdict .given .1) (start .args .log .now) (start .args .out .now)
+
+same-length-5 : tie.Need-same-length-5
+same-length-5 c = search needs
+
+same-length-6 : tie.Need-same-length-6
+same-length-6 c = search needs
+
+returns-3 : tie.Need-returns-3
+returns-3 c =
+    let at-told = c .before .before .before .before .before .before .before in
+    let at-verdict = at-told .before .before .before in
+    let start = at-verdict .before .before .before .before .before in
+    let verdict = at-verdict .sealing .ensures in
+    let accepted = at-told .before .verdict2 .given .1 in
+    let a = start .args in
+    let at-seal = c .before .before in
+    let made = at-seal .seal-at .ensures in
+    let window = at-seal .before .before .before .wide .ensures in
+    let closes = Sealing.closes-so (start .pre .0) _ _ verdict _ _ accepted _ window in
+    Sealing.closed-left (start .pre .0) _ _ verdict _ _ accepted _ window _ _ (a .log .now) _ (a .out .now) _
+    (Closing.bare-left (start .pre .0) _ _ _ closes _ (made .0) (at-seal .before .before .if1 .left) (a .out .now) (start .pre .2) _ (made .1) (a .log .now))
+
+pub seal-spec : {M : Type 1} → statement M
+seal-spec =
+    tie.close
+    (tie.spec
+    sealing-requires
+    enum-known-verdict
+    enum-known-verdict-2
+    add-wide
+    mul-wide
+    slice-read-wide
+    wide-requires
+    close-requires
+    same-length
+    same-length-2
+    same-length-3
+    returns
+    seal-at-requires
+    slice-write-out
+    same-length-4
+    returns-2
+    same-length-5
+    same-length-6
+    returns-3)
