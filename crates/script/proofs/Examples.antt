@@ -3,9 +3,9 @@ use mathlib.Core.Path.{_≡_, refl}
 use mathlib.Core.List.{[], _∷_}
 use mathlib.Core.Option.{none, some}
 use Rattle.answer.specs.Reply.{accepted, refused}
-use Rattle.model.specs.declared.Call.the-variants.{Write, Delete, FreeList, Estimate}
-use Rattle.model.specs.declared.Spelling.the-variants.{Numbers, Blocks}
-use Rattle.model.specs.Results.{plain, born, bornIn, itemsOf}
+use Rattle.model.specs.declared.Call.the-variants.{Write, Delete, FreeList, Estimate, Retain}
+use Rattle.model.specs.declared.Spelling.the-variants.{Numbers, Blocks, NumberAndBlocks}
+use Rattle.model.specs.Results.{plain, born, bornIn, oneThenBorn, itemsOf}
 use Rattle.script.specs.declared.parse.Parsed.{Parsed}
 use Rattle.script.specs.declared.parse.Parsed.the-variants.{Store, Asks}
 use Rattle.script.specs.Decimal.{digits, decimal, led}
@@ -40,6 +40,11 @@ list-line = refl
 estimate-line : parsed (81 ∷ 32 ∷ 55 ∷ []) ≡ Asks (Estimate 7)
 unfolding parsed opens callLine made callIn callOf numbersFrom numberFrom firstDigit digitsFrom
 estimate-line = refl
+
+-- `K 3 2`
+retain-line : parsed (75 ∷ 32 ∷ 51 ∷ 32 ∷ 50 ∷ []) ≡ Asks (Retain 3 2)
+unfolding parsed opens callLine made callIn callOf numbersFrom numberFrom firstDigit digitsFrom
+retain-line = refl
 
 -- `D 09`, `L ` and the empty line are no calls
 leading-zero : parsed (68 ∷ 32 ∷ 48 ∷ 57 ∷ []) ≡ Parsed.No
@@ -84,6 +89,11 @@ one-given = refl
 two-given : replyText Blocks (accepted (2 ∷ 2 ∷ 1 ∷ 2 ∷ [])) ≡ 43 ∷ 32 ∷ 50 ∷ 58 ∷ 50 ∷ 32 ∷ 49 ∷ 58 ∷ 50 ∷ 10 ∷ []
 unfolding replyText itemsOf bornIn itemsText itemText led decimal digits
 two-given = refl
+
+-- `+ 3 0:1`: a number, then a block with its birth
+number-first : replyText NumberAndBlocks (accepted (3 ∷ 0 ∷ 1 ∷ [])) ≡ 43 ∷ 32 ∷ 51 ∷ 32 ∷ 48 ∷ 58 ∷ 49 ∷ 10 ∷ []
+unfolding replyText itemsOf oneThenBorn bornIn itemsText itemText led decimal digits
+number-first = refl
 
 eight-refused : replyText Blocks (refused 8) ≡ 45 ∷ 32 ∷ 56 ∷ 10 ∷ []
 unfolding replyText led decimal digits

@@ -10,7 +10,7 @@ use lib.Dec.{eqb}
 use borrow.Author.Tests.{eqb-true}
 use Rattle.answer.proofs.Cases.{cases, either}
 use Rattle.model.specs.declared.Call.{Call}
-use Rattle.model.specs.declared.Call.the-variants.{Begin, Write, Erase, Seal, Fork, Delete, Read, Barrier, Compress, FreeList, Estimate}
+use Rattle.model.specs.declared.Call.the-variants.{Begin, Write, Erase, Seal, Fork, Delete, Read, Barrier, Compress, FreeList, Estimate, Retain}
 use Rattle.script.specs.declared.parse.Parsed.the-variants.{Asks}
 use Rattle.script.specs.Letters.{Form, bare, one, two, three, table, made, callIn, callOf}
 use Rattle.script.specs.Decimal.{spaced}
@@ -36,6 +36,7 @@ sign Barrier = by 89 [] refl
 sign Compress = by 67 [] refl
 sign FreeList = by 76 [] refl
 sign (Estimate r) = by 81 (r ∷ []) refl
+sign (Retain r n) = by 75 (r ∷ n ∷ []) refl
 
 -- a call's letter and numbers
 abbrev Parts : Type 0

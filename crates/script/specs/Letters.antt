@@ -6,7 +6,7 @@ use mathlib.Core.List.{List, [], _∷_}
 use mathlib.Core.Option.{Option, none, some}
 use lib.Dec.{eqb}
 use Rattle.model.specs.declared.Call.{Call}
-use Rattle.model.specs.declared.Call.the-variants.{Begin, Write, Erase, Seal, Fork, Delete, Read, Barrier, Compress, FreeList, Estimate}
+use Rattle.model.specs.declared.Call.the-variants.{Begin, Write, Erase, Seal, Fork, Delete, Read, Barrier, Compress, FreeList, Estimate, Retain}
 
 -- how many numbers follow a letter, and the call that they make
 pub data Form : Type 0 where
@@ -15,7 +15,7 @@ pub data Form : Type 0 where
   two : (ℕ → ℕ → Call) → Form
   three : (ℕ → ℕ → ℕ → Call) → Form
 
--- B W E S F D R Y C L Q
+-- B W E S F D R Y C L Q K
 abbrev pub table : List (ℕ × Form)
 table =
     (66, bare Begin)
@@ -29,6 +29,7 @@ table =
     ∷ (67, bare Compress)
     ∷ (76, bare FreeList)
     ∷ (81, one Estimate)
+    ∷ (75, two Retain)
     ∷ []
 
 -- the call that a form makes of numbers: none where they are more or fewer than it takes

@@ -2,7 +2,7 @@
 ghost use mathlib.Core.Path.{_≡_};
 ghost use Prim.Native.Nat.{_≤_, _<_};
 ghost use mathlib.Core.List.{[], _∷_};
-ghost use lib.ListN.{length, getD};
+ghost use lib.ListN.{length};
 ghost use Rattle.script.specs.Letters.{callOf};
 ghost use Rattle.script.specs.Parse.{numbersFrom, counted, opens, store, storeOf, saysOf, saysBy, callLine, parsed};
 use crate::number::Number;
@@ -117,6 +117,7 @@ pub fn two_of(letter: u8, x: u32, y: u32) -> Parsed
     match letter {
         b'E' => Parsed::Asks(Call::Erase(x, y)),
         b'R' => Parsed::Asks(Call::Read(x, y)),
+        b'K' => Parsed::Asks(Call::Retain(x, y)),
         _ => Parsed::No,
     }
 }

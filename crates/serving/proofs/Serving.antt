@@ -1,7 +1,7 @@
 -- What the loop over a part's lines keeps: what is left of the part is the whole of it, and the replies so far stand in the buffer.
 use mathlib.Core.Path.{_≡_, refl, sym, ap, _∙_}
 use mathlib.Core.Bool.{Bool, true, false, cond, _&&_}
-use mathlib.Core.List.{List, [], _++_, append-assoc}
+use mathlib.Core.List.{List, _++_, append-assoc}
 use Prim.Native.Nat.{ℕ, zero, suc, _+_, _-_, _≤_, _<_}
 use native.Mathlib.Omega.{arith}
 use lib.Dec.{ltb}
@@ -85,7 +85,7 @@ no-store-kept s t bytes numbers e a b d =
 
 -- ── the buffer ──
 
--- an answer of at most 4,096 numbers fits where a longest reply does
+-- an answer of at most 4,097 numbers fits where a longest reply does
 pub room : (r : Answer) → Few r → (buffer out : List ℕ) (used : ℕ) → used + longest ≤ length buffer → mostOut ≤ length out → Room buffer used r out
 room (Done n) f buffer out used e h = record { fits = omega arith; gives = omega arith }
 room (Refused n) f buffer out used e h = record { fits = omega arith; gives = omega arith }

@@ -44,7 +44,7 @@ module _ (text : List ℕ) (at : ℕ) (H : Lent) where
   pub one-missing : getD (H .run) 0 0 ≡ 0 →
       (length (H .run) ≡ 6) ⊎
       ((length (H .memory .tables) ≡ 43007) ⊎
-      ((length (H .memory .log) ≡ 65535) ⊎ ((length (H .memory .out) ≡ 4159) ⊎ (length (H .replies) ≡ 49167)))) → hostReply text at H ≡ refused 3
+      ((length (H .memory .log) ≡ 65535) ⊎ ((length (H .memory .out) ≡ 4159) ⊎ (length (H .replies) ≡ 49179)))) → hostReply text at H ≡ refused 3
   one-missing z short =
       hosts-mean text at H .three .1 (
         λ made. absurd (omega (arith, made, z)),
@@ -59,10 +59,10 @@ module _ (text : List ℕ) (at : ℕ) (H : Lent) where
   pub past-2 : hostReply text at H ≡ refused 3 → StoreMade H → Inside (six H)
   past-2 e = let (inside, short) = hosts-mean text at H .three .0 e in inside
 
-  -- the five lengths: seven numbers, 43,008 numbers, 65,536 bytes, 4,160 numbers, 49,168 bytes
+  -- the five lengths: seven numbers, 43,008 numbers, 65,536 bytes, 4,160 numbers, 49,180 bytes
   abbrev Lengths : Type 0
   Lengths = (7 ≤ length (H .run)) × (43008 ≤ length (H .memory .tables)) × (65536 ≤ length (H .memory .log)) × (4160 ≤ length (H .memory .out)) ×
-      (49168 ≤ length (H .replies))
+      (49180 ≤ length (H .replies))
 
   lengths : AllLent H → Lengths
   lengths all = (all .run, all .tables, all .log, all .out, all .replies)

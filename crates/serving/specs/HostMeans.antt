@@ -18,7 +18,7 @@ StoreMade H = 0 < getD (H .run) 0 0
 abbrev pub six : Lent → Geometry
 six H = let n = getD (H .run) in geometryOf (n 1 0) (n 2 0) (n 3 0) (n 4 0) (n 5 0) (n 6 0)
 
--- "enough for every geometry (43,008 numbers, 65,536 bytes, 4,160 numbers), and a buffer of at least 49,168 bytes for replies" (10.7)
+-- "enough for every geometry (43,008 numbers, 65,536 bytes, 4,160 numbers), and a buffer of at least 49,180 bytes for replies" (10.7)
 pub record AllLent (H : Lent) : Type 0 where
   pub run : 7 ≤ length (H .run)
   pub tables : mostTables ≤ length (H .memory .tables)

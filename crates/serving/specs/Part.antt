@@ -24,9 +24,9 @@ pub record Part : Type 0 where
 abbrev pub begun : ℕ → Session → Memory → Part
 begun at s M = record { at = at; replies = []; session = s; memory = M }
 
--- no reply is longer: `+`, at most 4,096 numbers of at most 12 bytes, a line feed
+-- no reply is longer: `+`, at most 4,097 numbers of at most 12 bytes, a line feed
 abbrev pub longest : ℕ
-longest = 49168
+longest = 49180
 
 -- one more line is served
 unfoldable pub servedLine : List ℕ → Part → Part

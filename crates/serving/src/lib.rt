@@ -19,7 +19,7 @@ pub struct Served {
 }
 
 // The bytes that a longest reply takes.
-pub const LONGEST: usize = 49168;
+pub const LONGEST: usize = 49180;
 
 // Serves whole lines of a text from a position on, while a longest reply fits in the buffer; the replies stand at its start, one behind another.
 pub fn serve_part(

@@ -67,9 +67,9 @@ pub record Kept (s : Session) (t bytes numbers : List ℕ) : Type 0 where
   pub inside : 0 < s .made → Inside (s .g)
   pub sound : 0 < s .made → SoundStore (s .g) t bytes
 
--- an answer that gives at most 4,096 numbers
+-- an answer that gives at most 4,097 numbers
 abbrev pub Few : Answer → Type 0
-Few (Done n) = n ≤ 4096
+Few (Done n) = n ≤ 4097
 Few (Refused k) = Unit {0}
 
 -- all that is promised of a line that says p: what it answers and leaves of the memory M

@@ -14,7 +14,11 @@ unfolding made callIn callOf
 returns-2 c = rw (c .match .keys2)
 
 returns-3 : tie.Need-returns-3
-returns-3 c = no-call _ (_ ∷ _ ∷ []) (c .match .rest)
+unfolding made callIn callOf
+returns-3 c = rw (c .match .keys3)
+
+returns-4 : tie.Need-returns-4
+returns-4 c = no-call _ (_ ∷ _ ∷ []) (c .match .rest)
 
 pub two-of-spec : {M : Type 1} → statement M
-two-of-spec = tie.close (tie.spec returns returns-2 returns-3)
+two-of-spec = tie.close (tie.spec returns returns-2 returns-3 returns-4)

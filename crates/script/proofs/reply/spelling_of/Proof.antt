@@ -1,7 +1,7 @@
--- `spelling_of` meets its contract, call by call.
+-- `spelling_of` meets its contract: an arm for each call that names blocks, and one for the others.
 use borrow.Author.Needs.{needs}
 use Rattle.script.specs.ReplyText.{spellingOf}
-use Rattle.script.proofs.Printing.{spelling-none}
+use Rattle.script.proofs.Printing.{spelling-none, spelling-other}
 use Rattle.script.proofs.reply.spelling_of.Statement.{statement}
 use Rattle.script.proofs.reply.spelling_of.Tie as tie
 
@@ -26,24 +26,6 @@ enum-told-4 c = search needs
 enum-told-5 : tie.Need-enum-told-5
 enum-told-5 c = search needs
 
-enum-told-6 : tie.Need-enum-told-6
-enum-told-6 c = search needs
-
-enum-told-7 : tie.Need-enum-told-7
-enum-told-7 c = search needs
-
-enum-told-8 : tie.Need-enum-told-8
-enum-told-8 c = search needs
-
-enum-told-9 : tie.Need-enum-told-9
-enum-told-9 c = search needs
-
-enum-told-10 : tie.Need-enum-told-10
-enum-told-10 c = search needs
-
-enum-told-11 : tie.Need-enum-told-11
-enum-told-11 c = search needs
-
 returns-2 : tie.Need-returns-2
 unfolding spellingOf
 returns-2 c = rw (c .before .before .before .says .given .1, c .enum-told .given .1)
@@ -65,28 +47,7 @@ unfolding spellingOf
 returns-6 c = rw (c .before .before .before .says .given .1, c .enum-told5 .given .1)
 
 returns-7 : tie.Need-returns-7
-unfolding spellingOf
-returns-7 c = rw (c .before .before .before .says .given .1, c .enum-told6 .given .1)
-
-returns-8 : tie.Need-returns-8
-unfolding spellingOf
-returns-8 c = rw (c .before .before .before .says .given .1, c .enum-told7 .given .1)
-
-returns-9 : tie.Need-returns-9
-unfolding spellingOf
-returns-9 c = rw (c .before .before .before .says .given .1, c .enum-told8 .given .1)
-
-returns-10 : tie.Need-returns-10
-unfolding spellingOf
-returns-10 c = rw (c .before .before .before .says .given .1, c .enum-told9 .given .1)
-
-returns-11 : tie.Need-returns-11
-unfolding spellingOf
-returns-11 c = rw (c .before .before .before .says .given .1, c .enum-told10 .given .1)
-
-returns-12 : tie.Need-returns-12
-unfolding spellingOf
-returns-12 c = rw (c .before .before .before .says .given .1, c .enum-told11 .given .1)
+returns-7 c = spelling-other (c .before .before .before .before .args .says) _ (c .before .before .says .given .1) (c .match2 .keys6)
 
 pub spelling-of-spec : {M : Type 1} → statement M
 spelling-of-spec =
@@ -99,20 +60,9 @@ spelling-of-spec =
     enum-told-3
     enum-told-4
     enum-told-5
-    enum-told-6
-    enum-told-7
-    enum-told-8
-    enum-told-9
-    enum-told-10
-    enum-told-11
     returns-2
     returns-3
     returns-4
     returns-5
     returns-6
-    returns-7
-    returns-8
-    returns-9
-    returns-10
-    returns-11
-    returns-12)
+    returns-7)
