@@ -28,8 +28,8 @@
  * Every function returns SOGVECT_DONE (0), or the number of the reason why it refused the call. Where several reasons are true it is the first in the
  * order of docs/RULES.md, 7.1.
  * A done call sets the count to how many numbers its result has; they stand at the start of `out`, and the rest of `out` is as it was.
- * A block that sogvect_write, _erase, _delete or _read names is a pair of numbers in `out`, the block and after it its birth: the number of the record
- * that was open when the block was given. A freed block's birth is the one that it had. The count counts both numbers. No other result has births.
+ * A block that sogvect_write, _erase, _seal, _delete or _read names is a pair of numbers in `out`, the block and after it its birth: the number of the
+ * record that was open when the block was given. A freed block's birth is the one that it had. The count counts both numbers. No other result has births.
  * A refused call changes nothing: tables, log, out and count are as they were.
  *
  * A block that a call frees waits: it is given again, or listed as free, only once a sogvect_barrier or a sogvect_compress was done since. So where the
@@ -50,7 +50,7 @@ extern "C" {
 
 /* Changes whenever the tables or the log of a store mean something else than before. A store that is kept in a file belongs to the layout that it was
  * made with: keep the number beside it. */
-#define SOGVECT_LAYOUT 1
+#define SOGVECT_LAYOUT 2
 
 /* Limits of the six numbers; the least of each but words is 1. */
 #define SOGVECT_ARENAS_MAX 16
@@ -65,6 +65,9 @@ extern "C" {
 /* The last number that a record can have. */
 #define SOGVECT_RECORD_MAX 999999
 
+/* The most sealed records that a window can leave; the least is 1. */
+#define SOGVECT_WINDOW_MAX 62
+
 /* Least lengths of the lent memory; blocks is arenas x per. */
 #define SOGVECT_TABLES_NUMBERS(records, blocks) (2048 + 512 * (size_t)(records) + 4 * (size_t)(blocks))
 #define SOGVECT_LOG_BYTES(words) (8 * (size_t)(words))
@@ -77,7 +80,7 @@ extern "C" {
 
 /* Lengths for a script: the numbers of its run, and the least bytes of its reply buffer, which hold a longest reply. */
 #define SOGVECT_SCRIPT_RUN 7
-#define SOGVECT_SCRIPT_REPLIES_MIN 49168
+#define SOGVECT_SCRIPT_REPLIES_MIN 49180
 
 /* Bytes of a block: a log names a block by its number times this. */
 #define SOGVECT_BLOCK_BYTES 16384
@@ -97,12 +100,13 @@ extern "C" {
 #define SOGVECT_NO_KIND 6        /* the kind is above 2 */
 #define SOGVECT_NO_LOG 7         /* the bytes are no log of a store of these six numbers */
 #define SOGVECT_NO_RECORD 8      /* the record is not in the store */
-#define SOGVECT_WRONG_STATE 9    /* write, erase or seal of a sealed record; fork of an open one */
+#define SOGVECT_WRONG_STATE 9    /* write, erase, seal or retain of a sealed record; fork of an open one */
 #define SOGVECT_FORKED 10        /* delete or estimate of a record with a fork on it */
 #define SOGVECT_TABLE_FULL 11    /* as many records as there can be at one time */
 #define SOGVECT_NO_NUMBER 12     /* the last record number has been given */
 #define SOGVECT_NO_BLOCK 13      /* no free block: each is on a page or waiting for a barrier */
 #define SOGVECT_LOG_FULL 14      /* too few unused log words: sogvect_compress makes room */
+#define SOGVECT_NO_WINDOW 15     /* the window is outside 1 to 62 */
 
 /* The reason of a refusal as an English phrase; of 0, and of a number that no refusal has, it says so. */
 static inline const char *sogvect_reason(uint32_t number) {
@@ -116,12 +120,13 @@ static inline const char *sogvect_reason(uint32_t number) {
     case SOGVECT_NO_KIND: return "the kind is above 2";
     case SOGVECT_NO_LOG: return "the bytes are no log";
     case SOGVECT_NO_RECORD: return "the record is not in the store";
-    case SOGVECT_WRONG_STATE: return "write, erase or seal of a sealed record, or fork of an open one";
+    case SOGVECT_WRONG_STATE: return "write, erase, seal or retain of a sealed record, or fork of an open one";
     case SOGVECT_FORKED: return "delete or estimate of a record with a fork on it";
     case SOGVECT_TABLE_FULL: return "the record table is full";
     case SOGVECT_NO_NUMBER: return "no record number is left";
     case SOGVECT_NO_BLOCK: return "no free block: each is on a page or waiting for a barrier";
     case SOGVECT_LOG_FULL: return "the log is too full: compressing makes room";
+    case SOGVECT_NO_WINDOW: return "the window is outside 1 to 62";
     default: return "no refusal has this number";
     }
 }
@@ -134,11 +139,11 @@ uint32_t sogvect_make(size_t arenas, size_t per, size_t pages, size_t records, s
                       uint32_t *tables, size_t tables_len, const uint8_t *log, size_t log_len, const uint32_t *out, size_t out_len);
 
 /* The call of a letter and three numbers. The letter is the one that scripts have, as its byte; the functions on a store below say what each call does.
- * A call passes over the numbers that it does not take: x is the record, y the page, z the kind.
+ * A call passes over the numbers that it does not take: x is the record, y the page or the window, z the kind.
  *
- *   'B'        sogvect_begin          'S' x    sogvect_seal       'R' x y  sogvect_read         'L'    sogvect_free_list
- *   'W' x y z  sogvect_write          'F' x    sogvect_fork       'Y'      sogvect_barrier      'Q' x  sogvect_estimate
- *   'E' x y    sogvect_erase          'D' x    sogvect_delete     'C'      sogvect_compress
+ *   'B'        sogvect_begin          'S' x    sogvect_seal       'R' x y  sogvect_read         'L'      sogvect_free_list
+ *   'W' x y z  sogvect_write          'F' x    sogvect_fork       'Y'      sogvect_barrier      'Q' x    sogvect_estimate
+ *   'E' x y    sogvect_erase          'D' x    sogvect_delete     'C'      sogvect_compress     'K' x y  sogvect_retain
  *
  * Refusals: 1 (no call has the letter; nothing else is looked at then), and those of the call. */
 uint32_t sogvect_call(size_t arenas, size_t per, size_t pages, size_t records, size_t turn, size_t words,
@@ -259,10 +264,21 @@ static inline uint32_t sogvect_erase(struct sogvect_store *store, uint32_t recor
     return sogvect_call_store(store, 'E', record, page, 0);
 }
 
-/* Seals an open record; a new open record with the same pages follows it in its line. Result: the new record's number.
- * Refusals: 2, 3, 4, 8, 9, 11, 12. */
+/* Seals an open record; a new open record with the same pages follows it in its line. Where the line has a window (sogvect_retain), its oldest sealed
+ * records without a fork are then deleted, one after another, until no more sealed ones are left than the window says, or only forked ones and the
+ * newest. Result: the new record's number; and after it a pair for each freed block, delete by delete: the block and the birth that it had. So the count
+ * becomes 1, and two more for each freed block. 11 is judged before the deletes, and 14 on all of them together.
+ * Refusals: 2, 3, 4, 8, 9, 11, 12, 14. */
 static inline uint32_t sogvect_seal(struct sogvect_store *store, uint32_t record) {
     return sogvect_call_store(store, 'S', record, 0, 0);
+}
+
+/* Sets a window on the line of an open record, or replaces the one that it had: from now on a seal in the line deletes its oldest sealed records until at
+ * most `most` are left, 1 to SOGVECT_WINDOW_MAX. Records with a fork on them count, but stay. The call itself deletes nothing. A new line has no window.
+ * Result: nothing.
+ * Refusals: 2, 3, 4, 15, 8, 9, in this order. */
+static inline uint32_t sogvect_retain(struct sogvect_store *store, uint32_t record, uint32_t most) {
+    return sogvect_call_store(store, 'K', record, most, 0);
 }
 
 /* Forks a sealed record: a new line, whose open record has its pages. Result: the new record's number.

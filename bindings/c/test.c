@@ -80,6 +80,35 @@ static void every_call(void) {
     GIVES(sogvect_free_list(&store), 0, 3, 4, 2);
 }
 
+/* A line with a window: the seal of 2 deletes 1; that of 3 passes over 2, which is forked; once the fork is gone, that of 5 deletes 2 and 3. */
+static void windows(void) {
+    EXPECT(sogvect_make_store(&store) == SOGVECT_DONE);
+    GIVES(sogvect_begin(&store), 1);
+    GIVES(sogvect_write(&store, 1, 0, SOGVECT_DATA), 0, 1);
+    GIVES_NOTHING(sogvect_retain(&store, 1, SOGVECT_WINDOW_MAX));
+    GIVES(sogvect_seal(&store, 1), 2);
+    GIVES_NOTHING(sogvect_retain(&store, 2, 1));
+    GIVES(sogvect_write(&store, 2, 0, SOGVECT_DATA), 1, 2);
+    GIVES(sogvect_seal(&store, 2), 3, 0, 1);
+    GIVES(sogvect_write(&store, 3, 0, SOGVECT_DATA), 2, 3);
+    GIVES(sogvect_fork(&store, 2), 4);
+    GIVES(sogvect_seal(&store, 3), 5);
+    /* 15 comes before 8 and 9 */
+    REFUSES(sogvect_retain(&store, 9, SOGVECT_WINDOW_MAX + 1), SOGVECT_NO_WINDOW);
+    REFUSES(sogvect_retain(&store, 3, 0), SOGVECT_NO_WINDOW);
+    REFUSES(sogvect_retain(&store, 9, 1), SOGVECT_NO_RECORD);
+    REFUSES(sogvect_retain(&store, 3, 1), SOGVECT_WRONG_STATE);
+    REFUSES(sogvect_seal(&store, 5), SOGVECT_TABLE_FULL);
+    GIVES_NOTHING(sogvect_delete(&store, 4));
+    GIVES(sogvect_write(&store, 5, 0, SOGVECT_DATA), 3, 5);
+    /* the two deletes free a block each, and the log has one word left */
+    while (SOGVECT_LOG_USED(&store) < SOGVECT_LOG_BYTES(20 - 1))
+        GIVES_NOTHING(sogvect_barrier(&store));
+    REFUSES(sogvect_seal(&store, 5), SOGVECT_LOG_FULL);
+    GIVES(sogvect_compress(&store), 4);
+    GIVES(sogvect_seal(&store, 5), 6, 1, 2, 2, 3);
+}
+
 static void refusals(void) {
     uint32_t kept[sizeof tables / sizeof *tables];
     struct sogvect_store sound = store;
@@ -106,7 +135,7 @@ static void refusals(void) {
 
 /* A letter that no call has is refused by 1, whatever else is wrong. */
 static void letters(void) {
-    static const char calls[] = "BWESFDRYCLQ";
+    static const char calls[] = "BWESFDRYCLQK";
     uint32_t kept[sizeof tables / sizeof *tables], letter;
     struct sogvect_store sound = store;
     memcpy(kept, tables, sizeof tables);
@@ -149,12 +178,12 @@ static void looks(void) {
 /* Each refusal has a reason of its own. */
 static void reasons(void) {
     uint32_t i, j;
-    for (i = SOGVECT_DONE; i <= SOGVECT_LOG_FULL + 1; i++) {
+    for (i = SOGVECT_DONE; i <= SOGVECT_NO_WINDOW + 1; i++) {
         for (j = SOGVECT_DONE; j < i; j++)
             EXPECT(strcmp(sogvect_reason(i), sogvect_reason(j)) != 0);
     }
     EXPECT(strcmp(sogvect_reason(SOGVECT_NO_RECORD), "the record is not in the store") == 0);
-    EXPECT(sogvect_reason(UINT32_MAX) == sogvect_reason(SOGVECT_LOG_FULL + 1));
+    EXPECT(sogvect_reason(UINT32_MAX) == sogvect_reason(SOGVECT_NO_WINDOW + 1));
 }
 
 static void logs(void) {
@@ -213,6 +242,7 @@ int main(void) {
     reasons();
     logs();
     script();
+    windows();
     puts("ok");
     return 0;
 }

@@ -7,7 +7,7 @@ use std::str::FromStr;
 /// The type and all that goes by letters and numbers, from one table with a row for each call: its letter, its name, its numbers.
 macro_rules! calls {
     ($($(#[$doc:meta])* $letter:literal $name:ident $(($($number:ident: $type:ty),+))?;)*) => {
-        /// A call and its numbers. Records, pages and kinds may be any numbers: a store refuses those that it does not have.
+        /// A call and its numbers. Records, pages, kinds and windows may be any numbers: a store refuses those that it does not have.
         ///
         /// As text it is a line of a script: its letter and its numbers, `W 1 0 2`.
         #[derive(Clone, Copy, Debug, PartialEq, Eq, Hash)]
@@ -17,7 +17,7 @@ macro_rules! calls {
 
         impl Call {
             /// The letters that a script has for the calls.
-            pub const LETTERS: [u8; 11] = [$($letter),*];
+            pub const LETTERS: [u8; 12] = [$($letter),*];
 
             /// The call of a letter; of the three numbers those that it does not take are passed over.
             pub const fn of(letter: u8, numbers: [u32; 3]) -> Option<Call> {
@@ -44,7 +44,8 @@ calls! {
     b'W' Write(record: u32, page: u32, kind: u32);
     /// E record page: a page of an open record becomes empty. The result is the block that was there and its birth, if it was freed.
     b'E' Erase(record: u32, page: u32);
-    /// S record: the record is sealed, an open one with the same pages follows it. The result is its number.
+    /// S record: the record is sealed, an open one with the same pages follows it; in a line with a window the oldest sealed records are then deleted. The
+    /// result is the open record's number, and each freed block and its birth.
     b'S' Seal(record: u32);
     /// F record: a new line forks from a sealed record. The result is the number of its open record.
     b'F' Fork(record: u32);
@@ -60,6 +61,9 @@ calls! {
     b'L' FreeList;
     /// Q record: what the delete of the record would do. The result is the numbers of blocks, log words and shards.
     b'Q' Estimate(record: u32);
+    /// K record most: a window on the line of an open record: from now on a seal there deletes the oldest sealed records without a fork until so many are
+    /// left. There is no result.
+    b'K' Retain(record: u32, most: u32);
 }
 
 impl Call {
@@ -78,9 +82,46 @@ impl Call {
         self.spelled().numbers
     }
 
-    /// Whether the numbers of a result are blocks, each with its birth after it.
-    pub const fn gives_blocks(self) -> bool {
-        matches!(self, Call::Write(..) | Call::Erase(..) | Call::Delete(_) | Call::Read(..))
+    /// How the numbers of a result are spelled.
+    pub const fn spelling(self) -> Spelling {
+        match self {
+            Call::Write(..) | Call::Erase(..) | Call::Delete(_) | Call::Read(..) => Spelling::Blocks,
+            Call::Seal(_) => Spelling::NumberAndBlocks,
+            _ => Spelling::Numbers,
+        }
+    }
+}
+
+/// Which numbers of a result are blocks. A block has its birth after it, and as text a colon between the two.
+#[derive(Clone, Copy, Debug, PartialEq, Eq, Hash)]
+pub enum Spelling {
+    /// None of them.
+    Numbers,
+    /// All of them: blocks, each with its birth.
+    Blocks,
+    /// All but the first, which stands by itself.
+    NumberAndBlocks,
+}
+
+impl Spelling {
+    /// How many numbers stand before the blocks; of a result without blocks, all of `length`.
+    const fn plain(self, length: usize) -> usize {
+        match self {
+            Spelling::Numbers => length,
+            Spelling::Blocks => 0,
+            Spelling::NumberAndBlocks => 1,
+        }
+    }
+
+    /// The blocks of a result, each with its birth.
+    pub fn blocks(self, numbers: &[u32]) -> impl Iterator<Item = (u32, u32)> + '_ {
+        numbers[self.plain(numbers.len())..].chunks_exact(2).map(|pair| (pair[0], pair[1]))
+    }
+
+    /// The numbers of a result as text, a space before each, but a colon before a birth.
+    pub fn text(self, numbers: &[u32]) -> String {
+        let plain = numbers[..self.plain(numbers.len())].iter().map(|n| format!(" {n}"));
+        plain.chain(self.blocks(numbers).map(|(block, birth)| format!(" {block}:{birth}"))).collect()
     }
 }
 
@@ -163,7 +204,7 @@ mod tests {
             assert_eq!(call.map(Call::letter), Call::LETTERS.contains(&letter).then_some(letter));
         }
         let numbers = Call::LETTERS.map(|letter| Call::of(letter, [1, 20, 300]).unwrap().takes());
-        assert_eq!(numbers, [0, 3, 2, 1, 1, 1, 2, 0, 0, 0, 1]);
+        assert_eq!(numbers, [0, 3, 2, 1, 1, 1, 2, 0, 0, 0, 1, 2]);
     }
 
     #[test]
@@ -175,6 +216,20 @@ mod tests {
     }
 
     #[test]
+    fn numbers_and_blocks() {
+        let spelled = |letter: u8, numbers: &[u32]| Call::of(letter, [0; 3]).unwrap().spelling().text(numbers);
+        for letter in *b"WEDR" {
+            assert_eq!((spelled(letter, &[]), spelled(letter, &[3, 2, 5, 4])), (String::new(), " 3:2 5:4".into()));
+        }
+        assert_eq!((spelled(b'S', &[7]), spelled(b'S', &[7, 3, 2, 5, 4])), (" 7".into(), " 7 3:2 5:4".into()));
+        for letter in *b"BFYCLQK" {
+            assert_eq!((spelled(letter, &[]), spelled(letter, &[3, 2, 5])), (String::new(), " 3 2 5".into()));
+        }
+        assert!(Spelling::NumberAndBlocks.blocks(&[7, 3, 2, 5, 4]).eq([(3, 2), (5, 4)]));
+        assert!(Spelling::Numbers.blocks(&[3, 2, 5, 4]).eq([]));
+    }
+
+    #[test]
     fn a_line_and_its_call() {
         for numbers in [[0, 0, 0], [1, 20, 300], [9_999_999, 0, 10]] {
             for call in Call::LETTERS.map(|letter| Call::of(letter, numbers).unwrap()) {
@@ -183,6 +238,7 @@ mod tests {
         }
         assert_eq!(Call::Write(1, 0, 2).to_string(), "W 1 0 2");
         assert_eq!(Call::Begin.to_string(), "B");
+        assert_eq!(Call::Retain(1, 62).to_string(), "K 1 62");
         assert_eq!(Call::Seal(u32::MAX).to_string(), "S 4294967295");
     }
 
@@ -190,7 +246,7 @@ mod tests {
     fn lines_that_are_no_calls() {
         let lines =
             ["", " ", "B ", " B", "b", "BB", "B 1", "S", "S ", "S 01", "S 00", "S +1", "S -1", "S 1 ", "S  1", "S 12345678", "W 1 0", "W 1 0 0 0"];
-        for line in lines.into_iter().chain(["store", "S\t1", "S 1\n", "S ١", "É 1", "T 3"]) {
+        for line in lines.into_iter().chain(["store", "S\t1", "S 1\n", "S ١", "É 1", "T 3", "K 1", "K 1 01", "K 1 2 3"]) {
             assert_eq!(line.parse::<Call>(), Err(NoCall), "{line:?}");
         }
     }

@@ -14,7 +14,7 @@ fn main() -> Result<(), Refusal> {
     let first = store.begin()?;
     store.write(first, 0, Kind::Data)?;
     store.write(first, 1, Kind::Leaf)?;
-    let next = store.seal(first)?;
+    let next = store.seal(first)?.record;
     let other = store.fork(first)?;
     store.write(other, 0, Kind::Data)?;
     store.erase(next, 1)?;

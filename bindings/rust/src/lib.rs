@@ -19,13 +19,15 @@
 //! let first = store.begin()?;
 //! let written = store.write(first, 0, Kind::Data)?;
 //! assert_eq!(written, Written { block: Block { number: 0, birth: first }, freed: None });
-//! let second = store.seal(first)?;
+//! let second = store.seal(first)?.record;
 //! store.write(second, 0, Kind::Data)?;
 //! assert_eq!(store.read(first, 0)?, Some(Block { number: 0, birth: first }));
 //! assert_eq!(store.read(second, 0)?, Some(Block { number: 1, birth: second }));
 //! assert_eq!(store.call(Call::FreeList)?, [2, 2]);
 //! # Ok::<(), sogvect::Refusal>(())
 //! ```
+//!
+//! A line can have a window ([`Store::retain`]): then a seal deletes the line's oldest records itself.
 //!
 //! A whole script of calls as text, replies as text, is served by [`Script`].
 #![warn(missing_docs)]
@@ -44,13 +46,13 @@ mod script;
 mod store;
 
 pub use block::{Block, Record};
-pub use calls::{Call, NoCall};
+pub use calls::{Call, NoCall, Spelling};
 pub use refusal::Refusal;
 pub use script::{script_part, Part, Script, SCRIPT_LOG, SCRIPT_OUT, SCRIPT_REPLIES, SCRIPT_RUN, SCRIPT_TABLES};
-pub use store::{Estimate, Kind, Memory, Space, Store, Written};
+pub use store::{Estimate, Kind, Memory, Sealed, Space, Store, Written};
 
 /// Changes whenever the tables or the log of a store mean something else than before: keep it beside a store that is kept in a file.
-pub const LAYOUT: u32 = 1;
+pub const LAYOUT: u32 = 2;
 
 /// The six numbers that a store is made from. Any numbers can be given; a call refuses those outside the limits with [`Refusal::OUTSIDE_LIMITS`].
 #[derive(Clone, Copy, Debug, PartialEq, Eq, Hash)]

@@ -24,7 +24,7 @@ impl Refusal {
     pub const NO_LOG: Refusal = Refusal(7);
     /// 8: a record that is not in the store.
     pub const NO_RECORD: Refusal = Refusal(8);
-    /// 9: a write, an erase or a seal of a sealed record, or a fork of an open one.
+    /// 9: a write, an erase, a seal or a retain of a sealed record, or a fork of an open one.
     pub const WRONG_STATE: Refusal = Refusal(9);
     /// 10: a delete, or the estimate of one, of a record with a fork on it.
     pub const FORKED: Refusal = Refusal(10);
@@ -36,6 +36,8 @@ impl Refusal {
     pub const NO_BLOCK: Refusal = Refusal(13);
     /// 14: too few unused log words; [`crate::Store::compress`] makes room.
     pub const LOG_FULL: Refusal = Refusal(14);
+    /// 15: a window outside 1 to 62.
+    pub const NO_WINDOW: Refusal = Refusal(15);
 
     /// The number, as include/sogvect.h has it.
     pub const fn number(self) -> u32 {
@@ -62,12 +64,13 @@ impl fmt::Display for Refusal {
             6 => "kind above 2",
             7 => "bytes that are no log",
             8 => "the record is not in the store",
-            9 => "write, erase or seal of a sealed record, or fork of an open one",
+            9 => "write, erase, seal or retain of a sealed record, or fork of an open one",
             10 => "delete or estimate of a record with a fork on it",
             11 => "the record table is full",
             12 => "no record number is left",
             13 => "no free block: each is on a page or waiting for a barrier",
             14 => "the log is too full: compressing makes room",
+            15 => "window outside 1 to 62",
             number => return write!(f, "refused by {number}"),
         };
         f.write_str(reason)

@@ -11,7 +11,7 @@ pub const SCRIPT_LOG: usize = 65_536;
 /// The least length of a script's result buffer.
 pub const SCRIPT_OUT: usize = 4_160;
 /// The least length of a script's reply buffer, which is that of a longest reply: with it each part is one line, with 65,536 it is many.
-pub const SCRIPT_REPLIES: usize = 49_168;
+pub const SCRIPT_REPLIES: usize = 49_180;
 
 /// A part of a script that was served.
 #[derive(Clone, Copy, Debug, PartialEq, Eq, Hash)]

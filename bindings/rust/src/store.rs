@@ -57,6 +57,15 @@ pub struct Written {
     pub freed: Option<Block>,
 }
 
+/// What a seal opened, and what the window of its line freed.
+#[derive(Clone, Debug, PartialEq, Eq, Hash)]
+pub struct Sealed {
+    /// The open record that follows the sealed one.
+    pub record: Record,
+    /// The freed blocks, in the order in which they were freed; none in a line without a window.
+    pub freed: Vec<Block>,
+}
+
 /// What a delete would do.
 #[derive(Clone, Copy, Debug, PartialEq, Eq, Hash)]
 pub struct Estimate {
@@ -104,7 +113,8 @@ impl<'a> Store<'a> {
         used(self.memory.tables, self.memory.log)
     }
 
-    /// Makes a call, and gives the result's numbers, which stand at the start of the result buffer. A block is two numbers, the block and its birth.
+    /// Makes a call, and gives the result's numbers, which stand at the start of the result buffer. A block is two numbers, the block and its birth;
+    /// [`Call::spelling`] says which numbers are blocks.
     ///
     /// # Errors
     ///
@@ -193,13 +203,26 @@ impl<'a> Store<'a> {
         Ok(self.call(Call::Erase(record.0, page))?.get(..2).map(Block::of))
     }
 
-    /// Seals an open record; an open one with the same pages follows it in its line. Gives the new record.
+    /// Seals an open record; an open one with the same pages follows it in its line. Where the line has a window ([`Store::retain`]), its oldest sealed
+    /// records without a fork are then deleted, one after another, until no more sealed ones are left than the window says, or only forked ones and the
+    /// newest. Gives the new record and the freed blocks.
     ///
     /// # Errors
     ///
-    /// Refused by 2, 3, 4, 8, 9, 11 or 12; see [`Refusal`].
-    pub fn seal(&mut self, record: Record) -> Result<Record, Refusal> {
-        Ok(Record(self.call(Call::Seal(record.0))?[0]))
+    /// Refused by 2, 3, 4, 8, 9, 11, 12 or 14; see [`Refusal`]. 11 is judged before the deletes, and 14 on all of them together.
+    pub fn seal(&mut self, record: Record) -> Result<Sealed, Refusal> {
+        let numbers = self.call(Call::Seal(record.0))?;
+        Ok(Sealed { record: Record(numbers[0]), freed: numbers[1..].chunks_exact(2).map(Block::of).collect() })
+    }
+
+    /// Sets a window on the line of an open record, or replaces the one that it had: from now on a seal in the line deletes its oldest sealed records until
+    /// at most so many are left, 1 to 62. Records with a fork on them count, but stay. The call itself deletes nothing. A new line has no window.
+    ///
+    /// # Errors
+    ///
+    /// Refused by 2, 3, 4, 15, 8 or 9, in this order; see [`Refusal`].
+    pub fn retain(&mut self, record: Record, most: u32) -> Result<(), Refusal> {
+        self.call(Call::Retain(record.0, most)).map(|_| ())
     }
 
     /// Forks a sealed record: a new line, whose open record has its pages. Gives the new record.

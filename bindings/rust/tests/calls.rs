@@ -5,7 +5,7 @@ use common::{
 };
 use reference::generate;
 use reference::script::{parse, Line};
-use sogvect::{raw, Block, Call, Estimate, Geometry, Kind, Record, Refusal, Space, Store, Written};
+use sogvect::{raw, Block, Call, Estimate, Geometry, Kind, Record, Refusal, Sealed, Space, Store, Written};
 
 const fn block(number: u32, birth: u32) -> Block {
     Block { number, birth: Record(birth) }
@@ -14,6 +14,11 @@ const fn block(number: u32, birth: u32) -> Block {
 /// A write that frees nothing.
 const fn given(number: u32, birth: u32) -> Written {
     Written { block: block(number, birth), freed: None }
+}
+
+/// A seal that frees nothing.
+fn sealed(number: u32) -> Sealed {
+    Sealed { record: Record(number), freed: vec![] }
 }
 
 /// The listing (section 11 of the rules), with typed results.
@@ -25,7 +30,7 @@ fn listing() {
     let mut s = m.store(g);
     assert_eq!(s.begin(), Ok(Record(1)));
     assert_eq!(s.write(Record(1), 0, Kind::Data), Ok(given(0, 1)));
-    assert_eq!(s.seal(Record(1)), Ok(Record(2)));
+    assert_eq!(s.seal(Record(1)), Ok(sealed(2)));
     assert_eq!(s.write(Record(2), 0, Kind::Data), Ok(given(1, 2)));
     assert_eq!(s.write(Record(2), 0, Kind::Data), Ok(Written { block: block(2, 2), freed: Some(block(1, 2)) }));
     assert_eq!(s.fork(Record(1)), Ok(Record(3)));
@@ -56,10 +61,10 @@ fn births() {
     let mut s = m.store(g);
     assert_eq!(s.begin(), Ok(Record(1)));
     assert_eq!(s.write(Record(1), 0, Kind::Data), Ok(given(0, 1)));
-    assert_eq!(s.seal(Record(1)), Ok(Record(2)));
+    assert_eq!(s.seal(Record(1)), Ok(sealed(2)));
     assert_eq!(s.write(Record(2), 1, Kind::Data), Ok(given(1, 2)));
     assert_eq!(s.write(Record(2), 2, Kind::Data), Ok(given(2, 2)));
-    assert_eq!(s.seal(Record(2)), Ok(Record(3)));
+    assert_eq!(s.seal(Record(2)), Ok(sealed(3)));
     assert_eq!(s.delete(Record(2)), Ok(vec![]));
     assert_eq!(s.read(Record(3), 0), Ok(Some(block(0, 1))));
     assert_eq!(s.read(Record(3), 1), Ok(Some(block(1, 2))));
@@ -70,12 +75,6 @@ fn births() {
     assert_eq!(s.delete(Record(1)), Ok(vec![block(0, 1)]));
     assert_eq!(s.delete(Record(3)), Ok(vec![block(3, 3), block(4, 3)]));
     assert_eq!(block(2047, 999_999).to_string(), "2047:999999");
-}
-
-/// The numbers of a result as text; of blocks each second number is a birth.
-fn spelled(numbers: &[u32], are_blocks: bool) -> String {
-    let separator = |i: usize| if are_blocks && i % 2 == 1 { ':' } else { ' ' };
-    numbers.iter().enumerate().map(|(i, n)| format!("{}{n}", separator(i))).collect()
 }
 
 /// A stored script by the typed functions: each reply is the stored one.
@@ -94,7 +93,7 @@ fn run(script: &Stored) {
             (Some(Line::Call(_)), None) => Err(4),
             (Some(Line::Call(call)), Some(g)) => {
                 let given = numbers(&mut space.store(g), call).map_err(Refusal::number);
-                given.map(|numbers| spelled(&numbers, call.gives_blocks()))
+                given.map(|numbers| call.spelling().text(&numbers))
             }
         };
         let reply = reply.map_or_else(|number| format!("- {number}"), |result| format!("+{result}"));
@@ -170,6 +169,50 @@ fn estimates() {
     }
 }
 
+/// A window: a seal gives the new number and then what the deletes of the oldest records free, and passes over a forked one; it is refused by 14 where
+/// all of them write more words than are left, and changes nothing then. Record 2 is forked by 5, and the window of the line is handed on.
+#[test]
+fn windows() {
+    let g = Geometry { arenas: 1, per: 8, pages: 2, records: 6, turn: 8, words: 18 };
+    let mut m = made(g);
+    let mut s = m.store(g);
+    assert_eq!(s.begin(), Ok(Record(1)));
+    assert_eq!(s.retain(Record(1), 62), Ok(()));
+    for n in 1..4 {
+        assert_eq!(s.write(Record(n), 0, Kind::Data), Ok(given(n - 1, n)));
+        assert_eq!(s.seal(Record(n)), Ok(sealed(n + 1)));
+    }
+    assert_eq!(s.write(Record(4), 0, Kind::Data), Ok(given(3, 4)));
+    assert_eq!(s.fork(Record(2)), Ok(Record(5)));
+    assert_eq!(s.retain(Record(5), 1), Ok(()));
+    assert_eq!(s.retain(Record(4), 2), Ok(()));
+    // the windows stand with the open records, in slots 3 and 4; the others have what the seals left
+    assert_eq!(m.tables[576..582], [62, 62, 62, 2, 1, 0]);
+    for (n, most, number) in [(9, 0, 15), (9, 63, 15), (1, 0, 15), (1, 63, 15), (4, 0, 15), (4, 63, 15), (9, 1, 8), (1, 1, 9), (3, 62, 9)] {
+        refused(&mut m, g, Call::Retain(n, most), number);
+    }
+    while m.words().len() < 17 {
+        m.store(g).barrier().unwrap();
+    }
+    // 1 and 3 are to go, each frees a block
+    refused(&mut m, g, Call::Seal(4), 14);
+    assert_eq!(m.store(g).compress(), Ok(3));
+    let mut s = m.store(g);
+    assert_eq!(s.seal(Record(4)), Ok(Sealed { record: Record(6), freed: vec![block(0, 1), block(2, 3)] }));
+    assert_eq!(s.read(Record(1), 0), Err(Refusal::NO_RECORD));
+    assert_eq!(s.read(Record(2), 0), Ok(Some(block(1, 2))));
+    assert_eq!(s.read(Record(3), 0), Err(Refusal::NO_RECORD));
+    assert_eq!(m.words()[3..], [0x2, 0x8002]);
+    assert_eq!(m.tables[576 + 5], 2);
+    // 2 counts: with one of its own to go, 4, the next seal leaves 2 and 6
+    assert_eq!(m.store(g).seal(Record(6)), Ok(sealed(7)));
+    assert_eq!(m.store(g).read(Record(4), 0), Err(Refusal::NO_RECORD));
+    // a full table, though the window would make room
+    assert_eq!(m.store(g).begin(), Ok(Record(8)));
+    assert_eq!(m.store(g).begin(), Ok(Record(9)));
+    refused(&mut m, g, Call::Seal(7), 11);
+}
+
 /// The six numbers reach the store in their order: the header has them, and any two swapped are no longer those of the store.
 #[test]
 fn six_numbers_in_order() {
@@ -210,6 +253,7 @@ fn own_numbers_whole() {
             Call::Delete(4 + high),
             Call::Read(1 + high, 0),
             Call::Estimate(4 + high),
+            Call::Retain(4 + high, 2),
         ] {
             refused(&mut m, SMALL, call, 8);
         }
@@ -217,6 +261,7 @@ fn own_numbers_whole() {
             refused(&mut m, SMALL, call, 5);
         }
         refused(&mut m, SMALL, Call::Write(4, 2, 1 + high), 6);
+        refused(&mut m, SMALL, Call::Retain(4, 2 + high), 15);
     }
     refused(&mut m, SMALL, Call::Write(2, 4, 1), 9);
     refused(&mut m, SMALL, Call::Read(3, 0), 8);
@@ -273,6 +318,7 @@ fn count_and_buffer() {
         Call::Compress,
         Call::FreeList,
         Call::Estimate(4),
+        Call::Retain(4, 1),
     ] {
         let (mut m, mut other) = (small(), small());
         m.out.fill(MARKS);
@@ -322,6 +368,7 @@ fn refusals_by_state() {
         (Call::Write(1, 0, 0), 9),
         (Call::Erase(2, 0), 9),
         (Call::Seal(1), 9),
+        (Call::Retain(1, 1), 9),
         (Call::Fork(4), 9),
         (Call::Delete(1), 10),
         (Call::Estimate(1), 10),
@@ -329,6 +376,9 @@ fn refusals_by_state() {
         (Call::Write(4, 0, 9), 6),
         (Call::Write(9, 0, 0), 8),
         (Call::Estimate(9), 8),
+        (Call::Retain(9, 62), 8),
+        (Call::Retain(9, 63), 15),
+        (Call::Retain(1, 0), 15),
     ] {
         refused(&mut m, SMALL, call, number);
     }
@@ -481,8 +531,9 @@ fn sentences() {
         Refusal::NO_NUMBER,
         Refusal::NO_BLOCK,
         Refusal::LOG_FULL,
+        Refusal::NO_WINDOW,
     ];
-    assert!(all.iter().map(|r| r.number()).eq(1..=14));
+    assert!(all.iter().map(|r| r.number()).eq(1..=15));
     for (i, r) in all.iter().enumerate() {
         assert!(!r.to_string().starts_with("refused"), "{}", r.number());
         assert!(all[..i].iter().all(|other| other.to_string() != r.to_string()), "{}", r.number());

@@ -11,7 +11,8 @@ use reference::{generate, script};
 use sogvect::{log_read, Call, Geometry, Refusal, Space};
 
 /// Scripts that the gate runs and whose logs are cut beside those made from seeds.
-const CUT: [&str; 8] = ["waiting", "forks", "compress", "smalllog", "refusals", "table", "mix", "shards"];
+const CUT: [&str; 11] =
+    ["waiting", "forks", "compress", "smalllog", "refusals", "table", "macros", "shards", "window", "edge-o5-14", "edge-o5-several"];
 const SEEDS: u64 = 60;
 
 fn geometry_of(g: &store::Geometry) -> Geometry {

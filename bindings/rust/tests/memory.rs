@@ -82,7 +82,7 @@ fn spare(at: usize) -> bool {
     match at {
         0..=63 => at != WAITING && (10..16).contains(&at) || at >= 16 + SMALL.arenas,
         64..=127 => false,
-        192..=511 => at % 64 >= SMALL.records,
+        192..=511 | 576..=639 => at % 64 >= SMALL.records,
         128..=2047 => true,
         // rows of pages and of deadlists; a deadlist has no more blocks than a record has pages
         _ if at < births => at % 256 >= SMALL.pages,
@@ -199,7 +199,7 @@ fn random_damage() {
             let at = if r.below(4) == 0 { any } else { named[r.below(named.len() as u64) as usize] };
             m.tables[at] = r.below(8) as u32;
         }
-        let call = every_call(1 + r.below(5) as u32, r.below(5) as u32)[r.below(11) as usize];
+        let call = every_call(1 + r.below(5) as u32, r.below(5) as u32)[r.below(12) as usize];
         let before = m.clone();
         match numbers(&mut m.store(SMALL), call) {
             Err(_) => {

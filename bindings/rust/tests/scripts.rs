@@ -133,6 +133,19 @@ fn births_of_any_length() {
     }
 }
 
+/// What a window frees stands after the new number, however long the numbers are.
+#[test]
+fn windows_with_numbers_of_any_length() {
+    for first in [2, 8, 9, 98, 99, 998, 999, 9_998, 9_999, 99_998, 99_999, 999_997] {
+        let (mut lent, second, third) = (begun(), first + 1, first + 2);
+        lent.tables[6] = first - 1;
+        let text = format!("B\nW {first} 1 0\nK {first} 1\nS {first}\nE {second} 1\nS {second}\nR {first} 1\n");
+        let said = format!("+ {first}\n+ 1:{first}\n+\n+ {second}\n+\n+ {third} 1:{first}\n- 8\n");
+        let part = lent.part(text.as_bytes(), 0).unwrap();
+        assert_eq!(String::from_utf8_lossy(&lent.replies[..part.count]), said);
+    }
+}
+
 #[test]
 fn nothing_is_served_after_the_end() {
     let mut lent = begun();

@@ -56,7 +56,7 @@ impl Tested for Space {
 }
 
 /// Each call once, on a record and a page.
-pub fn every_call(n: u32, page: u32) -> [Call; 11] {
+pub fn every_call(n: u32, page: u32) -> [Call; 12] {
     Call::LETTERS.map(|letter| Call::of(letter, [n, page, 1]).expect("the letter of a call"))
 }
 
@@ -77,7 +77,10 @@ pub fn numbers(store: &mut Store<'_>, call: Call) -> Result<Vec<u32>, Refusal> {
             pairs([w.block].into_iter().chain(w.freed))
         }
         Call::Erase(n, page) => pairs(store.erase(Record(n), page)?),
-        Call::Seal(n) => vec![store.seal(Record(n))?.0],
+        Call::Seal(n) => {
+            let s = store.seal(Record(n))?;
+            [vec![s.record.0], pairs(s.freed)].concat()
+        }
         Call::Fork(n) => vec![store.fork(Record(n))?.0],
         Call::Delete(n) => pairs(store.delete(Record(n))?),
         Call::Read(n, page) => pairs(store.read(Record(n), page)?),
@@ -88,6 +91,7 @@ pub fn numbers(store: &mut Store<'_>, call: Call) -> Result<Vec<u32>, Refusal> {
             let e = store.estimate(Record(n))?;
             vec![e.blocks, e.words, e.shards]
         }
+        Call::Retain(n, most) => store.retain(Record(n), most).map(|()| vec![])?,
     })
 }
 
@@ -137,7 +141,7 @@ pub fn refused(m: &mut Space, g: Geometry, call: Call, number: u32) {
 pub const SMALL: Geometry = Geometry { arenas: 2, per: 3, pages: 5, records: 6, turn: 7, words: 20 };
 
 /// A small store with a fork, a delete, deadlists and free blocks: records 1 (sealed, forked), 2 (sealed), 4 (open, after 2), 5 (open, fork of 1).
-/// Block 4 was freed after the last barrier, so that it waits.
+/// Block 4 was freed after the last barrier, so that it waits. The line of 4 has a window of 2: its seal deletes 2.
 pub fn small() -> Space {
     let mut m = made(SMALL);
     let s = &mut m.store(SMALL);
@@ -157,6 +161,7 @@ pub fn small() -> Space {
         Call::Erase(4, 1),
         Call::Fork(1),
         Call::Erase(5, 4),
+        Call::Retain(4, 2),
     ] {
         numbers(s, call).unwrap_or_else(|e| panic!("{call:?}: {e}"));
     }
