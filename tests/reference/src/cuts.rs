@@ -69,14 +69,14 @@ impl Followed {
             self.held.clear();
             return;
         };
-        let mut blocks = given.iter().step_by(2).copied();
+        let mut blocks = c.spelling().blocks(given).map(|(b, _)| b);
         if let Call::Write(..) = c {
             let b = blocks.next().expect("a write gives a block");
             let (_, held) = self.now().barriers.last().expect("a beginning");
             assert!(!held.contains(&b), "block {b}, held at the last barrier, is given to a write");
             assert!(self.held.insert(b), "block {b} is given while it is held");
         }
-        if let Call::Write(..) | Call::Erase(..) | Call::Delete(_) = c {
+        if let Call::Write(..) | Call::Erase(..) | Call::Seal(_) | Call::Delete(_) = c {
             blocks.for_each(|b| assert!(self.held.remove(&b), "block {b} is freed while it is not held"));
         }
     }

@@ -1,7 +1,7 @@
 //! Calls on damaged memory: stores, damage done to their memory, one call each time. The replies and a sum over what accepted calls leave are
 //! printed. `answer` makes a call: this implementation's makes the prediction, the proved library's must print the same.
 use crate::layout::{birth_at, list_at, log_needed, pages_at, result_needed, tables_needed, wait_at, Memory};
-use crate::layout::{BASE, BEFORE, FREE, LENGTH, MARKS, NUMBER, OPEN, WAITING};
+use crate::layout::{BASE, BEFORE, FREE, LENGTH, MARKS, NUMBER, OPEN, WAITING, WINDOW};
 use crate::store::{Geometry, Reply};
 use calls::Call;
 use std::fmt::Write;
@@ -11,6 +11,9 @@ pub trait Answers {
     fn make(&mut self, six: &[u64; 6], memory: &mut Memory);
     fn call(&mut self, six: &[u64; 6], memory: &mut Memory, lent: [usize; 3], c: Call) -> Reply;
 }
+
+/// What a record has a number for, beside its rows.
+const COLUMNS: [usize; 6] = [NUMBER, OPEN, BEFORE, BASE, LENGTH, WINDOW];
 
 const TABLES: usize = 6400;
 const LOG: usize = 768;
@@ -85,7 +88,7 @@ struct Subject {
     asks: Vec<Call>,
 }
 
-/// A digit, or for `?` a number that no store has.
+/// A digit, or for `?` a number that no store has; `n` is 62 and `o` 63, since they come so far after 0.
 fn digit(b: u8) -> u32 {
     if b == b'?' {
         u32::MAX
@@ -146,7 +149,7 @@ impl Subject {
     fn named(&self) -> Vec<usize> {
         let (slots, pages) = (self.records() + 1, self.six[2] as usize + 1);
         let mut at: Vec<usize> = (0..MARKS + self.six[0] as usize + 1).chain(FREE..FREE + 64).collect();
-        at.extend([NUMBER, OPEN, BEFORE, BASE, LENGTH].into_iter().flat_map(|column| column..column + slots));
+        at.extend(COLUMNS.into_iter().flat_map(|column| column..column + slots));
         at.extend((0..self.records()).flat_map(|s| pages_at(s)..pages_at(s) + pages));
         at.extend((0..self.records()).flat_map(|s| list_at(&self.g, s)..list_at(&self.g, s) + pages));
         at.extend(birth_at(&self.g, 0)..self.lent[0]);
@@ -250,7 +253,7 @@ impl Subject {
     fn slots(&self, report: &mut Report) {
         for (s, t) in [(0, 1), (0, self.records() - 1), (self.records() - 2, self.records() - 1)] {
             let mut m = self.sound.clone();
-            for column in [NUMBER, OPEN, BEFORE, BASE, LENGTH] {
+            for column in COLUMNS {
                 m.tables.swap(column + s, column + t);
             }
             for i in 0..256 {
@@ -362,10 +365,32 @@ impl Subject {
         }
     }
 
+    /// The window of each slot becomes each number: the least that is too large is 63. Only that of an open record means anything; then all others at
+    /// once.
+    fn windows(&self, report: &mut Report) {
+        let is_open = |s: usize| self.sound.tables[NUMBER + s] > 0 && self.sound.tables[OPEN + s] > 0;
+        let mut others = self.sound.clone();
+        for s in 0..64 {
+            for (k, window) in [0, 1, 2, 3, 61, 62, 63, 64, 1 << 31, u32::MAX].into_iter().enumerate() {
+                let mut m = self.sound.clone();
+                m.tables[WINDOW + s] = window;
+                if is_open(s) {
+                    self.ask_all(report, &m);
+                } else if s <= self.records() {
+                    self.ask_damaged(report, &m, 7 * s + k);
+                }
+            }
+            if !is_open(s) {
+                others.tables[WINDOW + s] = 63 + s as u32;
+            }
+        }
+        self.ask_all(report, &others);
+    }
+
     /// Two numbers with a meaning changed: one goes up or down, the other becomes a number below 5.
     fn twos(&self, report: &mut Report) {
         let mut spots = vec![6, 7, 8, 9, WAITING, MARKS, FREE, birth_at(&self.g, 0), birth_at(&self.g, 1), wait_at(&self.g, 0), wait_at(&self.g, 1)];
-        let columns = |s: usize| [NUMBER, OPEN, BEFORE, BASE, LENGTH].map(|column| column + s);
+        let columns = |s: usize| COLUMNS.map(|column| column + s);
         spots.extend((0..self.records()).flat_map(columns));
         spots.extend((0..self.records()).flat_map(|s| [pages_at(s), list_at(&self.g, s)]));
         for (k, &i) in spots.iter().enumerate() {
@@ -417,7 +442,7 @@ impl Subject {
         let (slot, at) = (report.small(), report.small());
         match report.small() {
             0 => (report.next() % 32) as usize,
-            1 | 2 => NUMBER + 64 * (at % 5) + slot,
+            1 | 2 => COLUMNS[at % 6] + slot,
             3 | 4 => pages_at(slot) + at / 2,
             5 => list_at(&self.g, slot) + at / 2,
             6 if at < 4 => FREE + at / 4,
@@ -503,8 +528,14 @@ impl Subject {
         self.group(report, "slots", |r| self.slots(r));
         self.group(report, "births", |r| self.births(r));
         self.waits(report);
-        self.group(report, "few", |r| self.few(r));
+        self.windowed(report);
         self.group(report, "log", |r| self.log_at_random(r));
+    }
+
+    /// Damage to windows, and to few numbers.
+    fn windowed(&self, report: &mut Report) {
+        self.group(report, "windows", |r| self.windows(r));
+        self.group(report, "few", |r| self.few(r));
         self.group(report, "history", |r| self.history(r));
     }
 
@@ -562,7 +593,7 @@ fn step(report: &mut Report, six: &[u64; 6], lent: [usize; 3], memory: &mut Memo
 }
 
 fn any_call(report: &mut Report, last: u32) -> Call {
-    let letter = b"WWWWSSFDDERYCLBEQQ"[(report.next() % 18) as usize];
+    let letter = b"WWWWSSSFDDERYCLBEQQKK"[(report.next() % 21) as usize];
     let n = last.wrapping_sub(report.small() as u32);
     let page = (report.small() / 2) as u32;
     let kind = (report.small() / 2) as u32;
@@ -575,67 +606,88 @@ fn group(report: &mut Report, name: &str) {
 }
 
 /// How many calls are asked of each store.
-const ASKS: usize = 37;
+const ASKS: usize = 43;
 
 /// The stores, and the calls asked of each.
-const SUBJECTS: [([u64; 6], &str, &str); 9] = [
+const SUBJECTS: [([u64; 6], &str, &str); 12] = [
     (
         [2, 4, 3, 7, 2, 24],
         "B000W100W111W122S100W200Y000S200W311W302S300E420E410D200F100W500S500W601F500E710",
         "B000W400W612W721W100W730W703W?00E400E600E610E720E200S400R3?0S700S100F100F300F500F400D100D300D400D600D700D500R310R710Y000C000L000\
-         Q100Q300Q400Q700Q200",
+         Q100Q300Q400Q700Q200K410K620K7n0K7o0K100K910",
     ),
     (
         [1, 4, 2, 4, 8, 10],
         "B000W100S100W200W200F100D100",
         "B000W200W210W220W300W311W100W203W?00E300E200E210E100E900S200S300S100S800F100F200F700D100D200D300D900R200R110R2?0R400Y000C000L000\
-         Q100Q200Q300Q900Q?00",
+         Q100Q200Q300Q900Q?00K210K320K2n0K3o0K110K910",
     ),
     (
         [1, 2, 2, 2, 1, 6],
         "B000W100S100W200Y000Y000Y000Y000",
         "B000W200W210W100W220W203W900E200E210E100E2?0E900S200S100S900F100F200F900D100D200D900R200R100R110R120R900Y000C000L000D?00R210S?00\
-         Q100Q200Q900Q?00Q000",
+         Q100Q200Q900Q?00Q000K210K220K2n0K2o0K110K900",
     ),
     (
         [1, 2, 1, 5, 1, 6],
         "B000W100S100S200S300F300D400S500E600",
         "B000W600W610W603W100W?00E600E500E610S600S500S900F100F300F500F600D100D200D300D500D600D900R100R600R200R300R500R610Y000C000L000D?00\
-         Q100Q200Q300Q500Q600",
+         Q100Q200Q300Q500Q600K610K620K6n0K6o0K510K410",
     ),
     (
         [3, 15, 6, 5, 4, 92],
         "B000W100W112W120W132W141W152S100W202W210E250S200W322W300E340E310S300E430W402",
         "B000W400W411W422W432W443W460W100E400E410E420E430E450E100S400S100F100F200F300F400D100D200D300D400D500R400R110R430Y000C000L000D900\
-         Q100Q200Q300Q400Q500",
+         Q100Q200Q300Q400Q500K410K420K4n0K4o0K300K510",
     ),
     // a deadlist with three births, two of them above the pred, out of order
     (
         [2, 8, 4, 5, 3, 34],
         "B000W100W111W122W130S100W200W211S200W320S300D200E410W420W401E430F100E500",
         "B000W400W413W440W100E400E410E420E430E300S400S500S100F100F300F400D100D300D400D500D900R400R110R4?0Y000C000L000\
-         Q100Q300Q400Q500Q200Q600Q?00Q000W510R500",
+         Q100Q300Q400Q500Q200Q600Q?00Q000W510R500K410K520K4n0K5o0K110K910",
     ),
     // blocks that wait, not by their numbers, after others that were released; of 34 blocks, so that two free words have some
     (
         [2, 17, 4, 4, 3, 70],
         "B000W100W111W122W130W101W110Y000W121S100W201W212W202E220W231W231W230D100",
         "B000W200W211W222W232W204W243W?00E200E210E220E230E240E100S200S100S300F100F200D200D100D300D?00R200R210R2?0R130Y000C000L000\
-         Q200Q100Q300Q?00W201Y000L000",
+         Q200Q100Q300Q?00W201Y000L000K210K220K2n0K2o0K200K110",
     ),
     // full: a block on a page, the others wait
     (
         [1, 3, 2, 2, 1, 8],
         "B000W100W100W100",
         "B000W100W110W120W103W200W?00W101W112E100E110E120E200S100S200S?00F100F200D100D200D?00R100R110R120R200Y000C000L000W100Y000C000L000\
-         Q100Q200Q?00E100D100",
+         Q100Q200Q?00E100D100K110K120K1n0K1o0K100K210",
     ),
     // every block waits
     (
         [1, 3, 2, 2, 1, 8],
         "B000W100W100W100E100",
         "B000W100W110W120W103W200W?00W101W112E100E110E120E200S100S200S?00F100F200D100D200D?00R100R110R120R200Y000C000L000W100Y000C000L000\
-         Q100Q200Q?00E100D100",
+         Q100Q200Q?00E100D100K110K120K1n0K1o0K100K210",
+    ),
+    // a line with a window, and a seal that will delete three records of it and pass over one that is forked, which has a window too
+    (
+        [2, 8, 4, 8, 3, 40],
+        "B000W100W111W122S100W200W211S200W300S300W400W411E420S400F200W600W500W511K520K610",
+        "B000W500W512W530W503W540W600W611W200W?00E500E510E520E530E600E100S500S600S100S700S500S600F100F200F400F500D100D200D300D400D500D600\
+         R500R610R2?0Y000C000L000Q100Q200Q500K510K5n0",
+    ),
+    // the same with a log that lacks a word for it
+    (
+        [1, 12, 4, 7, 3, 26],
+        "B000W100W111W122S100W200W211S200W300S300W400W411E420S400F200W600W500W511K520Y000Y000Y000Y000Y000Y000Y000Y000Y000Y000Y000",
+        "B000W500W512W530W503W540W600W611W200W?00E500E510E520E530E600E100S500S600S100S700S500S600F100F200F400F500D100D200D300D400D500D600\
+         R500R610R2?0Y000C000L000Q100Q200Q500K510K5n0",
+    ),
+    // a full table, in which the window would make room
+    (
+        [1, 4, 2, 3, 2, 10],
+        "B000W100S100W200S200W311K310",
+        "B000W300W310W320W303W100W?00W301W312E300E310E320E200S300S200S900F100F200F300D100D200D300D900R300R110R320R200Y000C000L000S300L000\
+         Q100Q200Q300Q900K310K320K3n0K3o0K100K210K910",
     ),
 ];
 
@@ -645,9 +697,10 @@ pub fn printed(answers: &mut dyn Answers) -> String {
         let subject = Subject::made(six, script, asks, &mut report);
         match i {
             3 => subject.small(&mut report),
-            4 | 6 => subject.meant(&mut report),
+            4 | 6 | 9 => subject.meant(&mut report),
             5 => subject.listed(&mut report),
             8 => subject.waits(&mut report),
+            10 | 11 => subject.windowed(&mut report),
             _ => subject.all(&mut report),
         }
     }

@@ -1,9 +1,8 @@
-//! Scripts made at random from a seed: forks of forks, deletes in the middle of a line, windows of records that roll on, long deadlists, full stores,
-//! stores that are full of blocks that wait, many barriers and few, full logs, full record tables, estimates of deletes, bad lines, scripts longer than
-//! what is read. `reference reached` counts them.
+//! Scripts made at random from a seed: forks of forks, deletes in the middle of a line, lines that lose their first record again and again, by deletes
+//! and by windows, windows with forks in them, long deadlists, full stores, stores that are full of blocks that wait, many barriers and few, full logs,
+//! full record tables, estimates of deletes, bad lines, scripts longer than what is read. `reference reached` counts them.
 use crate::store::{Geometry, Store};
 use calls::Call;
-use std::collections::BTreeSet;
 
 /// A small generator of numbers (xorshift).
 pub struct Dice(u64);
@@ -51,7 +50,8 @@ fn large(d: &mut Dice) -> [u32; 6] {
     [arenas, per, 64 + d.below(193), records, 1 + d.below(5), 2 * arenas * per + 2 + d.below(60)]
 }
 
-const BAD: [&str; 14] = ["", "B ", " B", "W 1 0", "W 1 0 0 0", "E 01 0", "S", "Q", "b", "store", "store 1 4 2 4 8", "D 12345678", "R 1  0", "T 3"];
+const BAD: [&str; 16] =
+    ["", "B ", " B", "W 1 0", "W 1 0 0 0", "E 01 0", "S", "Q", "b", "store", "store 1 4 2 4 8", "D 12345678", "R 1  0", "T 3", "K 1", "K 1 01"];
 
 /// A record to ask for: mostly one of those in the store, by rising numbers, most often a new one.
 pub fn record(d: &mut Dice, numbers: &[u32]) -> u32 {
@@ -63,7 +63,17 @@ pub fn record(d: &mut Dice, numbers: &[u32]) -> u32 {
     numbers[at as usize]
 }
 
-/// A call on a store with these records, with weights: `grow` leans towards new records and writes, else towards deletes.
+/// How many sealed records a window is to leave: mostly few, so that seals delete; some that leave all that a table holds, some that are refused.
+pub fn most(d: &mut Dice) -> u32 {
+    match d.below(12) {
+        0..=5 => 1 + d.below(3),
+        6..=8 => 1 + d.below(11),
+        9..=10 => d.one_of(&[61, 62]),
+        _ => d.one_of(&[0, 63, 64, 9_999_999]),
+    }
+}
+
+/// A call on a store with these records, with weights: `grow` leans towards new records and writes, else towards deletes. It sets no window.
 pub fn call(d: &mut Dice, g: &[u32; 6], numbers: &[u32], grow: bool) -> Call {
     let r = record(d, numbers);
     let page = if d.below(40) == 0 { g[2] + d.below(2) } else { d.below(g[2]) };
@@ -91,6 +101,8 @@ enum Mood {
     /// any call, many deletes
     Shrink,
     /// writes and seals in one line, whose first record goes when the line is long
+    Roll,
+    /// writes and seals in a line whose window changes, forks of its records
     Window,
     /// every page written in turn, then a seal
     Fill,
@@ -101,18 +113,20 @@ enum Mood {
 }
 
 const MOODS: [Mood; 11] =
-    [Mood::Grow, Mood::Grow, Mood::Grow, Mood::Shrink, Mood::Shrink, Mood::Window, Mood::Fill, Mood::Fill, Mood::Fork, Mood::Rewrite, Mood::Rewrite];
+    [Mood::Grow, Mood::Grow, Mood::Grow, Mood::Shrink, Mood::Shrink, Mood::Roll, Mood::Fill, Mood::Fill, Mood::Fork, Mood::Rewrite, Mood::Rewrite];
+/// Those of a store with windows.
+const WITH_WINDOWS: [Mood; 9] =
+    [Mood::Grow, Mood::Shrink, Mood::Window, Mood::Window, Mood::Window, Mood::Fill, Mood::Fill, Mood::Fork, Mood::Rewrite];
 
 /// How often a barrier is put in front of a call: one in so many times, or never, so that there are only those that the calls lean to.
 const BARRIERS: [Option<u32>; 5] = [None, None, Some(3), Some(8), Some(30)];
 
-/// A store with what its replies tell: the lines, which records are open, whether the last call was refused.
+/// A store, whether its lines get windows, and whether its last call was refused.
 struct Course {
     g: [u32; 6],
     barriers: Option<u32>,
+    windows: bool,
     store: Store,
-    lines: Vec<Vec<u32>>,
-    open: BTreeSet<u32>,
     refused: bool,
 }
 
@@ -120,50 +134,41 @@ impl Course {
     fn new(d: &mut Dice, shape: fn(&mut Dice) -> [u32; 6]) -> Course {
         let g = shape(d);
         let store = Store::new(Geometry::new(g).expect("inside the limits"));
-        let barriers = d.one_of(&BARRIERS);
-        Course { g, barriers, store, lines: vec![], open: BTreeSet::new(), refused: false }
+        Course { g, barriers: d.one_of(&BARRIERS), windows: d.below(2) == 0, store, refused: false }
     }
 
-    /// Makes a call, after a Q or a barrier where it is its time, and adds the lines.
+    fn mood(&self, d: &mut Dice) -> Mood {
+        if self.windows {
+            d.one_of(&WITH_WINDOWS)
+        } else {
+            d.one_of(&MOODS)
+        }
+    }
+
+    /// Makes a call, after a barrier, a K or a Q where it is its time, and adds the lines.
     fn add(&mut self, d: &mut Dice, asks: &mut Dice, c: Call, lines: &mut Vec<Vec<u8>>) {
         let barrier = self.barriers.filter(|&n| d.below(n) == 0).map(|_| Call::Barrier);
-        for next in barrier.into_iter().chain(self.asked(asks, c)).chain([c]) {
-            self.make(next);
+        let window = if self.windows { self.retained(d, c) } else { None };
+        for next in barrier.into_iter().chain(window).chain(self.asked(asks, c)).chain([c]) {
+            self.refused = self.store.call(next).is_err();
             lines.push(next.to_string().into_bytes());
         }
     }
 
-    fn make(&mut self, c: Call) {
-        self.refused = self.store.call(c).is_err();
-        if self.refused {
-            return;
-        }
-        match c {
-            Call::Begin | Call::Fork(_) => self.lines.push(vec![]),
-            Call::Seal(r) => {
-                let at = self.lines.iter().position(|line| line.contains(&r)).unwrap();
-                let line = self.lines.remove(at);
-                self.lines.push(line);
-                self.open.remove(&r);
-            }
-            Call::Delete(r) => {
-                self.lines.iter_mut().for_each(|line| line.retain(|&n| n != r));
-                self.lines.retain(|line| !line.is_empty());
-                self.open.remove(&r);
-            }
-            _ => {}
-        }
-        if let Call::Begin | Call::Fork(_) | Call::Seal(_) = c {
-            let n = *self.store.numbers().last().unwrap();
-            self.lines.last_mut().unwrap().push(n);
-            self.open.insert(n);
-        }
+    /// The open records, by rising numbers.
+    fn open(&self) -> Vec<u32> {
+        self.store.records.iter().filter(|(_, record)| record.open).map(|(&n, _)| n).collect()
+    }
+
+    fn line(&self, n: u32) -> &[u32] {
+        &self.store.lines[self.store.line_of(n)].records
     }
 
     fn next(&self, d: &mut Dice, mood: Mood, at: u32) -> Call {
-        let youngest = self.open.last().copied();
+        let youngest = self.open().last().copied();
         match (mood, youngest) {
-            (Mood::Window, Some(n)) => self.room(d).unwrap_or_else(|| self.window(d, n)),
+            (Mood::Roll, Some(n)) => self.room(d).unwrap_or_else(|| self.roll(d, n)),
+            (Mood::Window, Some(n)) => self.relieved(d).unwrap_or_else(|| self.window(d, n)),
             (Mood::Fill, Some(n)) => self.room(d).unwrap_or_else(|| self.fill(d, n, at)),
             (Mood::Fork, Some(n)) => self.fork(d, n),
             (Mood::Rewrite, Some(n)) => self.released(d).unwrap_or_else(|| self.rewrite(d, n)),
@@ -200,13 +205,51 @@ impl Course {
         }
     }
 
-    fn window(&self, d: &mut Dice, n: u32) -> Call {
-        let line = self.lines.iter().find(|line| line.contains(&n)).unwrap();
+    fn roll(&self, d: &mut Dice, n: u32) -> Call {
+        let line = self.line(n);
         match d.below(8) {
             0 if 2 * line.len() as u32 > self.g[3] => Call::Delete(line[0]),
             0 => Call::Seal(n),
             1 => Call::Erase(n, d.below(self.g[2])),
             _ => Call::Write(n, d.below(self.g[2]), d.below(3)),
+        }
+    }
+
+    /// What makes room, some of the time, where a call was refused: less often than elsewhere, so that seals meet full logs and full tables.
+    fn relieved(&self, d: &mut Dice) -> Option<Call> {
+        match d.below(12) {
+            0 if self.refused => Some(Call::Compress),
+            1 if self.refused => Some(Call::Barrier),
+            2..=3 if self.refused => Some(Call::Delete(record(d, &self.store.numbers()))),
+            _ => None,
+        }
+    }
+
+    /// Mostly in the longest line that is open, else in that of the youngest open record. A fork is on one of the line's sealed records, and what is
+    /// deleted is most often a fork.
+    fn window(&self, d: &mut Dice, youngest: u32) -> Call {
+        let longest = self.open().into_iter().max_by_key(|&n| self.line(n).len()).unwrap_or(youngest);
+        let n = if d.below(4) == 0 { youngest } else { longest };
+        let (sealed, page) = (self.store.sealed(n), d.below(self.g[2]));
+        match d.below(24) {
+            0 => Call::Retain(n, most(d)),
+            1..=5 => Call::Seal(n),
+            6..=7 if !sealed.is_empty() => Call::Fork(d.one_of(&sealed)),
+            8 => Call::Delete(youngest),
+            9 => Call::Delete(record(d, &self.store.numbers())),
+            10..=12 => Call::Erase(n, page),
+            _ => Call::Write(n, page, d.below(3)),
+        }
+    }
+
+    /// A K in front of a call: some of the time on the record that is to be sealed, most often the least window where the log is nearly full, so that the
+    /// frees of several deletes meet its end; else now and then on any record, or on a number that may have none.
+    fn retained(&self, d: &mut Dice, next: Call) -> Option<Call> {
+        match next {
+            Call::Seal(r) if self.store.unused() < 8 && d.below(3) > 0 => Some(Call::Retain(r, 1)),
+            Call::Seal(r) if d.below(8) == 0 => Some(Call::Retain(r, most(d))),
+            _ if d.below(60) == 0 => Some(Call::Retain(record(d, &self.store.numbers()), most(d))),
+            _ => None,
         }
     }
 
@@ -235,7 +278,7 @@ impl Course {
     }
 
     fn fork(&self, d: &mut Dice, n: u32) -> Call {
-        let sealed = self.store.numbers().into_iter().rev().find(|n| !self.open.contains(n));
+        let sealed = self.store.records.iter().rev().find(|(_, record)| !record.open).map(|(&n, _)| n);
         match (d.below(8), sealed) {
             (0, Some(r)) => Call::Fork(r),
             (1, _) => Call::Seal(n),
@@ -271,7 +314,7 @@ pub fn script(seed: u64) -> Vec<u8> {
     };
     for at in 0..count {
         if d.below(if is_large { 300 } else { 40 }) == 0 {
-            mood = d.one_of(&MOODS);
+            mood = course.mood(&mut d);
         }
         match d.below(200) {
             0..=1 => lines.push(d.one_of(&BAD).into()),

@@ -14,6 +14,7 @@ pub const OPEN: usize = 256;
 pub const BEFORE: usize = 320;
 pub const BASE: usize = 384;
 pub const LENGTH: usize = 448;
+pub const WINDOW: usize = 576;
 
 /// Tables and log of any length.
 #[derive(Clone, PartialEq)]
@@ -57,6 +58,8 @@ struct Row {
     open: bool,
     before: Option<usize>,
     base: Option<usize>,
+    /// means nothing in a sealed record
+    window: u32,
     pages: Vec<Option<u32>>,
     /// the deadlist, in the order of joining
     list: Vec<u32>,
@@ -87,6 +90,7 @@ fn row_of(g: &Geometry, t: &[u32], slot: usize) -> Row {
         open: t[OPEN + slot] > 0,
         before: link(t[BEFORE + slot]),
         base: link(t[BASE + slot]),
+        window: t[WINDOW + slot],
         pages: pages.iter().map(|&x| x.checked_sub(1)).collect(),
         list: list.to_vec(),
     }
@@ -157,6 +161,7 @@ impl Tables<'_> {
                 && self.link_sound(row, row.before)
                 && self.link_sound(row, row.base)
                 && row.before.map_or(true, |s| self.rows[&s].base == row.base)
+                && (!row.open || row.window <= 62)
         });
         alone && self.rows.iter().all(|(a, x)| self.rows.iter().all(|(b, y)| a == b || pair_sound(x, y)))
     }
@@ -235,15 +240,17 @@ impl Tables<'_> {
         self.rows.iter().find(|(_, row)| row.before == Some(slot)).map(|(&s, _)| s)
     }
 
-    /// A line: a first record and all that follow it. Two first records of one base are two lines.
+    /// A line: a first record and all that follow it. Two first records of one base are two lines. Its window stands with its open record.
     fn line(&self, first: usize) -> Line {
-        let mut records = Vec::new();
+        let mut line = Line { base: self.number(self.rows[&first].base), window: 0, records: Vec::new() };
         let mut at = Some(first);
         while let Some(s) = at {
-            records.push(self.rows[&s].number);
+            let row = &self.rows[&s];
+            line.records.push(row.number);
+            line.window = if row.open { row.window } else { 0 };
             at = self.follower(s);
         }
-        Line { base: self.number(self.rows[&first].base), records }
+        line
     }
 
     fn shards(&self, list: &[u32]) -> BTreeMap<u32, Vec<u32>> {
@@ -283,6 +290,11 @@ impl Tables<'_> {
 
     fn list(&self, r: u32) -> &[u32] {
         self.slot(r).map_or(&[], |slot| &self.rows[&slot].list)
+    }
+
+    /// The list of the record that a store no longer has; a step deletes one at most.
+    fn list_gone(&self, store: &Store) -> &[u32] {
+        self.rows.values().find(|row| !store.records.contains_key(&row.number)).map_or(&[], |row| &row.list)
     }
 }
 
@@ -332,15 +344,26 @@ fn call(six: &[u64; 6], memory: &mut Memory, lent: [usize; 3], c: Call) -> Reply
         return Err(4);
     }
     let mut store = tables.store(&before.log);
+    let mut steps = store.clone();
     let given = store.call(c)?;
-    let places = places_after(&tables, &store);
-    lay_header(&store, memory);
-    lay_records(&store, &places, &mut memory.tables);
-    for n in store.numbers() {
-        lay_list(&g, places[&n], &list_after(&tables, &store, c, n), &mut memory.tables);
+    match c {
+        Call::Seal(r) => steps.seal_in_steps(r, |step| lay(step, memory)).map(|_| ())?,
+        _ => lay(&store, memory),
     }
-    lay_blocks(&store, &mut memory.tables);
     Ok(given)
+}
+
+/// A store laid over memory that holds it as it was one step before. A call is one step; of an S, the seal and each delete of its window are one each.
+fn lay(store: &Store, memory: &mut Memory) {
+    let before = memory.tables.clone();
+    let tables = rows_of(store.g, &before);
+    let places = places_after(&tables, store);
+    lay_header(store, memory);
+    lay_records(store, &places, &mut memory.tables);
+    for n in store.numbers() {
+        lay_list(&store.g, places[&n], &list_after(&tables, store, n), &mut memory.tables);
+    }
+    lay_blocks(store, &mut memory.tables);
 }
 
 /// The slot that a record stands in.
@@ -355,13 +378,12 @@ fn places_after(tables: &Tables, store: &Store) -> Places {
     store.numbers().into_iter().map(|n| (n, tables.slot(n).unwrap_or(vacant))).collect()
 }
 
-/// A deadlist after a call: what was on it and still is, then what a deleted record's list brings, each in the order that it had, then a killed
+/// A deadlist after a step: what was on it and still is, then what a deleted record's list brings, each in the order that it had, then a killed
 /// block.
-fn list_after(tables: &Tables, store: &Store, c: Call, n: u32) -> Vec<u32> {
+fn list_after(tables: &Tables, store: &Store, n: u32) -> Vec<u32> {
     let shards = &store.records[&n].dead;
     let mut left: BTreeSet<u32> = shards.values().flatten().copied().collect();
-    let brought: &[u32] = if let Call::Delete(r) = c { tables.list(r) } else { &[] };
-    let mut list: Vec<u32> = tables.list(n).iter().chain(brought).copied().filter(|b| left.remove(b)).collect();
+    let mut list: Vec<u32> = tables.list(n).iter().chain(tables.list_gone(store)).copied().filter(|b| left.remove(b)).collect();
     assert!(left.len() < 2, "a call kills one block at most");
     list.extend(left);
     for (birth, shard) in shards {
@@ -416,6 +438,9 @@ fn lay_records(store: &Store, places: &Places, t: &mut [u32]) {
         t[NUMBER + slot] = n;
         t[BEFORE + slot] = if at == 0 { 0 } else { link_to(places, line.records[at - 1]) };
         t[BASE + slot] = link_to(places, line.base);
+        if record.open {
+            t[WINDOW + slot] = line.window;
+        }
         for (page, b) in record.pages.iter().enumerate() {
             t[pages_at(slot) + page] = b.map_or(0, |b| b + 1);
         }

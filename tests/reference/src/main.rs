@@ -3,7 +3,7 @@
 //!   reference log                       the words of the log after each of its lines, hexadecimal
 //!   reference script SEED               a script made from a seed
 //!   reference damaged                   the replies to calls on damaged memory, as this implementation predicts them
-//!   reference reached FROM TO           what the scripts of the seeds reach, and how often
+//!   reference reached FROM TO           what the scripts of the seeds reach, and how often; too rarely is an error
 //!   reference compare RUNNER FROM TO    runs the scripts of the seeds through RUNNER and compares byte for byte
 //!   reference cuts RUNNER LOGTOOL FROM TO [SCRIPT...]
 //!                                       cuts the logs of the scripts, of the seeds and in files, at each byte

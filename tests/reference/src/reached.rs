@@ -3,6 +3,7 @@ use calls::Call;
 use reference::store::{Reply, Store};
 use reference::{generate, script};
 use std::collections::{BTreeMap, BTreeSet};
+use std::process::exit;
 
 /// How many bases lie below a record.
 fn depth(store: &Store, r: u32) -> usize {
@@ -24,8 +25,9 @@ type Reached = Vec<(bool, &'static str)>;
 #[derive(Default)]
 struct Before {
     call: Option<Call>,
-    /// the last records of all lines
-    lasts: Vec<u32>,
+    records: BTreeSet<u32>,
+    /// the last records of all lines, and the windows of those
+    lasts: BTreeMap<u32, u32>,
     waiting: BTreeSet<u32>,
     /// the blocks that waited at some time
     waited: BTreeSet<u32>,
@@ -38,15 +40,16 @@ impl Before {
             self.waited.clear();
         }
         self.call = call;
-        self.lasts = store.lines.iter().map(|line| line.records[line.records.len() - 1]).collect();
+        self.records = store.records.keys().copied().collect();
+        self.lasts = store.lines.iter().map(|line| (line.records[line.records.len() - 1], line.window)).collect();
         self.waited.extend(&store.waiting);
         self.waiting = store.waiting.clone();
     }
 }
 
-fn refused(c: Call, number: u32, before: &Before) -> Reached {
+fn refused(store: &Store, c: Call, number: u32, before: &Before) -> Reached {
     let waits = !before.waiting.is_empty();
-    vec![
+    let mut reached = vec![
         (number == 13 && waits, "W refused by 13 while a block waits"),
         (number == 13 && !waits, "W refused by 13 while no block waits"),
         (number == 14 && waits && c == Call::Barrier, "Y refused by 14 while a block waits"),
@@ -56,6 +59,40 @@ fn refused(c: Call, number: u32, before: &Before) -> Reached {
         (number == 10 && matches!(c, Call::Delete(_)), "D refused by 10"),
         (number == 10 && matches!(c, Call::Estimate(_)), "Q refused by 10"),
         (number == 8 && matches!(c, Call::Estimate(_)), "Q refused by 8"),
+    ];
+    match c {
+        Call::Seal(r) => reached.extend(not_sealed(store, r, number)),
+        Call::Retain(r, _) => reached.extend(not_retained(store, r, number)),
+        _ => {}
+    }
+    reached
+}
+
+/// An S that is refused, which leaves the store as it was. The first record that its window would delete is the oldest of its line without a fork.
+fn not_sealed(store: &Store, r: u32, number: u32) -> Reached {
+    if number != 11 && number != 14 {
+        return vec![];
+    }
+    let sealed = store.sealed(r);
+    let window = store.lines[store.line_of(r)].window;
+    let too_many = window > 0 && sealed.len() as u32 >= window;
+    let first = sealed.into_iter().find(|&s| too_many && !store.is_forked(s));
+    let frees = |s: u32| store.clone().call(Call::Estimate(s)).expect("a record without a fork")[0];
+    vec![
+        (number == 11 && first.is_some(), REFUSED_11),
+        (number == 14, REFUSED_14),
+        (number == 14 && first.is_some_and(|s| frees(s) <= store.unused()), "S refused by 14, with room for its first delete"),
+    ]
+}
+
+fn not_retained(store: &Store, r: u32, number: u32) -> Reached {
+    let is_open = store.records.get(&r).map(|record| record.open);
+    vec![
+        (number == 15, K_15),
+        (number == 15 && is_open.is_none(), "K refused by 15, its record not there"),
+        (number == 15 && is_open == Some(false), "K refused by 15, its record sealed"),
+        (number == 8, K_8),
+        (number == 9, K_9),
     ]
 }
 
@@ -98,7 +135,7 @@ fn waited(c: Call, given: &[u32], before: &Before) -> Reached {
 }
 
 fn deleted(store: &Store, r: u32, freed: usize, before: &Before) -> Reached {
-    let was_last = before.lasts.contains(&r);
+    let was_last = before.lasts.contains_key(&r);
     vec![
         (before.call == Some(Call::Estimate(r)), "D straight after a Q of its record"),
         (!was_last, "D with a follower"),
@@ -110,9 +147,9 @@ fn deleted(store: &Store, r: u32, freed: usize, before: &Before) -> Reached {
     ]
 }
 
-/// The blocks that a result names, each with its birth after it.
+/// The blocks that a result names, each with its birth.
 fn named(c: Call, given: &[u32]) -> Reached {
-    let births: BTreeSet<u32> = given.iter().skip(1).step_by(2).copied().collect();
+    let births: BTreeSet<u32> = c.spelling().blocks(given).map(|(_, birth)| birth).collect();
     let other = |r: u32| births.iter().any(|&v| v != r);
     let largest = births.last().copied().unwrap_or(0);
     vec![
@@ -120,6 +157,7 @@ fn named(c: Call, given: &[u32]) -> Reached {
         (matches!(c, Call::Read(r, _) if other(r)), "R of a block born in another record"),
         (matches!(c, Call::Delete(_)) && births.len() > 1, "D that frees blocks of 2 births or more"),
         (matches!(c, Call::Delete(r) if other(r)), "D that frees a block born in another record"),
+        (matches!(c, Call::Seal(_)) && births.len() > 1, "S that frees blocks of 2 births or more"),
         (largest > 99, "a birth of 3 digits in a result"),
         (largest > 999, "a birth of 4 digits in a result"),
     ]
@@ -141,33 +179,75 @@ fn estimated(store: &Store, r: u32, said: &[u32]) -> Reached {
     ]
 }
 
-fn sealed(store: &Store, r: u32) -> Reached {
+/// A K in the line of record r.
+fn retained(store: &Store, r: u32, before: &Before) -> Reached {
+    let line = &store.lines[store.line_of(r)];
+    vec![
+        (before.lasts[&r] > 0, K_AGAIN),
+        (before.lasts[&r] > line.window, "K that sets a lesser window"),
+        (line.base > 0, K_FORK),
+        (store.sealed(r).len() as u32 > line.window, "K with more sealed records than the window has"),
+        (line.window == 62, "K of 62"),
+    ]
+}
+
+/// An S of record r that freed so many blocks.
+fn sealed(store: &Store, r: u32, freed: usize, before: &Before) -> Reached {
     let line = &store.lines[store.line_of(r)];
     let rolled = line.base == 0 && line.records.len() > 5 && line.records[0] > 6;
-    vec![(rolled, "S in a line of 6 or more that lost its first"), (store.records.len() > 31, "S with 32 records or more")]
+    let stay = store.sealed(r);
+    let gone: Vec<u32> = before.records.iter().copied().filter(|n| !store.records.contains_key(n)).collect();
+    let passed = stay.iter().any(|&s| store.is_forked(s) && gone.last() > Some(&s));
+    vec![
+        (rolled, "S in a line of 6 or more that lost its first"),
+        (store.records.len() > 31, "S with 32 records or more"),
+        (line.window > 0 && gone.is_empty(), "S with a window that deletes nothing"),
+        (!gone.is_empty(), "S that deletes"),
+        (gone.len() > 1, S_TWO),
+        (gone.len() > 3, "S that deletes 4 or more"),
+        (!gone.is_empty() && line.base > 0, "S that deletes in a fork's line"),
+        (passed, S_PASSES),
+        (line.window > 0 && stay.len() as u32 > line.window, S_ABOVE),
+        (freed > 1, "S that frees 2 or more"),
+        (freed > 31, "S that frees 32 or more"),
+        (freed > 0 && store.unused() == 0, "S whose frees fill the log"),
+    ]
 }
+
+const S_TWO: &str = "S that deletes 2 or more";
+const S_PASSES: &str = "S that passes over a forked record";
+const S_ABOVE: &str = "S that stops above its window";
+const REFUSED_14: &str = "S refused by 14";
+const REFUSED_11: &str = "S refused by 11, though its window would make room";
+const K_AGAIN: &str = "K that replaces a window";
+const K_FORK: &str = "K in a fork's line";
+const K_15: &str = "K refused by 15";
+const K_8: &str = "K refused by 8";
+const K_9: &str = "K refused by 9";
+
+/// What more than one script of a hundred has to reach.
+const WANTED: [&str; 10] = [S_TWO, S_PASSES, S_ABOVE, REFUSED_14, REFUSED_11, K_AGAIN, K_FORK, K_15, K_8, K_9];
 
 /// What a call, its reply and the store after it are an instance of.
 fn instances(store: &Store, c: Call, reply: &Reply, before: &Before) -> Reached {
     let given = match reply {
-        Err(number) => return refused(c, *number, before),
+        Err(number) => return refused(store, c, *number, before),
         Ok(given) => given,
     };
     let mut reached = match c {
         Call::Write(r, ..) | Call::Erase(r, _) => written(store, r),
         Call::Delete(r) => deleted(store, r, given.len() / 2, before),
         Call::Estimate(r) => estimated(store, r, given),
-        Call::Seal(r) => sealed(store, r),
+        Call::Seal(r) => sealed(store, r, given.len() / 2, before),
+        Call::Retain(r, _) => retained(store, r, before),
         _ => vec![],
     };
     if let Call::Write(_, _, kind) = c {
         reached.extend(begun(store, kind));
     }
-    if c.gives_blocks() {
-        reached.extend(named(c, given));
-    }
+    reached.extend(named(c, given));
     reached.extend(waited(c, given, before));
-    let logs = matches!(c, Call::Write(..) | Call::Erase(..) | Call::Delete(_) | Call::Barrier);
+    let logs = matches!(c, Call::Write(..) | Call::Erase(..) | Call::Seal(_) | Call::Delete(_) | Call::Barrier);
     reached.push((logs && store.unused() < 3, "log words left: under 3"));
     reached
 }
@@ -187,7 +267,7 @@ fn of_script(text: &[u8]) -> BTreeMap<&'static str, u64> {
     here
 }
 
-/// Prints, for the scripts of the seeds, how often each situation is reached.
+/// Prints, for the scripts of the seeds, how often each situation is reached. It is an error where one that is wanted is reached by too few scripts.
 pub fn print(from: u64, to: u64) {
     let mut counts: BTreeMap<&'static str, (u64, u64)> = BTreeMap::new();
     for seed in from..to {
@@ -196,7 +276,12 @@ pub fn print(from: u64, to: u64) {
             *count = (count.0 + 1, count.1 + n);
         }
     }
-    for (name, (scripts, lines)) in counts {
+    for (name, (scripts, lines)) in &counts {
         println!("{scripts:>7} scripts {lines:>9} lines: {name}");
+    }
+    let few = |name: &&str| counts.get(name).map_or(0, |count| 100 * count.0) <= to - from;
+    if let Some(name) = WANTED.into_iter().find(few) {
+        eprintln!("too few scripts reach this: {name}");
+        exit(1);
     }
 }

@@ -40,7 +40,7 @@ fn call_of(letter: u8, numbers: &[u32]) -> Option<Call> {
 /// The replies to a script.
 pub fn run(text: &[u8]) -> Vec<u8> {
     let mut out = Vec::new();
-    each_reply(text, |_, call, reply| put(&mut out, call.is_some_and(|c| c.gives_blocks()), reply));
+    each_reply(text, |_, call, reply| put(&mut out, call, reply));
     out
 }
 
@@ -82,13 +82,18 @@ pub fn each_reply(text: &[u8], mut seen: impl FnMut(Option<&Store>, Option<Call>
     }
 }
 
-/// A reply as a line; a block and its birth have a colon between them.
-fn put(out: &mut Vec<u8>, are_blocks: bool, reply: &Reply) {
+/// A reply as a line; a block and its birth have a colon between them. W, E, D and R give blocks, and S after the new number.
+fn put(out: &mut Vec<u8>, call: Option<Call>, reply: &Reply) {
+    let first_block = match call {
+        Some(Call::Write(..) | Call::Erase(..) | Call::Delete(_) | Call::Read(..)) => 0,
+        Some(Call::Seal(_)) => 1,
+        _ => usize::MAX,
+    };
     match reply {
         Ok(numbers) => {
             out.push(b'+');
             for (i, n) in numbers.iter().enumerate() {
-                let separator = if are_blocks && i % 2 == 1 { ':' } else { ' ' };
+                let separator = if i > first_block && (i - first_block) % 2 == 1 { ':' } else { ' ' };
                 out.extend(format!("{separator}{n}").bytes());
             }
         }

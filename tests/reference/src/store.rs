@@ -1,6 +1,7 @@
 //! The store of the rules, the crude way: a block is freed when it leaves the last page of the last record.
 //! Deadlists are kept only for the order in which a delete gives its blocks, and checked against the crude walk.
 //! A freed block waits in a set that an accepted Y or C empties; after each accepted call no page may have a block of it.
+//! A window is the loop of its order: after a seal the oldest record that may go is deleted, again and again, as long as too many are left.
 use calls::Call;
 use std::collections::{BTreeMap, BTreeSet};
 
@@ -40,6 +41,7 @@ impl Geometry {
     }
 }
 
+#[derive(Clone)]
 pub struct Record {
     pub open: bool,
     pub pages: Vec<Option<u32>>,
@@ -47,11 +49,15 @@ pub struct Record {
     pub dead: BTreeMap<u32, Vec<u32>>,
 }
 
+#[derive(Clone)]
 pub struct Line {
     pub base: u32,
+    /// how many sealed records a seal is to leave; 0 where the line has no window
+    pub window: u32,
     pub records: Vec<u32>,
 }
 
+#[derive(Clone)]
 pub struct Store {
     pub g: Geometry,
     pub last: u32,
@@ -114,6 +120,16 @@ impl Store {
         let line = &self.lines[self.line_of(r)];
         let at = line.records.iter().position(|&x| x == r).unwrap();
         line.records.get(at + 1).copied()
+    }
+
+    pub fn is_forked(&self, r: u32) -> bool {
+        self.lines.iter().any(|l| l.base == r)
+    }
+
+    /// The sealed records of the line of r, oldest first.
+    pub fn sealed(&self, r: u32) -> Vec<u32> {
+        let line = &self.lines[self.line_of(r)];
+        line.records.iter().copied().filter(|n| !self.records[n].open).collect()
     }
 
     fn on_a_page(&self, b: u32) -> bool {
@@ -217,6 +233,13 @@ impl Store {
         self.last
     }
 
+    /// An open record in a line of its own, which has no window.
+    fn open_line(&mut self, base: u32, pages: Vec<Option<u32>>) -> u32 {
+        let n = self.open_record(pages);
+        self.lines.push(Line { base, window: 0, records: vec![n] });
+        n
+    }
+
     fn open(&self, r: u32) -> Result<bool, u32> {
         self.records.get(&r).map(|x| x.open).ok_or(8)
     }
@@ -242,9 +265,7 @@ impl Store {
         match c {
             Call::Begin => {
                 self.room()?;
-                let n = self.open_record(vec![None; self.g.pages as usize]);
-                self.lines.push(Line { base: 0, records: vec![n] });
-                Ok(vec![n])
+                Ok(vec![self.open_line(0, vec![None; self.g.pages as usize])])
             }
             Call::Write(r, page, kind) => self.write(r, page, kind),
             Call::Erase(r, page) => self.erase(r, page),
@@ -269,20 +290,74 @@ impl Store {
             Call::Compress => Ok(vec![self.compress()]),
             Call::FreeList => Ok(self.runs(|b| self.may_be_given(b)).into_iter().flat_map(|(b, n)| [b, n]).collect()),
             Call::Estimate(r) => self.estimate(r),
+            Call::Retain(r, most) => self.retain(r, most),
         }
     }
 
+    fn retain(&mut self, r: u32, most: u32) -> Reply {
+        if !(1..=62).contains(&most) {
+            return Err(15);
+        }
+        if !self.open(r)? {
+            return Err(9);
+        }
+        let line = self.line_of(r);
+        self.lines[line].window = most;
+        Ok(vec![])
+    }
+
+    /// In a line with a window the seal and its deletes are made on a copy of the store: where one of them lacks log words, nothing was done.
     fn seal(&mut self, r: u32) -> Reply {
         if !self.open(r)? {
             return Err(9);
         }
         self.room()?;
+        if self.lines[self.line_of(r)].window == 0 {
+            return Ok(vec![self.seal_record(r)]);
+        }
+        let mut copy = self.clone();
+        let given = copy.seal_in_steps(r, |_| ())?;
+        copy.check_window(r);
+        *self = copy;
+        Ok(given)
+    }
+
+    /// The seal of an open r, then the deletes of the window; the store is shown after each.
+    pub fn seal_in_steps(&mut self, r: u32, mut shown: impl FnMut(&Store)) -> Reply {
+        let mut given = vec![self.seal_record(r)];
+        shown(self);
+        while let Some(old) = self.too_old(r) {
+            given.extend(self.delete(old)?);
+            shown(self);
+        }
+        Ok(given)
+    }
+
+    /// r is sealed, and an open record follows it. Gives the new number.
+    fn seal_record(&mut self, r: u32) -> u32 {
         let pages = self.records[&r].pages.clone();
         self.records.get_mut(&r).unwrap().open = false;
         let n = self.open_record(pages);
         let line = self.line_of(r);
         self.lines[line].records.push(n);
-        Ok(vec![n])
+        n
+    }
+
+    /// While more sealed records are in the line than its window has: the oldest of them that may go. A forked one may not, nor the newest, r.
+    fn too_old(&self, r: u32) -> Option<u32> {
+        let (sealed, window) = (self.sealed(r), self.lines[self.line_of(r)].window);
+        if window == 0 || sealed.len() as u32 <= window {
+            return None;
+        }
+        sealed.into_iter().find(|&s| s != r && !self.is_forked(s))
+    }
+
+    /// At most as many sealed records as the window has are left in the line of r, which was just sealed, or only forked ones and r.
+    fn check_window(&self, r: u32) {
+        let (sealed, window) = (self.sealed(r), self.lines[self.line_of(r)].window);
+        assert_eq!(sealed.last(), Some(&r), "the newest sealed record stays");
+        let few = sealed.len() as u32 <= window;
+        assert!(few || sealed.iter().all(|&s| s == r || self.is_forked(s)), "a window leaves no more than it may");
     }
 
     fn fork(&mut self, r: u32) -> Reply {
@@ -291,9 +366,7 @@ impl Store {
         }
         self.room()?;
         let pages = self.records[&r].pages.clone();
-        let n = self.open_record(pages);
-        self.lines.push(Line { base: r, records: vec![n] });
-        Ok(vec![n])
+        Ok(vec![self.open_line(r, pages)])
     }
 
     fn write(&mut self, r: u32, page: u32, kind: u32) -> Reply {
@@ -350,7 +423,7 @@ impl Store {
 
     fn delete(&mut self, r: u32) -> Reply {
         self.open(r)?;
-        if self.lines.iter().any(|l| l.base == r) {
+        if self.is_forked(r) {
             return Err(10);
         }
         let p = self.pred(r);
@@ -392,7 +465,7 @@ impl Store {
     /// the deadlist of the record that follows r have.
     fn estimate(&self, r: u32) -> Reply {
         self.open(r)?;
-        if self.lines.iter().any(|l| l.base == r) {
+        if self.is_forked(r) {
             return Err(10);
         }
         let (p, mine) = (self.pred(r), self.only_on(r));
