@@ -67,6 +67,11 @@ fn put_block(out: &mut [u8], at: usize, entry: u32) -> usize {
     between + len
 }
 
+#[inline(always)]
+fn put_blocks(out: &mut [u8], at: usize, entries: &[u32]) -> usize {
+    entries.iter().fold(at, |end, &entry| put_block(out, end, entry))
+}
+
 /// Writes a reply; returns the position after it.
 #[inline(always)]
 pub fn put_reply(out: &mut [u8], at: usize, reply: Reply, given: &[u32]) -> usize {
@@ -84,7 +89,11 @@ pub fn put_reply(out: &mut [u8], at: usize, reply: Reply, given: &[u32]) -> usiz
             at
         }
         Reply::Numbers(count) => given[..count].iter().fold(at, |end, &n| put_number(out, end, n)),
-        Reply::Blocks(count) => given[..count].iter().fold(at, |end, &entry| put_block(out, end, entry)),
+        Reply::Blocks(count) => put_blocks(out, at, &given[..count]),
+        Reply::NumberAndBlocks(n, count) => {
+            let between = put_number(out, at, n);
+            put_blocks(out, between, &given[..count])
+        }
     };
     end + 1
 }

@@ -33,6 +33,7 @@ fn call(store: &mut Store, text: &[u8], out: &mut [u8], p: Places) -> Option<Pla
         b'C' => done!(compress()),
         b'L' => done!(free_list()),
         b'Q' => done!(estimate(r)),
+        b'K' => done!(retain(r, most)),
         _ => None,
     }
 }

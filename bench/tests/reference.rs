@@ -1,7 +1,7 @@
 //! The unproved store held to the implementation of `tests/reference`: replies and logs, call by call.
 use bench::store as fast;
 use calls::Call;
-use reference::generate::{call, geometry, record, Dice};
+use reference::generate::{call, geometry, most, record, Dice};
 use reference::log::bytes_of;
 use reference::store::{Geometry, Store};
 
@@ -11,7 +11,8 @@ fn agree_on(unproved: &mut fast::Store, reference: &mut Store, c: Call, seed: u6
     assert!(unproved.log_bytes() == bytes_of(&reference.log), "seed {seed}: the log after {c}");
 }
 
-/// Each call comes after a Q, that of a D's record if it is a D.
+/// Each call comes after a Q, that of a D's record if it is a D. In every other store one seal in four comes after a K of its record, and some other
+/// calls after a K of any.
 fn agree(unproved: &mut fast::Store, seed: u64) {
     let mut d = Dice::new(seed);
     let six = geometry(&mut d);
@@ -21,8 +22,12 @@ fn agree(unproved: &mut fast::Store, seed: u64) {
     for _ in 0..600 {
         grow ^= d.below(40) == 0;
         let c = call(&mut d, &six, &reference.numbers(), grow);
-        let r = if let Call::Delete(r) = c { r } else { record(&mut d, &reference.numbers()) };
-        agree_on(unproved, &mut reference, Call::Estimate(r), seed);
+        let any = record(&mut d, &reference.numbers());
+        agree_on(unproved, &mut reference, Call::Estimate(if let Call::Delete(r) = c { r } else { any }), seed);
+        let (r, often) = if let Call::Seal(r) = c { (r, 4) } else { (any, 30) };
+        if seed.is_multiple_of(2) && d.below(often) == 0 {
+            agree_on(unproved, &mut reference, Call::Retain(r, most(&mut d)), seed);
+        }
         agree_on(unproved, &mut reference, c, seed);
     }
 }

@@ -93,19 +93,30 @@ fn listed(c: &mut Composed) {
     c.write_many(r, c.six[2]);
 }
 
-/// A line of 32 records: a seal, a few writes, and the oldest goes. What the deletes free would use up the store before the log is full: a barrier where
-/// the few writes have no blocks left, which is every few thousand calls.
-fn window(c: &mut Composed) {
+/// A seal and a few writes. What the deletes of a window free would use up the store before the log is full: a barrier where the few writes have no
+/// blocks left, which is every few thousand calls.
+fn sealed(c: &mut Composed) {
     c.room(1024);
     c.release(8);
     c.call(Call::Seal(c.newest()));
     for _ in 0..c.dice.below(8) {
         c.write_any(c.newest());
     }
+}
+
+/// A line of 32 records: a seal, a few writes, and the oldest goes.
+fn window(c: &mut Composed) {
+    sealed(c);
     let all = c.store.numbers();
     if all.len() > 32 {
         c.call(Call::Delete(all[0]));
     }
+}
+
+/// The window of a line is set once, and its seals delete.
+fn written_and_kept(c: &mut Composed) {
+    written(c);
+    c.call(Call::Retain(1, 32));
 }
 
 /// 64 records in lines that fork: where the table is full one goes, else a seal or a fork; writes and reads between. A barrier where the two writes have
@@ -229,6 +240,7 @@ pub fn kinds() -> Vec<Kind> {
         several("writes only", |s| composed(s, largest, four_records, writes)),
         several("listed writes, 1,792 blocks dead", |s| composed(s, largest, written, listed)),
         several("window of 32 snapshots", |s| composed(s, largest, written, window)),
+        several("window of 32 snapshots, by K", |s| composed(s, largest, written_and_kept, sealed)),
         several("64 records with forks", |s| composed(s, largest, written_and_sealed, forks)),
         several("deletes at 256 pages", |s| composed(s, largest, written_and_sealed, wide_deletes)),
         several("nearly full stores", |s| composed(s, largest, nearly_all, far)),
