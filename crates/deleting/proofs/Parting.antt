@@ -172,7 +172,8 @@ module _ {g : Geometry} {t₀ : List ℕ} (R : Ready g t₀) (n : ℕ) (hn : n <
     pub entry-read : getD t (listCell (g .records) n i) 0 ≡ getD (viewOf g t₀ .list n) i 0
     entry-read =
         ap (λ (u : List ℕ). getD u (listCell (g .records) n i) 0) et ∙
-        get-behind (others K p (take i l)) t₀ (listCell (g .records) n 0) (listCell (g .records) n i) (omega arith) ∙ sym (Fields.list-at g t₀ n i hn more)
+        get-behind (others K p (take i l)) t₀ (listCell (g .records) n 0) (listCell (g .records) n i) (omega arith) ∙
+        sym (Fields.list-at g t₀ n i hn more)
 
     pub birth-read : (b : ℕ) → b < blocks g → getD t (birthCell (g .records) b) 0 ≡ viewOf g t₀ .birth b
     birth-read b h =

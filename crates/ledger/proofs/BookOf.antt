@@ -172,7 +172,8 @@ module _ (K : View) (N : Notes) (S : Sound K) where
             has = extends (suc (K .last)) (I .slot) p t (omega (arith, I .live)) (I .live) l e (I .has);
           }
 
-  line-of : (P : Line → Type 0) (n a s : ℕ) → a ≤ s → s < a + n → 0 < K .num s → K .prev s ≡ 0 → P (lineAt K N s) → Some P (linesFrom K N a n)
+  line-of : (P : Line → Type 0) (n a s : ℕ) → a ≤ s → s < a + n → 0 < K .num s →
+      K .prev s ≡ 0 → P (lineAt K N s) → Some P (linesFrom K N a n)
   unfolding linesFrom
   line-of P zero a s l u h e p = absurd (let z : ⊥ = omega arith in z)
   line-of P (suc n) a s l u h e p =

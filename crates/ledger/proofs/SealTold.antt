@@ -84,7 +84,8 @@ fork-same m (l ∷ ls) h = ap₂ (λ (p q : Bool). p || q) (has (l .recs) (h .0)
 -- ── a state that the deletes meet ──
 
 -- an action that gives no block keeps a state fine
-acted-fine : (g : Geometry) (T : State) (a : Action) → Fine g T → Asks (T .view) a → ((c : ℕ) → Gives a c → ⊥) → done (T .view) a .last ≤ 999999 →
+acted-fine : (g : Geometry) (T : State) (a : Action) → Fine g T → Asks (T .view) a →
+    ((c : ℕ) → Gives a c → ⊥) → done (T .view) a .last ≤ 999999 →
     WindowsFit (done (T .view) a) (T .notes) → Fine g (acted T a 0)
 unfolding acted
 acted-fine g T a R q n l w =
@@ -130,7 +131,8 @@ module _ (g : Geometry) (inside : Inside g) where
   module _ (L : Ledger) (T : State) (R : Fine g T) (t : Tells g L T) (s : ℕ) (O : OpenNext (T .view) s) where
     sealed-many : length (sealedOn (L .book) (T .view .num s)) ≡ length (sealedOf (T .view) s)
     sealed-many =
-        ap length (line-sealed (T .view .num s) (L .book .lines) ∙ book-sealed (T .view) (R .sound) (L .book) s (t .book) O) ∙ map-many (sealedOf (T .view) s)
+        ap length (line-sealed (T .view .num s) (L .book .lines) ∙ book-sealed (T .view) (R .sound) (L .book) s (t .book) O) ∙
+        map-many (sealedOf (T .view) s)
       where
         map-many : (l : List ℕ) → length (map (T .view .num) l) ≡ length l
         map-many [] = refl

@@ -39,7 +39,8 @@ use Rattle.ledger.proofs.Uses.{placed}
 use Rattle.ledger.proofs.Unreached.{forked, forked-tables, forked-words, forked-inside, forked-sound}
 
 -- the ledger's record of a number is the one in the slot that has it
-in-slot : (g : Geometry) (t log : List ℕ) → SoundStore g t log → (B : Book) → SameRecords B (stateOf g t .view) → (s : ℕ) → 0 < stateOf g t .view .num s →
+in-slot : (g : Geometry) (t log : List ℕ) → SoundStore g t log → (B : Book) → SameRecords B (stateOf g t .view) →
+    (s : ℕ) → 0 < stateOf g t .view .num s →
     SameRecord B (stateOf g t .view) (stateOf g t .view .num s) s
 in-slot g t log sound B same s live =
     let K = stateOf g t .view in
@@ -92,7 +93,8 @@ module _ (L : Ledger) (same : SameStore forked L (stateOf forked forked-tables))
   born = (its .births 1, its .births 5, its .births 6)
 
   -- `pages`
-  says-R : (says forked L (Read 3 1) ≡ accepted (6 ∷ 2 ∷ [])) × (says forked L (Read 5 0) ≡ accepted (5 ∷ 3 ∷ [])) × (says forked L (Read 7 0) ≡ accepted [])
+  says-R : (says forked L (Read 3 1) ≡ accepted (6 ∷ 2 ∷ [])) × (says forked L (Read 5 0) ≡ accepted (5 ∷ 3 ∷ [])) ×
+      (says forked L (Read 7 0) ≡ accepted [])
   unfolding says account withBirths numbersOf pageBlock stateOf viewOf field
   says-R = (
     rw (there .0, rec-3 .pages 1, born .2, no-words),
@@ -126,7 +128,8 @@ module _ (L : Ledger) (same : SameStore forked L (stateOf forked forked-tables))
   says-11 = rw (same .records .many)
 
   -- `pred`: in record 5, whose pred is 3, block 1 is freed; block 5, born in 3, is not, nor is in record 7 block 6, born in 2
-  says-E : (says forked L (Erase 5 1) ≡ accepted (1 ∷ 5 ∷ [])) × (says forked L (Erase 5 0) ≡ accepted []) × (says forked L (Erase 7 1) ≡ accepted [])
+  says-E : (says forked L (Erase 5 1) ≡ accepted (1 ∷ 5 ∷ [])) × (says forked L (Erase 5 0) ≡ accepted []) ×
+      (says forked L (Erase 7 1) ≡ accepted [])
   unfolding says account afterKill young withBirths numbersOf keepIf pageBlock stateOf viewOf field via firstLink
   says-E = (
     rw (there .1, rec-5 .writable, rec-5 .pages 1, rec-5 .pred, born .0, same .used, born .0),
@@ -245,7 +248,8 @@ module _ (out : List ℕ) (long : 80 ≤ length out) where
   is-kept c l e = ap (λ (r : Reply). leaves r L (keeps forked L c)) (roomy-says forked L (asks c) long ∙ e)
 
   -- `pages`: each record has its own; the number after a block is its birth, and of the buffer no other is changed
-  pub R-gives : (reply forked (withOut N out) (Read 3 1) ≡ accepted (6 ∷ 2 ∷ [])) × (reply forked (withOut N out) (Read 5 0) ≡ accepted (5 ∷ 3 ∷ [])) ×
+  pub R-gives : (reply forked (withOut N out) (Read 3 1) ≡ accepted (6 ∷ 2 ∷ [])) ×
+      (reply forked (withOut N out) (Read 5 0) ≡ accepted (5 ∷ 3 ∷ [])) ×
       (reply forked (withOut N out) (Read 7 0) ≡ accepted []) × (after forked (withOut N out) (Read 3 1) .out ≡ 6 ∷ 2 ∷ drop 2 out)
   unfolding outAfter stepsTo
   R-gives =
@@ -304,7 +308,8 @@ module _ (out : List ℕ) (long : 80 ≤ length out) where
       ap (λ (K : Ledger). K .deadlist 7) (is-kept (Erase 7 1) [] (says-E L (told-there .same) now .2)) ∙ joins-5 L (told-there .same) now .1
 
   -- `counter`, `marks`: by its kind
-  pub W-gives : (reply forked (withOut N out) (Write 8 0 0) ≡ accepted (7 ∷ 8 ∷ [])) × (reply forked (withOut N out) (Write 8 0 1) ≡ accepted (3 ∷ 8 ∷ []))
+  pub W-gives : (reply forked (withOut N out) (Write 8 0 0) ≡ accepted (7 ∷ 8 ∷ [])) ×
+      (reply forked (withOut N out) (Write 8 0 1) ≡ accepted (3 ∷ 8 ∷ []))
   W-gives =
       let (a, b) = says-W L (told-there .same) now in
       (is-said (Write 8 0 0) (accepted (7 ∷ 8 ∷ [])) a, is-said (Write 8 0 1) (accepted (3 ∷ 8 ∷ [])) b)

@@ -76,7 +76,8 @@ forked-tables =
 
 -- blocks 5, 6 and 1 were allocated; what follows counts for nothing, if anything follows
 abbrev pub forked-words : List ℕ
-forked-words = 0 ∷ 0 ∷ 0 ∷ 0 ∷ 0 ∷ 1 ∷ 64 ∷ 1 ∷ 0 ∷ 0 ∷ 0 ∷ 0 ∷ 0 ∷ 1 ∷ 128 ∷ 1 ∷ 0 ∷ 0 ∷ 0 ∷ 0 ∷ 0 ∷ 0 ∷ 64 ∷ 1 ∷ []
+forked-words = 0 ∷ 0 ∷ 0 ∷ 0 ∷ 0 ∷ 1 ∷ 64 ∷ 1 ∷ 0 ∷ 0 ∷ 0 ∷ 0 ∷ 0
+    ∷ 1 ∷ 128 ∷ 1 ∷ 0 ∷ 0 ∷ 0 ∷ 0 ∷ 0 ∷ 0 ∷ 64 ∷ 1 ∷ []
 
 forked-checked : (rest : List ℕ) → sound? forked forked-tables (forked-words ++ rest) ≡ true
 unfolding tested

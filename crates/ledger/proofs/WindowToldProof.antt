@@ -204,7 +204,8 @@ module _ (g : Geometry) (inside : Inside g) (before : List Call) (r : ℕ) (l : 
       (subst (λ m. WindowBooked (recSealed (L₀ .book) r) (keeps g L₀ (Seal r) .book) n₀ m) (now-named g inside L₀ T₀ fine tells r early)
       (booked g inside (afterSeal L₀ r) (withNotes (acted T₀ (doS s₀) 0) (windowPassed T₀ r)) F (sealed-tells g inside L₀ T₀ fine tells r early)
       (keeps g L₀ (Seal r)) (effect g T₀ (Seal r)) (effect-fine g inside T₀ fine (Seal r) none) (seal-kept r g L₀ T₀ inside fine tells none)
-      n₀ s₀ (takes-oldest K₁ (steps K₀ (closes T₀ r)) n₀ s₀ (seal-takes K₀ s₀ (fine .sound) q n₀)) (seal-stops K₀ s₀ (fine .sound) q n₀) O
+      n₀ s₀ (takes-oldest K₁ (steps K₀ (closes T₀ r)) n₀ s₀ (seal-takes K₀ s₀ (fine .sound) q n₀))
+      (seal-stops K₀ s₀ (fine .sound) q n₀) O
       (open-along (victims K₁ n₀ s₀) K₁ s₀ (victims-may K₁ n₀ s₀ (F .sound) (just-live K₁ (F .sound) s₀ O)) O)))
 
 -- THE LOOP IS THE BOOK'S OWN STEP

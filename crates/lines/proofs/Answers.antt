@@ -129,7 +129,8 @@ module _ {g : Geometry} {t : List ℕ} (R : Ready g t) where
         )
 
     -- the action of a new line, which has no window
-    bare : (a : Action) → frees (T .view) a ≡ [] → withNotes (withView T (done (T .view) a)) (withoutWindow T) ≡ withNotes (acted T a 0) (withoutWindow T)
+    bare : (a : Action) → frees (T .view) a ≡ [] →
+        withNotes (withView T (done (T .view) a)) (withoutWindow T) ≡ withNotes (acted T a 0) (withoutWindow T)
     bare a e = ap (λ U. withNotes U (withoutWindow T)) (acted-is T a e)
 
     pub begin-left : (s f : ℕ) (v : Verdict) → v ≡ verdict g t Begin 0 → v ≡ Accept s f → u ≡ viewed g t (begin (T .view) f) f 0 →

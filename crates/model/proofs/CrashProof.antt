@@ -360,7 +360,8 @@ acted-stays T a k b S q o =
     (λ i. inr (in-left b (T .waiting) (frees (T .view) a) i))
 
 -- so do some one after another
-all-stays : (T : State) (l : List Action) (k b : ℕ) → Sound (T .view) → AsksAlong (T .view) l → Giveless l → (0 < T .view .birth b) ⊎ In b (T .waiting) →
+all-stays : (T : State) (l : List Action) (k b : ℕ) → Sound (T .view) → AsksAlong (T .view) l →
+    Giveless l → (0 < T .view .birth b) ⊎ In b (T .waiting) →
     (0 < actedAll T l k .view .birth b) ⊎ In b (actedAll T l k .waiting)
 unfolding actedAll
 all-stays T l k b S q n o =

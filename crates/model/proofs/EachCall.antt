@@ -139,7 +139,8 @@ module _ (g : Geometry) (inside : Inside g) (T : State) (R : Fine g T) where
   }
 
   -- the window of the line of r
-  window-noted : (r k : ℕ) → NoneHolds (badWindow k ∷ noRecord T r ∷ isSealed T r ∷ []) → Noting g T (Retain r k) (withWindow (T .notes) (slot T r) k)
+  window-noted : (r k : ℕ) → NoneHolds (badWindow k ∷ noRecord T r ∷ isSealed T r ∷ []) →
+      Noting g T (Retain r k) (withWindow (T .notes) (slot T r) k)
   window-noted r k n =
       let past = none-at (badWindow k ∷ noRecord T r ∷ isSealed T r ∷ []) n in
       let h = named-slot g inside T R r (past 8) in

@@ -20,7 +20,8 @@ use Rattle.model.specs.Actions.{Action, doB, doW, doE, doS, doF, doD, As
 use Rattle.model.specs.State.{State}
 use Rattle.model.specs.Window.{steps, sealing, victims, WindowTakes, actedAll}
 use Rattle.model.specs.Calls.{Account, looking, opening, freeing, closing, placing, marking, renewing, account}
-use Rattle.model.specs.Calls.{slot, block, writing, windowOf, closes, freedClosing, refusalsBy, leftBy, conditions, result, acted, given, logged, effect}
+use Rattle.model.specs.Calls.{slot, block, writing, windowOf, closes, freedClosing, acted, given, logged}
+use Rattle.model.specs.Calls.{refusalsBy, leftBy, conditions, result, effect}
 use Rattle.model.specs.History.{stateFrom, wasAccepted}
 use Rattle.model.specs.ReadingLaws.{Shows, Changes, Lost, Seals, Touches, ShowsFrom, Opens, ReadingLaws}
 use Rattle.model.specs.Model.{Screened, answer, keepOr, modelAfter, model}
@@ -276,7 +277,8 @@ module _ (g : Geometry) (inside : Inside g) where
         (ap (λ A. keepOr A T (effect g T (i .call))) a ∙ ap (effect g T) e, subst (λ d. NoneHolds (conditions g T d)) e n, sym (ap (result g T) e) ∙ q)
 
     -- an accepted call that does not change the page leaves it, or is an S that takes its record
-    moved : (i : Screened) (m : List ℕ) (r s x : ℕ) (l : List ℕ) → answer g T i ≡ accepted m → (Changes r x (i .call) → ⊥) → Stands (T .view) r s x l →
+    moved : (i : Screened) (m : List ℕ) (r s x : ℕ) (l : List ℕ) → answer g T i ≡ accepted m →
+        (Changes r x (i .call) → ⊥) → Stands (T .view) r s x l →
         Stands (modelAfter g T i .view) r s x l ⊎ (Seals (i .call) × Absent (modelAfter g T i .view) r)
     moved i m r s x l e n S =
         let c = i .call in
@@ -398,7 +400,8 @@ module _ (g : Geometry) (inside : Inside g) where
             subst (λ b. (n ≡ suc (T .view .last)) × (effect g T b .view .last ≡ n)) (sym i) (k (sym (ap (result g T) i) ∙ e))
 
   -- a call that does not touch the page
-  next : (T : State) → Fine g T → (i : Screened) (r s x : ℕ) (l : List ℕ) → x < g .pages → (Touches (model g) T r x i → ⊥) → Stands (T .view) r s x l →
+  next : (T : State) → Fine g T → (i : Screened) (r s x : ℕ) (l : List ℕ) → x < g .pages →
+      (Touches (model g) T r x i → ⊥) → Stands (T .view) r s x l →
       Stands (modelAfter g T i .view) r s x l
   next T R i r s x l hx n S = go (answer g T i) refl
     where

@@ -33,7 +33,8 @@ module _ (M O : Machine) (Z : Simulation M O) where
     eight = λ v n c a. W .eight (Z .looks U v) n (Z .call U v ∙ c) (Z .answer U v h ∙ a);
   }
 
-  touched-back : (more : List (M .Asked)) (U : M .Tables) → Z .Fits U → (r x : ℕ) → Touched O (Z .shows U) r x (asked M O Z U more) → Touched M U r x more
+  touched-back : (more : List (M .Asked)) (U : M .Tables) → Z .Fits U → (r x : ℕ) →
+      Touched O (Z .shows U) r x (asked M O Z U more) → Touched M U r x more
   unfolding asked
   touched-back [] U h r x w = w
   touched-back (i ∷ more) U h r x w =

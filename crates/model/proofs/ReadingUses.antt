@@ -220,7 +220,8 @@ module _ (M : Machine) (ask : Call → M .Asked) (asks : (c : Call) → M .call 
         [] (ask (Read 2 0)) 0 l (asks (Read 2 0)) e
 
     -- rises: whatever opens a record right after the D is given a number above those of the B, the S and the F
-    pub above-3 : (d : Call) (n : ℕ) (rest : List ℕ) → Opens d → M .answer (at whole) (ask d) ≡ accepted (n ∷ rest) → (1 < n) × (2 < n) × (3 < n)
+    pub above-3 : (d : Call) (n : ℕ) (rest : List ℕ) → Opens d → M .answer (at whole) (ask d) ≡ accepted (n ∷ rest) →
+        (1 < n) × (2 < n) × (3 < n)
     above-3 d n rest o e =
         let opens = subst Opens (sym (asks d)) o in (
           laws [] .rises (ask Begin) (ask d) 1 n [] rest (map ask (Write 1 0 0 ∷ Seal 1 ∷ Fork 1 ∷ Erase 2 0 ∷ Write 3 1 0 ∷ Delete 2 ∷ []))
@@ -241,7 +242,8 @@ module _ (M : Machine) (ask : Call → M .Asked) (asks : (c : Call) → M .call 
 
     pub no-3-yet : (x : ℕ) (l : List ℕ) → M .answer (at (Begin ∷ Write 1 0 0 ∷ Seal 1 ∷ [])) (ask (Read 3 x)) ≡ accepted l → ⊥
     no-3-yet x l e =
-        laws (Begin ∷ Write 1 0 0 ∷ Seal 1 ∷ []) .unread (ask (Fork 1)) (ask (Read 3 x)) 3 x [] l (inr (inr (1, asks (Fork 1)))) (H .fork) (asks (Read 3 x)) e
+        laws (Begin ∷ Write 1 0 0 ∷ Seal 1 ∷ []) .unread (ask (Fork 1)) (ask (Read 3 x)) 3 x [] l
+        (inr (inr (1, asks (Fork 1)))) (H .fork) (asks (Read 3 x)) e
 
   -- ── with a window: the script is B · W 1 0 0 · K 1 1 · S 1 · S 2 ──
 
@@ -348,13 +350,15 @@ taken-in-the-listing = never-1 (model small) fine (λ c. refl) (fresh small) 2 o
 -- ── the calls as they are made ──
 
 -- `reading`: on any tables, each call with log bytes and a buffer of its own, a deleted record answers no more
-pub lent-gone : (g : Geometry) (t : List ℕ) (c : Request) (r : ℕ) (l : List ℕ) → c .call ≡ Delete r → reply g (metBy t c) (c .call) ≡ accepted l →
+pub lent-gone : (g : Geometry) (t : List ℕ) (c : Request) (r : ℕ) (l : List ℕ) →
+    c .call ≡ Delete r → reply g (metBy t c) (c .call) ≡ accepted l →
     (more : List Request) (v : Request) (x : ℕ) (m : List ℕ) → v .call ≡ Read r x →
     reply g (metBy (stateFrom (machine g) (after g (metBy t c) (c .call) .tables) more) v) (v .call) ≡ accepted m → ⊥
 lent-gone g t c r l = reading g .0 t .gone c r l
 
 -- and on a store that keeps its own log, whatever its tables are
-pub own-gone : (g : Geometry) (M : Memory) (c : Own) (r : ℕ) (l : List ℕ) → c .call ≡ Delete r → reply g (withOut M (c .out)) (c .call) ≡ accepted l →
+pub own-gone : (g : Geometry) (M : Memory) (c : Own) (r : ℕ) (l : List ℕ) → c .call ≡ Delete r →
+    reply g (withOut M (c .out)) (c .call) ≡ accepted l →
     (more : List Own) (v : Own) (x : ℕ) (m : List ℕ) → v .call ≡ Read r x →
     reply g (withOut (run g (after g (withOut M (c .out)) (c .call)) more) (v .out)) (v .call) ≡ accepted m → ⊥
 own-gone g M c r l = reading g .1 M .gone c r l

@@ -327,17 +327,20 @@ unfolding outLoop
 out-ends zero n r B h = refl
 out-ends (suc k) n r B h = rw (le-ltb n (length (sealedWith r (B .lines))) h)
 
-out-stuck : (k n r : ℕ) (B : Book) → keepIf (λ m. not (eqb m r) && not (forkAmong m (B .lines))) (sealedWith r (B .lines)) ≡ [] → outLoop k B n r ≡ []
+out-stuck : (k n r : ℕ) (B : Book) → keepIf (λ m. not (eqb m r) && not (forkAmong m (B .lines))) (sealedWith r (B .lines)) ≡ [] →
+    outLoop k B n r ≡ []
 unfolding outLoop onFirst
 out-stuck zero n r B e = refl
 out-stuck (suc k) n r B e = cases (either (ltb n (length (sealedWith r (B .lines))))) (λ y. rw (y, e)) (λ y. rw y)
 
 out-turn : (k n r v : ℕ) (c : List ℕ) (B : Book) → n < length (sealedWith r (B .lines)) →
-    keepIf (λ m. not (eqb m r) && not (forkAmong m (B .lines))) (sealedWith r (B .lines)) ≡ v ∷ c → outLoop (suc k) B n r ≡ v ∷ outLoop k (recOut B v) n r
+    keepIf (λ m. not (eqb m r) && not (forkAmong m (B .lines))) (sealedWith r (B .lines)) ≡ v ∷ c →
+    outLoop (suc k) B n r ≡ v ∷ outLoop k (recOut B v) n r
 unfolding outLoop onFirst
 out-turn k n r v c B h e = rw (lt-ltb n (length (sealedWith r (B .lines))) h, e)
 
-outs : (n r : ℕ) (c : List ℕ) (k : ℕ) (K : View) (B : Book) → Sound K → Agree K B → OpenNext K r → loose K r ≡ c → length (sealedOf K r) ≤ k →
+outs : (n r : ℕ) (c : List ℕ) (k : ℕ) (K : View) (B : Book) → Sound K → Agree K B →
+    OpenNext K r → loose K r ≡ c → length (sealedOf K r) ≤ k →
     outLoop k B n (K .num r) ≡ map (K .num) (take (length (sealedOf K r) - n) c)
 outs n r c zero K B S A O e m = absurd (let z : ⊥ = omega (arith, sealed-length K r) in z)
 outs n r [] (suc k) K B S A O e m =

@@ -142,14 +142,16 @@ twoLines = record { arenas = 1; per = 12; pages = 4; records = 12; turn = 64; wo
 
 abbrev setUp : List Call
 setUp =
-    Begin ∷ Write 1 0 0 ∷ Write 1 1 0 ∷ Seal 1 ∷ Write 2 0 0 ∷ Write 2 2 0 ∷ Seal 2 ∷ Write 3 0 0 ∷ Write 3 1 0 ∷ Seal 3 ∷ Write 4 0 0 ∷ Write 4 2 0
+    Begin ∷ Write 1 0 0 ∷ Write 1 1 0 ∷ Seal 1 ∷ Write 2 0 0 ∷ Write 2 2 0 ∷ Seal 2
+    ∷ Write 3 0 0 ∷ Write 3 1 0 ∷ Seal 3 ∷ Write 4 0 0 ∷ Write 4 2 0
     ∷ Write 4 3 0 ∷ Seal 4 ∷ Write 5 0 0 ∷ Erase 5 1 ∷ Fork 2 ∷ []
 
 -- a window of 2 on the first line, of 1 on the fork; S of the fork takes nothing yet, then its first record; S of the first line takes 1, 3 and 4, and
 -- passes 2 over
 pub example-calls : drop 17 (map (λ e. e .answer) (history twoLines (map fine (setUp ++
     (Retain 5 2 ∷ Retain 6 1 ∷ Write 6 0 0 ∷ Seal 6 ∷ Seal 7 ∷ Seal 5 ∷ Retain 9 63 ∷ Retain 1 2 ∷ Retain 2 2 ∷ []))))) ≡
-    accepted [] ∷ accepted [] ∷ accepted (10 ∷ 6 ∷ []) ∷ accepted (7 ∷ []) ∷ accepted (8 ∷ []) ∷ accepted (9 ∷ 0 ∷ 1 ∷ 4 ∷ 3 ∷ 5 ∷ 3 ∷ 6 ∷ 4 ∷ [])
+    accepted [] ∷ accepted [] ∷ accepted (10 ∷ 6 ∷ []) ∷ accepted (7 ∷ []) ∷ accepted (8 ∷ [])
+    ∷ accepted (9 ∷ 0 ∷ 1 ∷ 4 ∷ 3 ∷ 5 ∷ 3 ∷ 6 ∷ 4 ∷ [])
     ∷ refused 15 ∷ refused 8 ∷ refused 9 ∷ []
 unfolding repliesTo
 example-calls = refl

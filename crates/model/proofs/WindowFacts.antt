@@ -237,7 +237,8 @@ most K (suc n) r s i =
     (λ e. absurd (let z : In s [] = rw (victims-are K n r ∙ ap (λ m. take m (loose K r)) e) at i in z))
     (λ d. omega arith)
 
-oldest : (K : View) (n r s t : ℕ) → Sound K → 0 < K .num r → In s (victims K n r) → In t (loose K r) → (In t (victims K n r) → ⊥) → K .num s < K .num t
+oldest : (K : View) (n r s t : ℕ) → Sound K → 0 < K .num r → In s (victims K n r) →
+    In t (loose K r) → (In t (victims K n r) → ⊥) → K .num s < K .num t
 unfolding victims
 oldest K zero r s t S h i j d = absurd i
 oldest K (suc n) r s t S h i j d =

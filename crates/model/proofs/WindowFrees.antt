@@ -28,7 +28,8 @@ use Rattle.model.proofs.WindowFacts.{bare, sealed-length, victims-may}
 
 -- ── the nearest older record that stays ──
 
-staying-snoc : (K : View) (vs : List ℕ) (l : List ℕ) (q t : ℕ) → lastStaying K vs q (l ++ (t ∷ [])) ≡ cond (elem t vs) (lastStaying K vs q l) (K .num t)
+staying-snoc : (K : View) (vs : List ℕ) (l : List ℕ) (q t : ℕ) →
+    lastStaying K vs q (l ++ (t ∷ [])) ≡ cond (elem t vs) (lastStaying K vs q l) (K .num t)
 unfolding lastStaying
 staying-snoc K vs [] q t = refl
 staying-snoc K vs (s ∷ l) q t = staying-snoc K vs l (cond (elem s vs) q (K .num s)) t

@@ -207,7 +207,8 @@ module _ (K : View) (S : Sound K) where
       (λ j. go (λ p. of-upTo k s p) (K .prev t) refl j)
       (λ j. cases j (λ e. subst (λ u. UpTo K s u) e itself) (λ z. absurd z))
     where
-      go : ((p : ℕ) → K .num p ≤ k → 0 < K .num p → In s (sealedOf K p) → UpTo K s p) → (l : ℕ) → K .prev t ≡ l → In s (older K t) → UpTo K s t
+      go : ((p : ℕ) → K .num p ≤ k → 0 < K .num p → In s (sealedOf K p) → UpTo K s p) →
+          (l : ℕ) → K .prev t ≡ l → In s (older K t) → UpTo K s t
       go ih zero e j = absurd (let z : In s [] = rw (older-none t h e) at j in z)
       go ih (suc p) e j =
           let o = S .links .prevs t p h e in

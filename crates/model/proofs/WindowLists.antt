@@ -83,7 +83,8 @@ pw-take R (suc k) [] p = tt
 pw-take R (suc k) (t ∷ l) p = (λ s i. p .0 s (of-take k l s i), pw-take R k l (p .1))
 
 -- each of the first k stands before each of the others
-pub take-before : (R : ℕ → ℕ → Type 0) (k : ℕ) (l : List ℕ) (s t : ℕ) → Pairwise R l → In s (take k l) → In t l → (In t (take k l) → ⊥) → R s t
+pub take-before : (R : ℕ → ℕ → Type 0) (k : ℕ) (l : List ℕ) (s t : ℕ) →
+    Pairwise R l → In s (take k l) → In t l → (In t (take k l) → ⊥) → R s t
 take-before R zero l s t p i j n = absurd i
 take-before R (suc k) [] s t p i j n = absurd j
 take-before R (suc k) (u ∷ l) s t p i j n =

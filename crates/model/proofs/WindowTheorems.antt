@@ -122,7 +122,8 @@ many : (g : Geometry) (T : State) (r : ℕ) → length (written g T (Seal r)) �
 many g T r = length-map (freedClosing T r) released
 
 -- 14 is true of the call where the words are too many
-fourteen-holds : (g : Geometry) (M : Memory) (r : ℕ) → Holds 14 (allConditions g M (Seal r)) → g .words - was g M .used < length (freedClosing (was g M) r)
+fourteen-holds : (g : Geometry) (M : Memory) (r : ℕ) → Holds 14 (allConditions g M (Seal r)) →
+    g .words - was g M .used < length (freedClosing (was g M) r)
 fourteen-holds g M r h =
     omega (
       arith,

@@ -175,7 +175,8 @@ module _ (K : View) (S : Sound K) where
   old-number B A s h e = let z : ⊥ = omega (arith, S .links .records s h .given, A .last) in z
 
   -- K
-  apart-lines : (s r : ℕ) (ls : List Line) → (s ≡ r → ⊥) → 0 < K .num s → 0 < K .num r → 0 < K .isOpen s → 0 < K .isOpen r → Every (LineOf K) ls →
+  apart-lines : (s r : ℕ) (ls : List Line) → (s ≡ r → ⊥) → 0 < K .num s →
+      0 < K .num r → 0 < K .isOpen s → 0 < K .isOpen r → Every (LineOf K) ls →
       Every (λ l. HasIn (K .num s) (l .recs) → HasIn (K .num r) (l .recs) → ⊥) ls
   apart-lines s r [] n hs hr os or e = tt
   apart-lines s r (l ∷ ls) n hs hr os or e =
@@ -236,7 +237,8 @@ windows-line K L f b N B g S G A W s h o =
     new = record { base = b; window = 0; recs = record { number = B .last + 1; isOpen = 1; page = g } ∷ [] }
 
 -- r sealed, and an open record after it
-pub windows-sealed : (K : View) (r f : ℕ) (N : Notes) (B : Book) → Sound K → 0 < K .num r → 0 < K .isOpen r → K .num f ≡ 0 → Agree K B → WindowsAgree K N B →
+pub windows-sealed : (K : View) (r f : ℕ) (N : Notes) (B : Book) → Sound K → 0 < K .num r →
+    0 < K .isOpen r → K .num f ≡ 0 → Agree K B → WindowsAgree K N B →
     WindowsAgree (seal K r f) (withWindow N f (N .window r)) (recSealed B (K .num r))
 unfolding recSealed
 windows-sealed K r f N B S hr or e A W s h o =
@@ -262,7 +264,8 @@ windows-sealed K r f N B S hr or e A W s h o =
     new (l ∷ ls) n = (recs-new (K .num r) (B .last + 1) (l .recs) (λ i. n (inl i)), new ls (λ j. n (inr j)))
 
 -- a record out
-windows-gone : (K L : View) (s : ℕ) (N : Notes) (B : Book) → Sound K → 0 < K .num s → Gone K L s → WindowsAgree K N B → WindowsAgree L N (recOut B (K .num s))
+windows-gone : (K L : View) (s : ℕ) (N : Notes) (B : Book) → Sound K → 0 < K .num s →
+    Gone K L s → WindowsAgree K N B → WindowsAgree L N (recOut B (K .num s))
 unfolding recOut
 windows-gone K L s N B S hs G W t h o =
     let n : t ≡ s → ⊥ = λ i. let z : ⊥ = omega (arith, ap (L .num) i, G .num-s) in z in
@@ -319,7 +322,8 @@ seal-windows K N B n s S a A W =
 
 -- ── none that counts is above 62 ──
 
-fit-grown : (K L : View) (f o v : ℕ) (N : Notes) → (0 < K .num o → L .isOpen o ≡ 0) → v ≤ 62 → Grown K L f o → WindowsFit K N → WindowsFit L (withWindow N f v)
+fit-grown : (K L : View) (f o v : ℕ) (N : Notes) → (0 < K .num o → L .isOpen o ≡ 0) →
+    v ≤ 62 → Grown K L f o → WindowsFit K N → WindowsFit L (withWindow N f v)
 fit-grown K L f o v N shut k G W s h p =
     cases (same? s f)
     (λ e. omega (arith, put-at (N .window) f v s e))

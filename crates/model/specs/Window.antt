@@ -161,7 +161,8 @@ pub record WindowTakes (K L : View) (n r : ℕ) : Type 0 where
   pub unforked : (s : ℕ) → In s (victims K n r) → forked K s ≡ 0
   pub rising : Pairwise (λ s t. K .num s < K .num t) (victims K n r)
   -- none newer than one that stays and might have gone
-  pub oldest : (s t : ℕ) → In s (victims K n r) → In t (sealedOf K r) → (t ≡ r → ⊥) → forked K t ≡ 0 → (In t (victims K n r) → ⊥) → K .num s < K .num t
+  pub oldest : (s t : ℕ) → In s (victims K n r) → In t (sealedOf K r) → (t ≡ r → ⊥) → forked K t ≡ 0 →
+      (In t (victims K n r) → ⊥) → K .num s < K .num t
   -- not one more than needed: where one goes, n are left
   pub needed : (s : ℕ) → In s (victims K n r) → n ≤ length (sealedOf L r)
   -- they leave the store, and no other record does; of the others number, state, base and pages are as before

@@ -94,7 +94,8 @@ module _ {g : Geometry} {t : List ℕ} (R : Ready g t) (s f w : ℕ) (C : Closes
       )
 
   -- what `log_is_short` says
-  pub short-is : (b : Bool) → b ≡ ltb (g .words - getD t 9 0) (length (freesAlong (viewOf g t) (sealing (viewOf g t) w s))) → tooFew g (stateOf g t) s w ≡ b
+  pub short-is : (b : Bool) → b ≡ ltb (g .words - getD t 9 0) (length (freesAlong (viewOf g t) (sealing (viewOf g t) w s))) →
+      tooFew g (stateOf g t) s w ≡ b
   unfolding tooFew gone stateOf
   short-is b e = sym e
 
@@ -241,7 +242,8 @@ module _ {g : Geometry} {t : List ℕ} (R : Ready g t) (s f w : ℕ) (C : Closes
 
         -- ── the tables t₂ after them, where n blocks are freed ──
 
-        module _ (t₂ : List ℕ) (e₂ : t₂ ≡ oldestLeft g t₁ most (getD line 0 0)) (n : ℕ) (en : n ≡ length (oldestGone g t₁ most (getD line 0 0))) where
+        module _ (t₂ : List ℕ) (e₂ : t₂ ≡ oldestLeft g t₁ most (getD line 0 0))
+            (n : ℕ) (en : n ≡ length (oldestGone g t₁ most (getD line 0 0))) where
           many : n ≡ length (gone T s w)
           many = en ∙ ap length gone-is
 
@@ -281,7 +283,8 @@ module _ {g : Geometry} {t : List ℕ} (R : Ready g t) (s f w : ℕ) (C : Closes
 
           -- ── the buffer after them, v is the new record's number; the words and the answer, where the log is not too short ──
 
-          module _ (enough : tooFew g (stateOf g t) s w ≡ false) (out : List ℕ) (long : OutLong g out) (v : ℕ) (ev : v ≡ getD t 6 0 + 1) (part : List ℕ)
+          module _ (enough : tooFew g (stateOf g t) s w ≡ false) (out : List ℕ) (long : OutLong g out)
+              (v : ℕ) (ev : v ≡ getD t 6 0 + 1) (part : List ℕ)
               (ep : part ≡ sets (midOf 1 (length (set out 0 v) - 1) (set out 0 v)) 0 (oldestGiven g t₁ most (getD line 0 0))) where
             abbrev out₂ : List ℕ
             out₂ = putMid 1 (length (set out 0 v) - 1) (set out 0 v) part
@@ -340,7 +343,8 @@ module _ {g : Geometry} {t : List ℕ} (R : Ready g t) (s f w : ℕ) (C : Closes
                 ap blocksIn (rest-begins out pairs v pairs-fit out₂ out-is (2 * n) (sym pairs-many)) ∙ blocks-in-paired (T .view .birth) (gone T s w)
 
             log-is : (log : List ℕ) →
-                writeAt log (8 * getD t₂ 9 0) (bytesOf (map released (blocksIn (take (2 * n) (midOf 1 (length out₂ - 1) out₂))))) ≡ closedLog g t log s w
+                writeAt log (8 * getD t₂ 9 0) (bytesOf (map released (blocksIn (take (2 * n) (midOf 1 (length out₂ - 1) out₂)))))
+                ≡ closedLog g t log s w
             unfolding closedLog
             log-is log =
                 rw (accepted-is enough)

@@ -59,7 +59,8 @@ module _ (K : View) where
   unfolding freesWalked
   walk-one k p s = refl
 
-  walk-goes : (k p s t : ℕ) (l : List ℕ) → 0 < k → forked K s ≤ 0 → freesWalked K k p (s ∷ t ∷ l) ≡ bornAbove K p t + freesWalked K (k - 1) p (t ∷ l)
+  walk-goes : (k p s t : ℕ) (l : List ℕ) → 0 < k → forked K s ≤ 0 →
+      freesWalked K k p (s ∷ t ∷ l) ≡ bornAbove K p t + freesWalked K (k - 1) p (t ∷ l)
   unfolding freesWalked
   walk-goes k p s t l h f =
       rw (lt-ltb 0 k h, eq-eqb (forked K s) 0 (omega arith)) (ap (λ j. bornAbove K p t + freesWalked K j p (t ∷ l)) (omega arith))
@@ -132,7 +133,8 @@ module _ {g : Geometry} {t : List ℕ} (R : Ready g t) (s : ℕ) (line : List �
       sym (le-ltb (g .words - getD t 9 0) frees
       (omega (arith, seal-held K s (Ranges.sound R) asks window, held-le K, Fields.blocks-is g t)))
 
-  pub counted-short : (w : ℕ) → w ≡ getD t 9 0 → (m : ℕ) → m ≡ count - window → (n : ℕ) → n ≡ freesWalked K m (baseNum K s) (sealedOf K s) →
+  pub counted-short : (w : ℕ) → w ≡ getD t 9 0 → (m : ℕ) → m ≡ count - window →
+      (n : ℕ) → n ≡ freesWalked K m (baseNum K s) (sealedOf K s) →
       ltb (g .words - w) n ≡ ltb (g .words - getD t 9 0) frees
   counted-short w e m em n en =
       let d : m ≡ length (sealedOf K s) - window = em ∙ ap (λ k. k - window) (lined-count L) in

@@ -107,7 +107,8 @@ module _ {g : Geometry} {t : List ℕ} (R : Ready g t) (s : ℕ) (hs : 0 < viewO
         long = length-set line 0 s ∙ len;
         live = λ p k. Ranges.sound R .links .prevs s p hs (sym d ∙ k) .live;
         parts =
-            ap₂ {C = List ℕ} (λ (l : ℕ) (b : ℕ). lineTo K l ++ (b ∷ [])) d (getD-set-same line 0 s 0 (omega arith)) ∙ sym (sealed-to K (Ranges.sound R) s hs);
+            ap₂ {C = List ℕ} (λ (l : ℕ) (b : ℕ). lineTo K l ++ (b ∷ [])) d (getD-set-same line 0 s 0 (omega arith)) ∙
+            sym (sealed-to K (Ranges.sound R) s hs);
       }
 
   module _ (line : List ℕ) (count link : ℕ) (L : Lining g t s line count link) where

@@ -22,7 +22,8 @@ module _ (xs : List ℕ) (a : ℕ) (h : a ≤ length xs) where
   pub part-sets : (m : List ℕ) → a + length m ≤ length xs → putMid a (length xs - a) xs (sets (midOf a (length xs - a) xs) 0 m) ≡ sets xs a m
   part-sets m l =
       ap₂ (λ (p q : List ℕ). take a xs ++ (sets p 0 m ++ q)) part-is after-is ∙
-      ap {B = List ℕ} (λ (p : List ℕ). take a xs ++ p) (append-nil (sets (drop a xs) 0 m) ∙ sets-eq m (drop a xs) 0 (omega (arith, length-drop a xs))) ∙
+      ap {B = List ℕ} (λ (p : List ℕ). take a xs ++ p)
+      (append-nil (sets (drop a xs) 0 m) ∙ sets-eq m (drop a xs) 0 (omega (arith, length-drop a xs))) ∙
       ap {B = List ℕ} (λ (p : List ℕ). take a xs ++ (m ++ p)) (drop-drop (0 + length m) a xs ∙ ap (λ k. drop (a + k) xs) (zero-add (length m))) ∙
       sym (append-assoc (take a xs) m (drop (a + length m) xs)) ∙ sym (sets-eq m xs a l)
 

@@ -137,4 +137,5 @@ module _ {g : Geometry} {t : List ℕ} (R : Ready g t) (n : ℕ) (v : Verdict) (
           let q : P (slot T n) (newSlot T) (windowOf T n) =
           subst (λ x. P x (newSlot T) (windowOf T n)) (taken .1)
           (subst (λ x. P s x (windowOf T n)) (taken .2) (subst (P s f) (window-is ∙ ap (T .notes .window) (taken .1)) p)) in
-          (q .0 ∙ reply-is, (q .1 .0 ∙ tables-are, (q .1 .1 .0 ∙ log-is log, q .1 .1 .1 ∙ out-is out)))
+          let (replied-so, (stored-so, (logged-so, given-so))) = q in
+          (replied-so ∙ reply-is, (stored-so ∙ tables-are, (logged-so ∙ log-is log, given-so ∙ out-is out)))

@@ -59,7 +59,8 @@ pub record Walk (g : Geometry) (t₀ out₀ line : List ℕ) (r most : ℕ) (t o
   pub long : length out ≡ length out₀
 
 module _ {g : Geometry} {t₀ : List ℕ} (R₀ : Ready g t₀) (out₀ line : List ℕ) (r most : ℕ) where
-  pub walk-first : (count : ℕ) → Lined (viewOf g t₀) r line count → (i : ℕ) → suc i ≡ count → Walk g t₀ out₀ line r most t₀ out₀ 0 most i
+  pub walk-first : (count : ℕ) → Lined (viewOf g t₀) r line count → (i : ℕ) →
+      suc i ≡ count → Walk g t₀ out₀ line r most t₀ out₀ 0 most i
   unfolding oldestGone oldestGiven oldestLeft
   walk-first count L i e =
       let d : backwards line (suc i) ≡ sealedOf (viewOf g t₀) r = ap (backwards line) e ∙ L .slots in
@@ -238,7 +239,8 @@ module _ {g : Geometry} {t₀ : List ℕ} (R₀ : Ready g t₀) (out₀ line : L
                 (ep ∙ ap (λ l. sets (midOf (2 * done) (length out - 2 * done) out) 0 (paired (K .birth) l)) turn-frees) ∙
                 part-sets out (2 * done) (omega arith) first (omega (arith, first-many))
 
-            buffer-is : sets out₁ (2 * (done + n)) (paired (viewOf g t₁ .birth) (freesAlong (viewOf g t₁) (ahead (viewOf g t₁) (left - 1) line (i - 1))))
+            buffer-is : sets out₁ (2 * (done + n))
+                (paired (viewOf g t₁ .birth) (freesAlong (viewOf g t₁) (ahead (viewOf g t₁) (left - 1) line (i - 1))))
                 ≡ sets out₀ 0 (oldestGiven g t₀ most r)
             buffer-is =
                 ap₂ (λ (L : View) (l : List ℕ). sets out₁ (2 * (done + n)) (paired (L .birth) l)) view-is frees-then ∙

@@ -116,7 +116,8 @@ module _ (K : View) (S : Sound K) where
       unfolding delete deleteAt unlink leave
       second-link = ap (λ l. deleteAt K s l .prev u) first-follower ∙ put-same (K .prev) u (K .prev s)
 
-      rest : (l : List ℕ) (p e : ℕ) → Chain K (suc p) l e → (p ≡ s → ⊥) → ((x : ℕ) → In x l → x ≡ s → ⊥) → Chain (delete K s) (suc p) l e
+      rest : (l : List ℕ) (p e : ℕ) → Chain K (suc p) l e → (p ≡ s → ⊥) →
+          ((x : ℕ) → In x l → x ≡ s → ⊥) → Chain (delete K s) (suc p) l e
       rest [] p e c n a = c
       rest (t ∷ l) p e (ht, et, c) n a = (
         cut-live K S s first-live none t (a t (inl refl)) ht,

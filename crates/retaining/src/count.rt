@@ -35,7 +35,8 @@ fn frees_walked(
     most: usize,
 ) -> usize
     requires { ⌜ Ready g (now t) × Lined (viewOf g (now t)) s (now line) count ⌝ }
-    ensures { λ r. ⌜ r ≡ freesWalked (viewOf g (now (t .entry))) most (baseNum (viewOf g (now (t .entry))) s) (sealedOf (viewOf g (now (t .entry))) s) ⌝ }
+    ensures { λ r. ⌜ r ≡ freesWalked (viewOf g (now (t .entry))) most
+        (baseNum (viewOf g (now (t .entry))) s) (sealedOf (viewOf g (now (t .entry))) s) ⌝ }
 {
     let mut total: usize = 0;
     let mut left = most;

@@ -52,14 +52,16 @@ unfolding prints
 prints-two room s M h z a = turns-print script room (10 ∷ 10 ∷ 0 ∷ []) s M h in-two z a
 
 -- however any input comes, into buffers of any length, and whatever stood in the memory, the same is printed
-pub however-it-comes : (input : List ℕ) (room other : ℕ) (reads more : List ℕ) (s r : Session) (M N : Memory) → longest ≤ room → longest ≤ other →
+pub however-it-comes : (input : List ℕ) (room other : ℕ) (reads more : List ℕ) (s r : Session) (M N : Memory) →
+    longest ≤ room → longest ≤ other →
     Reads input 0 reads → Reads input 0 more → s .made ≡ 0 → r .made ≡ 0 → Ample M → Ample N →
     turns (take mostRead input) room 0 reads (begun 0 s M) .replies ≡ turns (take mostRead input) other 0 more (begun 0 r N) .replies
 however-it-comes input room other reads more s r M N h k x y e f a b =
     turns-print input room reads s M h x e a ∙ sym (turns-print input other more r N k y f b)
 
 -- `hands-replies`: of what stood in the buffer before, nothing is handed to be written
-pub hands-them : (q : Part) (buffer : List ℕ) (r : Served) (left : Memory) (after : List ℕ) → q .replies ≡ bytes "+ 1\n" → Serves q buffer r left after →
+pub hands-them : (q : Part) (buffer : List ℕ) (r : Served) (left : Memory) (after : List ℕ) →
+    q .replies ≡ bytes "+ 1\n" → Serves q buffer r left after →
     take (r .used) after ≡ bytes "+ 1\n"
 hands-them q buffer r left after e v = hands-replies q buffer r left after v ∙ e
 

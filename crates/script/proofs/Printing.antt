@@ -185,7 +185,8 @@ module _ (out : List ℕ) (n : ℕ) (h : n ≤ length out) where
       (λ f. rw (left-over i f))
 
   -- a number is written, then the blocks after it
-  pub numbered : (d e f : List ℕ) (at k r : ℕ) → 0 < n → e ≡ writeAt d at (led 32 (getD out 0 0)) → k ≡ at + length (led 32 (getD out 0 0)) → k ≤ length d
+  pub numbered : (d e f : List ℕ) (at k r : ℕ) → 0 < n → e ≡ writeAt d at (led 32 (getD out 0 0)) →
+      k ≡ at + length (led 32 (getD out 0 0)) → k ≤ length d
       → f ≡ writeAt e k (itemsText (bornIn (drop 1 (take n out)))) → r ≡ k + length (itemsText (bornIn (drop 1 (take n out))))
       → (r ≡ at + length (itemsText (oneThenBorn (take n out)))) × (f ≡ writeAt d at (itemsText (oneThenBorn (take n out))))
   unfolding itemsText itemText oneThenBorn

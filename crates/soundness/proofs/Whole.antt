@@ -160,7 +160,8 @@ module _ (g : Geometry) (t : List ℕ) where
     sound-no-links h = no-good (and-first born (and-first (single (λ c. 0)) (and-first paged (sym pairs-are ∙ h))))
 
     no-rest : words && (windows && logHolds? g (stateOf g t) log) ≡ false → false ≡ sound? g t log
-    no-rest h = sym (sound-is ∙ and-second (numbers? g t) (and-second (range? g (stateOf g t)) (and-second (((links && paged) && single (λ c. 0)) && born) h)))
+    no-rest h = sym
+        (sound-is ∙ and-second (numbers? g t) (and-second (range? g (stateOf g t)) (and-second (((links && paged) && single (λ c. 0)) && born) h)))
 
     pub sound-no-words : words ≡ false → false ≡ sound? g t log
     sound-no-words h = no-rest (and-first _ h)
@@ -198,4 +199,5 @@ module _ (g : Geometry) (t : List ℕ) where
             agrees m ≡ true → words ≡ true → windows ≡ true → r ≡ logHolds? g (stateOf g t) log → r ≡ sound? g t log
         sound-yes a b c d e f w h =
             let d′ : paged && single (λ c. 0) ≡ true = sym regrouped ∙ d in
-            h ∙ sym (sound-is ∙ rw (a, b, sym pairs-are ∙ c, and-left paged (single (λ c. 0)) d′, and-right paged (single (λ c. 0)) d′, sym born-is ∙ e, f, w))
+            h ∙ sym (sound-is ∙ rw
+            (a, b, sym pairs-are ∙ c, and-left paged (single (λ c. 0)) d′, and-right paged (single (λ c. 0)) d′, sym born-is ∙ e, f, w))

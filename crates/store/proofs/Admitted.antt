@@ -30,7 +30,13 @@ use Rattle.tables.specs.Outcome.{replied, tablesLeft, logLeft, outLeft}
 -- what the calls ask of their caller
 pub sound-ready : (g : Geometry) (t log : List ℕ) → Roomy g t → SoundStore g t log → Ready g t
 sound-ready g t log R s = record {
-  roomy = R; made = s .made; sound = sound-fine g t log s .sound; range = s .range; waiting = s .waiting; windows = s .windows; free = s .free;
+  roomy = R;
+  made = s .made;
+  sound = sound-fine g t log s .sound;
+  range = s .range;
+  waiting = s .waiting;
+  windows = s .windows;
+  free = s .free;
 }
 
 -- on a sound store and long enough memory the model's definitions are those read off the tables

@@ -73,12 +73,12 @@ sub-log-frees c =
     let closes = start .pre .3 in
     let at-test = at-seal .before .before in
     let enough = Closing.short-is (start .pre .0) _ _ _ closes _ (at-test .before .log-is-short .ensures) ∙ at-test .if1 .left in
-    let made = at-delete .delete-oldest .ensures in
+    let (counted, (deleted, freed)) = at-delete .delete-oldest .ensures in
     omega (
       arith,
       Closing.out-long (start .pre .0) _ _ _ closes _ (at-seal .seal-at .ensures .0) _ _ (at-line .line-of .ensures) (start .pre .4)
-          _ (at-surplus .surplus .ensures) _ (made .1 .0) _ (made .0) enough (start .args .out .now) (start .pre .2)
-          (at-seal .seal-at .result) (at-seal .seal-at .ensures .1) _ (made .1 .1),
+          _ (at-surplus .surplus .ensures) _ deleted _ counted enough (start .args .out .now) (start .pre .2)
+          (at-seal .seal-at .result) (at-seal .seal-at .ensures .1) _ freed,
       start .pre .2,
     )
 
@@ -92,12 +92,12 @@ part-log-frees-start c =
     let closes = start .pre .3 in
     let at-test = at-seal .before .before in
     let enough = Closing.short-is (start .pre .0) _ _ _ closes _ (at-test .before .log-is-short .ensures) ∙ at-test .if1 .left in
-    let made = at-delete .delete-oldest .ensures in
+    let (counted, (deleted, freed)) = at-delete .delete-oldest .ensures in
     omega (
       arith,
       Closing.out-long (start .pre .0) _ _ _ closes _ (at-seal .seal-at .ensures .0) _ _ (at-line .line-of .ensures) (start .pre .4)
-          _ (at-surplus .surplus .ensures) _ (made .1 .0) _ (made .0) enough (start .args .out .now) (start .pre .2)
-          (at-seal .seal-at .result) (at-seal .seal-at .ensures .1) _ (made .1 .1),
+          _ (at-surplus .surplus .ensures) _ deleted _ counted enough (start .args .out .now) (start .pre .2)
+          (at-seal .seal-at .result) (at-seal .seal-at .ensures .1) _ freed,
       start .pre .2,
     )
 
@@ -114,10 +114,10 @@ log-frees-requires c κs =
     let closes = start .pre .3 in
     let at-test = at-seal .before .before in
     let enough = Closing.short-is (start .pre .0) _ _ _ closes _ (at-test .before .log-is-short .ensures) ∙ at-test .if1 .left in
-    let made = at-delete .delete-oldest .ensures in
+    let (counted, (deleted, freed)) = at-delete .delete-oldest .ensures in
     Closing.log-needs (start .pre .0) _ _ _ closes _ (at-seal .seal-at .ensures .0) _ _ (at-line .line-of .ensures) (start .pre .4)
-    _ (at-surplus .surplus .ensures) _ (made .1 .0) _ (made .0) enough (start .args .out .now) (start .pre .2)
-    (at-seal .seal-at .result) (at-seal .seal-at .ensures .1) _ (made .1 .1) (start .args .log .now) (start .pre .1)
+    _ (at-surplus .surplus .ensures) _ deleted _ counted enough (start .args .out .now) (start .pre .2)
+    (at-seal .seal-at .result) (at-seal .seal-at .ensures .1) _ freed (start .args .log .now) (start .pre .1)
 
 mul-t29 : tie.Need-mul-t29
 mul-t29 c =
@@ -159,10 +159,10 @@ same-length-4 c =
     let closes = start .pre .3 in
     let at-test = at-seal .before .before in
     let enough = Closing.short-is (start .pre .0) _ _ _ closes _ (at-test .before .log-is-short .ensures) ∙ at-test .if1 .left in
-    let made = at-delete .delete-oldest .ensures in
+    let (counted, (deleted, freed)) = at-delete .delete-oldest .ensures in
     Closing.out-long (start .pre .0) _ _ _ closes _ (at-seal .seal-at .ensures .0) _ _ (at-line .line-of .ensures) (start .pre .4)
-    _ (at-surplus .surplus .ensures) _ (made .1 .0) _ (made .0) enough (start .args .out .now) (start .pre .2)
-    (at-seal .seal-at .result) (at-seal .seal-at .ensures .1) _ (made .1 .1)
+    _ (at-surplus .surplus .ensures) _ deleted _ counted enough (start .args .out .now) (start .pre .2)
+    (at-seal .seal-at .result) (at-seal .seal-at .ensures .1) _ freed
 
 returns-2 : tie.Need-returns-2
 returns-2 c =
@@ -174,11 +174,11 @@ returns-2 c =
     let closes = start .pre .3 in
     let at-test = at-seal .before .before in
     let enough = Closing.short-is (start .pre .0) _ _ _ closes _ (at-test .before .log-is-short .ensures) ∙ at-test .if1 .left in
-    let made = at-delete .delete-oldest .ensures in
+    let (counted, (deleted, freed)) = at-delete .delete-oldest .ensures in
     let logged = c .before .before .before .before .log-frees .ensures in
     Closing.closed-left (start .pre .0) _ _ _ closes _ (at-seal .seal-at .ensures .0) _ _ (at-line .line-of .ensures) (start .pre .4)
-    _ (at-surplus .surplus .ensures) _ (made .1 .0) _ (made .0) enough (start .args .out .now) (start .pre .2)
-    (at-seal .seal-at .result) (at-seal .seal-at .ensures .1) _ (made .1 .1) _ (start .args .log .now) _ (logged .0) (logged .1)
+    _ (at-surplus .surplus .ensures) _ deleted _ counted enough (start .args .out .now) (start .pre .2)
+    (at-seal .seal-at .result) (at-seal .seal-at .ensures .1) _ freed _ (start .args .log .now) _ (logged .0) (logged .1)
 
 pub close-spec : {M : Type 1} → statement M
 close-spec =

@@ -15,7 +15,8 @@ use Rattle.deleting.proofs.next.count_gone.Statement.{statement}
 use Rattle.deleting.proofs.next.count_gone.Tie as tie
 
 abbrev Inv-loop : tie.InvT-loop
-Inv-loop t g n p len count₀ i₀ count i = (i ≤ len) × (count ≤ i) × (len ≤ 256) × (count ≡ length (younger (viewOf g t) p (take i (viewOf g t .list n))))
+Inv-loop t g n p len count₀ i₀ count i = (i ≤ len) × (count ≤ i) × (len ≤ 256) ×
+    (count ≡ length (younger (viewOf g t) p (take i (viewOf g t .list n))))
 
 abbrev μ-loop : tie.MeasureT-loop
 μ-loop t g n p len count₀ i₀ count i = len - i

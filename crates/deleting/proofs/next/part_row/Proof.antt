@@ -16,7 +16,8 @@ use Rattle.deleting.proofs.next.part_row.Tie as tie
 abbrev Inv-loop : tie.InvT-loop
 Inv-loop t₀ g out₀ n p len count₀ kept₀ i₀ t out count kept i =
     (length t ≡ length t₀) × (length out ≡ length out₀) × (i ≤ len) × (len ≤ 256) × (count + kept ≡ i) ×
-    (count ≡ length (younger (viewOf g t₀) p (take i (viewOf g t₀ .list n)))) × (kept ≡ length (others (viewOf g t₀) p (take i (viewOf g t₀ .list n)))) ×
+    (count ≡ length (younger (viewOf g t₀) p (take i (viewOf g t₀ .list n)))) ×
+    (kept ≡ length (others (viewOf g t₀) p (take i (viewOf g t₀ .list n)))) ×
     (out ≡ sets out₀ 0 (younger (viewOf g t₀) p (take i (viewOf g t₀ .list n)))) ×
     (t ≡ sets t₀ (listCell (g .records) n 0) (others (viewOf g t₀) p (take i (viewOf g t₀ .list n))))
 

@@ -173,11 +173,11 @@ loop-again-2 c =
     let start = at-test .before .before .before .before in
     let some = (let z : 0 < turn .left = omega (arith, at-fork .before .before .if1 .left) in z) in
     let bare = ltb-false 0 _ (sym (at-fork .is-forked .ensures) ∙ at-wide2 .before .before .before .before .if2 .left) in
-    let made = c .before .before .before .before .delete-record .ensures in (
+    let (counted, (deleted, freed)) = c .before .before .before .before .delete-record .ensures in (
       omega arith,
       Trimming.walk-goes (start .pre .0) _ _ _ (start .args .most) _ _ (turn .done) (turn .left) (turn .i) (turn .inv .1)
           (at-test .loop-test .taken) some _ _ (at-wide .wide .ensures) (at-wide2 .wide2 .ensures) bare
-          _ (made .1 .0) _ (made .0) _ (made .1 .1) (start .pre .2),
+          _ deleted _ counted _ freed (start .pre .2),
     )
 
 same-length-3 : tie.Need-same-length-3 Inv-loop μ-loop
