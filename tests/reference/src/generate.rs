@@ -167,9 +167,10 @@ impl Course {
     fn next(&self, d: &mut Dice, mood: Mood, at: u32) -> Call {
         let youngest = self.open().last().copied();
         match (mood, youngest) {
-            (Mood::Roll, Some(n)) => self.room(d).unwrap_or_else(|| self.roll(d, n)),
-            (Mood::Window, Some(n)) => self.relieved(d).unwrap_or_else(|| self.window(d, n)),
-            (Mood::Fill, Some(n)) => self.room(d).unwrap_or_else(|| self.fill(d, n, at)),
+            (Mood::Roll, Some(n)) => self.room(d, 5, 1).unwrap_or_else(|| self.roll(d, n)),
+            // less often, so that seals meet full logs and full tables
+            (Mood::Window, Some(n)) => self.room(d, 12, 0).unwrap_or_else(|| self.window(d, n)),
+            (Mood::Fill, Some(n)) => self.room(d, 5, 1).unwrap_or_else(|| self.fill(d, n, at)),
             (Mood::Fork, Some(n)) => self.fork(d, n),
             (Mood::Rewrite, Some(n)) => self.released(d).unwrap_or_else(|| self.rewrite(d, n)),
             (Mood::Shrink, _) => call(d, &self.g, &self.store.numbers(), false),
@@ -177,12 +178,12 @@ impl Course {
         }
     }
 
-    /// What makes room, most of the time, where a call was refused.
-    fn room(&self, d: &mut Dice) -> Option<Call> {
-        match d.below(5) {
-            1 if self.refused => Some(Call::Compress),
-            2 if self.refused => Some(Call::Barrier),
-            3..=4 if self.refused => Some(Call::Delete(record(d, &self.store.numbers()))),
+    /// What makes room, some of the time, where a call was refused: four of `sides`, from the side `first` on, are a C, a Y and twice a D.
+    fn room(&self, d: &mut Dice, sides: u32, first: u32) -> Option<Call> {
+        match d.below(sides).checked_sub(first).filter(|_| self.refused)? {
+            0 => Some(Call::Compress),
+            1 => Some(Call::Barrier),
+            2..=3 => Some(Call::Delete(record(d, &self.store.numbers()))),
             _ => None,
         }
     }
@@ -212,16 +213,6 @@ impl Course {
             0 => Call::Seal(n),
             1 => Call::Erase(n, d.below(self.g[2])),
             _ => Call::Write(n, d.below(self.g[2]), d.below(3)),
-        }
-    }
-
-    /// What makes room, some of the time, where a call was refused: less often than elsewhere, so that seals meet full logs and full tables.
-    fn relieved(&self, d: &mut Dice) -> Option<Call> {
-        match d.below(12) {
-            0 if self.refused => Some(Call::Compress),
-            1 if self.refused => Some(Call::Barrier),
-            2..=3 if self.refused => Some(Call::Delete(record(d, &self.store.numbers()))),
-            _ => None,
         }
     }
 
