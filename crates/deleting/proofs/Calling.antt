@@ -17,13 +17,13 @@ use Rattle.geometry.specs.Limits.{blocks}
 use Rattle.log.specs.Word.{writeAt, bytesOf, released}
 use Rattle.model.specs.View.{View, predNum}
 use Rattle.model.specs.Effects.{unlinked, youngAt, pruned}
-use Rattle.model.specs.Actions.{slotOf, follower, forked, doD, Asks, deleteAt, delete}
+use Rattle.model.specs.Actions.{follower, doD, Asks, deleteAt, delete}
 use Rattle.model.specs.Held.{heldCount, deleted, frees}
 use Rattle.model.specs.Results.{paired}
 use Rattle.model.specs.State.{State, withView, withUsed, freeAll}
 use Rattle.model.specs.Calls.{slot, short, conditions, result, written, acted, effect}
 use Rattle.model.specs.Layout.{viewOf, stateOf, headerNumber, stored}
-use Rattle.model.specs.declared.Call.the-variants.{Delete}
+use Rattle.model.specs.Command.{Delete}
 use Rattle.model.proofs.DoneShaped.{done-shaped}
 use Rattle.model.proofs.Sizes.{done-sized}
 use Rattle.model.proofs.HeldFacts.{held-done}
@@ -43,7 +43,7 @@ use Rattle.deleting.proofs.Pairing.{firsts, take-paired, firsts-paired}
 use Rattle.deleting.proofs.Parting.{unlinked-short}
 use Rattle.deleting.proofs.Logging.{freed, map-length}
 use Rattle.deleting.proofs.Leaving.{deleted-fit}
-use Rattle.deleting.proofs.Verdicts.{ready-fine, acceptance}
+use Rattle.deleting.proofs.Verdicts.{ready-fine, Told, acceptance}
 
 -- ── how many blocks a last record frees ──
 
@@ -126,18 +126,16 @@ module _ (g : Geometry) (t : List ℕ) (R : Ready g t) (r : ℕ) (v : Verdict) (
   abbrev T : State
   T = stateOf g t
 
-  abbrev told :
-      (eqb (slotOf (stateOf g t .view) r) 0 ≡ false) × (ltb 0 (forked (stateOf g t .view) (slot (stateOf g t) r)) ≡ false) ×
-      (short g (stateOf g t) (Delete r) ≡ false) × (slot (stateOf g t) r ≡ s) × (follower (stateOf g t .view) (slot (stateOf g t) r) ≡ f)
+  abbrev told : Told g (stateOf g t) r s f
   told = acceptance g t r v ev s f d
 
   pub accept-asks : Asks (viewOf g t) (doD s)
   unfolding stateOf
-  accept-asks = subst (λ z. Asks K (doD z)) (told .3) (asks-D g (R .roomy .inside) T (ready-fine R) r (told .0) (told .1))
+  accept-asks = subst (λ z. Asks K (doD z)) (told .at) (asks-D g (R .roomy .inside) T (ready-fine R) r (told .eight) (told .ten))
 
   pub accept-follows : follower (viewOf g t) s ≡ f
   unfolding stateOf
-  accept-follows = ap (follower K) (sym (told .3)) ∙ told .4
+  accept-follows = ap (follower K) (sym (told .at)) ∙ told .next
 
   frees-few : length (deleted K s f) ≤ blocks g
   unfolding heldCount
@@ -156,14 +154,14 @@ module _ (g : Geometry) (t : List ℕ) (R : Ready g t) (r : ℕ) (v : Verdict) (
   -- the words that are written
   frees-are : frees (T .view) (doD (slot T r)) ≡ deleted K s f
   unfolding stateOf
-  frees-are = ap (λ z. deleted K z (follower K z)) (told .3) ∙ ap (deleted K s) accept-follows
+  frees-are = ap (λ z. deleted K z (follower K z)) (told .at) ∙ ap (deleted K s) accept-follows
 
   words-are : length (written g T (Delete r)) ≡ length (deleted K s f)
   words-are = map-length (frees (T .view) (doD (slot T r))) ∙ ap length frees-are
 
   pub accept-words : T .used + length (deleted (viewOf g t) s f) ≤ g .words
   accept-words =
-      omega (arith, ltb-false (g .words - T .used) (length (written g T (Delete r))) (told .2), words-are, R .range .used)
+      omega (arith, ltb-false (g .words - T .used) (length (written g T (Delete r))) (told .fourteen), words-are, R .range .used)
 
   -- what the result is
   abbrev numbers : List ℕ
@@ -176,7 +174,7 @@ module _ (g : Geometry) (t : List ℕ) (R : Ready g t) (r : ℕ) (v : Verdict) (
   pub accept-reply : replied g t (Delete r) ≡ accepted (paired (viewOf g t .birth) (deleted (viewOf g t) s f))
   unfolding replied
   accept-reply =
-      decide-accepts (conditions g T (Delete r)) (result g T (Delete r)) (told .0, (told .1, (told .2, tt))) ∙ ap accepted result-is
+      decide-accepts (conditions g T (Delete r)) (result g T (Delete r)) (told .eight, (told .ten, (told .eighteen, (told .fourteen, tt)))) ∙ ap accepted result-is
 
   -- the tables when the record is deleted
   module _ (t₁ : List ℕ) (e₁ : t₁ ≡ stored g (freeAll (deleted (viewOf g t) s f) (withView (stateOf g t) (deleteAt (viewOf g t) s f))) t) where
@@ -207,7 +205,7 @@ module _ (g : Geometry) (t : List ℕ) (R : Ready g t) (r : ℕ) (v : Verdict) (
             pages = z .pages ∙ S .pages;
             blocks = z .blocks ∙ S .blocks;
             mark = S .mark;
-            window = λ i h. S .window i (omega (arith, z .slots));
+            notes = S .notes;
             few = omega (arith, deleted-fit R s accept-asks f accept-follows, z .blocks ∙ S .blocks);
           };
         }
@@ -220,7 +218,7 @@ module _ (g : Geometry) (t : List ℕ) (R : Ready g t) (r : ℕ) (v : Verdict) (
           let m : ℕ = T .used + length (written g T (Delete r)) in
           ap (λ m. withUsed (left (delete K s)) (T .used + m)) (en ∙ sym words-are) ∙
           ap (λ l. freeAll l (withUsed (withView T (delete K s)) m)) (sym frees-are) ∙
-          ap (λ z. freeAll (frees (T .view) (doD (slot T r))) (withUsed (withView T (delete K z)) m)) (sym (told .3))
+          ap (λ z. freeAll (frees (T .view) (doD (slot T r))) (withUsed (withView T (delete K z)) m)) (sym (told .at))
 
       pub accept-tables : set t₁ 9 (getD t₁ 9 0 + n) ≡ tablesLeft g t (Delete r)
       unfolding tablesLeft

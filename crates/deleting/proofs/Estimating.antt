@@ -8,7 +8,7 @@ use native.Mathlib.Numerals.{add-one}
 use lib.Dec.{eqb, ltb}
 use lib.ListN.{length, getD, set, take, drop, drop-of-length-le}
 use lib.Seq.{sets, length-sets, getD-take, length-take-le, drop-cons}
-use borrow.Author.Tests.{eq-eqb, ne-eqb}
+use borrow.Author.Tests.{eq-eqb, ne-eqb, lt-ltb, le-ltb}
 use Rattle.answer.specs.declared.Answer.the-variants.{Done, Refused}
 use Rattle.answer.specs.Reply.{Reply, accepted, refused, replyOf}
 use Rattle.answer.specs.Refusal.{leaves}
@@ -22,8 +22,8 @@ use Rattle.model.specs.Held.{deleted, shardsAbove, shardsFreed}
 use Rattle.model.specs.Sorted.{sortedOnto, stretches}
 use Rattle.model.specs.State.{State}
 use Rattle.model.specs.Calls.{slot, result, written}
-use Rattle.model.specs.Layout.{viewOf, stateOf}
-use Rattle.model.specs.declared.Call.the-variants.{Delete, Estimate}
+use Rattle.model.specs.Layout.{nameCell, viewOf, stateOf}
+use Rattle.model.specs.Command.{Delete, Estimate}
 use Rattle.model.proofs.ListFacts.{of-keep}
 use Rattle.model.proofs.ShardFacts.{shards-stretch}
 use Rattle.tables.specs.Ready.{Ready, OutLong}
@@ -34,7 +34,7 @@ use Rattle.deleting.proofs.Buffers.{take-sets}
 use Rattle.deleting.proofs.Sifting.{length-sorted, of-sorted}
 use Rattle.deleting.proofs.Parting.{parts, freed-is}
 use Rattle.deleting.proofs.Logging.{map-length}
-use Rattle.deleting.proofs.Verdicts.{slot-is, has-slot}
+use Rattle.deleting.proofs.Verdicts.{slot-is, has-slot, names-are}
 
 -- ── the stretches of one birth ──
 
@@ -173,8 +173,15 @@ module _ (g : Geometry) (t out : List ℕ) (r l : ℕ) (el : l ≡ slotOf (viewO
     unfolding replied
     has-a-fork y = refuse g t r 10 out (rw (has-slot g t r l el n, fork-is ∙ y))
 
+    module _ (none : f ≡ false) (below : l ≤ g .records) where
+      pub has-a-name : 0 < getD t (nameCell (l - 1)) 0 → (replyOf (Refused 18) out ≡ replied g t (Estimate r)) × (out ≡ outLeft g t out (Estimate r))
+      unfolding replied
+      has-a-name h =
+          let y = lt-ltb 0 (T .notes .names (slot T r)) (omega (arith, names-are g t r l el n below)) in
+          refuse g t r 18 out (rw (has-slot g t r l el n, fork-is ∙ none, y))
+
     -- o is the link of what follows; a blocks are freed, of v shards
-    module _ (none : f ≡ false) (o : ℕ) (eo : o ≡ follower (viewOf g t) (l - 1)) (a v : ℕ)
+    module _ (none : f ≡ false) (below : l ≤ g .records) (nameless : getD t (nameCell (l - 1)) 0 ≤ 0) (o : ℕ) (eo : o ≡ follower (viewOf g t) (l - 1)) (a v : ℕ)
         (ea : a ≡ length (deleted (viewOf g t) (l - 1) o)) (ev : v ≡ shardsFreed (viewOf g t) (l - 1) o) where
       freed : length (deleted (viewOf g t) (slot T r) (follower (viewOf g t) (slot T r))) ≡ a
       freed =
@@ -198,7 +205,9 @@ module _ (g : Geometry) (t out : List ℕ) (r l : ℕ) (el : l ≡ slotOf (viewO
 
       told : replied g t (Estimate r) ≡ accepted (result g T (Estimate r))
       unfolding replied
-      told = rw (has-slot g t r l el n, fork-is ∙ none) refl
+      told =
+          let y = le-ltb 0 (T .notes .names (slot T r)) (omega (arith, names-are g t r l el n below)) in
+          rw (has-slot g t r l el n, fork-is ∙ none, y) refl
 
       pub answered : OutLong g out →
           (replyOf (Done 3) (set (set (set out 0 a) 1 a) 2 v) ≡ replied g t (Estimate r)) ×

@@ -6,7 +6,7 @@ use Rattle.geometry.specs.declared.Geometry.{Geometry}
 use Rattle.model.specs.Actions.{slotOf, follower, forked}
 use Rattle.model.specs.State.{State}
 use Rattle.model.specs.Calls.{slot, short}
-use Rattle.model.specs.declared.Call.the-variants.{Delete}
+use Rattle.model.specs.Command.{Delete}
 use Rattle.deleting.specs.declared.delete.Verdict.{Verdict}
 use Rattle.deleting.specs.declared.delete.Verdict.the-variants.{Refused, Accept}
 
@@ -14,4 +14,5 @@ unfoldable pub verdictOf : Geometry → State → ℕ → Verdict
 verdictOf g T r =
     cond (eqb (slotOf (T .view) r) 0) (Refused 8)
     (cond (ltb 0 (forked (T .view) (slot T r))) (Refused 10)
-    (cond (short g T (Delete r)) (Refused 14) (Accept (slot T r) (follower (T .view) (slot T r)))))
+    (cond (ltb 0 (T .notes .names (slot T r))) (Refused 18)
+    (cond (short g T (Delete r)) (Refused 14) (Accept (slot T r) (follower (T .view) (slot T r))))))

@@ -7,7 +7,7 @@ ghost use lib.ListN.{length, getD, set, take};
 ghost use lib.Seq.{sets};
 ghost use Rattle.answer.specs.Reply.{replyOf};
 ghost use Rattle.log.specs.Word.{writeAt, bytesOf, released};
-ghost use Rattle.model.specs.declared.Call.the-variants.{Delete};
+ghost use Rattle.model.specs.Command.{Delete};
 ghost use Rattle.geometry.specs.Limits.{blocks};
 ghost use Rattle.model.specs.Actions.{doD, Asks, follower, deleteAt};
 ghost use Rattle.model.specs.State.{withView, freeAll};
@@ -27,6 +27,7 @@ use geometry::Geometry;
 use log::word::append;
 use tables::births::free_block;
 use tables::cells::LENGTH;
+use tables::cells::NAMES;
 use tables::cells::NUMBER;
 use tables::cells::PAGES;
 use tables::cells::ROWS;
@@ -77,6 +78,9 @@ fn delete_verdict(t: &[u32], g: Geometry, number: u32, link: usize) -> Verdict
     let s = link - 1;
     if is_forked(t, g, s) {
         return Verdict::Refused(10);
+    }
+    if 0 < t[NAMES + s] {
+        return Verdict::Refused(18);
     }
     let follower = follower_of(t, g, s);
     if log_is_short(t, g, s, follower) {

@@ -5,7 +5,7 @@ ghost use lib.ListN.{length, getD, take};
 ghost use lib.Seq.{sets};
 ghost use Rattle.answer.specs.Reply.{replyOf};
 ghost use Rattle.geometry.specs.Limits.{blocks};
-ghost use Rattle.model.specs.declared.Call.the-variants.{Estimate};
+ghost use Rattle.model.specs.Command.{Estimate};
 ghost use Rattle.model.specs.View.{predNum};
 ghost use Rattle.model.specs.Held.{shardsAbove, shardsFreed};
 ghost use Rattle.model.specs.Sorted.{stretches};
@@ -18,6 +18,7 @@ use crate::sort::sort_by_birth;
 use answer::Answer;
 use geometry::Geometry;
 use tables::cells::LENGTH;
+use tables::cells::NAMES;
 use tables::cells::PAGES;
 use tables::cells::ROW;
 use tables::cells::ROWS;
@@ -110,6 +111,9 @@ pub fn estimate(g: Geometry, t: &[u32], out: &mut [u32], number: u32, link: usiz
     let s = link - 1;
     if is_forked(t, g, s) {
         return Answer::Refused(10);
+    }
+    if 0 < t[NAMES + s] {
+        return Answer::Refused(18);
     }
     let follower = follower_of(t, g, s);
     let blocks = count_frees(t, g, s, follower);

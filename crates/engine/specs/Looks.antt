@@ -1,4 +1,4 @@
--- The calls that only look: R, L and Q. (K looks too, and notes a window.)
+-- The calls of a letter and numbers that only look: R, L and Q. (K looks too, and notes a window; M comes with a name.)
 use mathlib.Core.Bool.{Bool, true, false, cond}
 use mathlib.Core.Option.{Option, none, some}
 use Rattle.model.specs.declared.Call.{Call}

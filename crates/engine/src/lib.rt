@@ -1,8 +1,10 @@
-// The twelve calls on tables that are known to be sound. Internal: `store` is what users call.
+// The fifteen calls on tables that are known to be sound: twelve of a letter and numbers, and the three of names. Internal: `store` is what users call.
 pub mod looks;
+pub mod names;
 
 ghost use mathlib.Core.Path.{_≡_};
 ghost use Rattle.answer.specs.Reply.{replyOf};
+ghost use Rattle.model.specs.Command.{command};
 ghost use Rattle.tables.specs.Ready.{Ready, OutLong, LogLong, LinkOf, recordOf};
 ghost use Rattle.tables.specs.Outcome.{replied, tablesLeft, logLeft, outLeft};
 ghost use Rattle.engine.specs.Looks.{lookCall};
@@ -25,7 +27,7 @@ use retaining::seal;
 
 // The number of the record that a call is on, 0 for a call that is on none.
 pub fn record_of(c: Call) -> u32
-    ensures { λ r. ⌜ r ≡ recordOf c ⌝ }
+    ensures { λ r. ⌜ r ≡ recordOf (command c) ⌝ }
 {
     match c {
         Call::Begin => 0,
@@ -53,11 +55,11 @@ pub fn perform(
     c: Call,
     link: usize,
 ) -> Answer
-    requires { ⌜ Ready g (now t) × LogLong g (now log) × OutLong g (now out) × LinkOf g (now t) (recordOf c) link ⌝ }
-    ensures reply { λ r. ⌜ replyOf r (now (out .exit)) ≡ replied g (now (t .entry)) c ⌝ }
-    ensures tables { λ r. ⌜ now (t .exit) ≡ tablesLeft g (now (t .entry)) c ⌝ }
-    ensures log { λ r. ⌜ now (log .exit) ≡ logLeft g (now (t .entry)) (now (log .entry)) c ⌝ }
-    ensures out { λ r. ⌜ now (out .exit) ≡ outLeft g (now (t .entry)) (now (out .entry)) c ⌝ }
+    requires { ⌜ Ready g (now t) × LogLong g (now log) × OutLong g (now out) × LinkOf g (now t) (recordOf (command c)) link ⌝ }
+    ensures reply { λ r. ⌜ replyOf r (now (out .exit)) ≡ replied g (now (t .entry)) (command c) ⌝ }
+    ensures tables { λ r. ⌜ now (t .exit) ≡ tablesLeft g (now (t .entry)) (command c) ⌝ }
+    ensures log { λ r. ⌜ now (log .exit) ≡ logLeft g (now (t .entry)) (now (log .entry)) (command c) ⌝ }
+    ensures out { λ r. ⌜ now (out .exit) ≡ outLeft g (now (t .entry)) (now (out .entry)) (command c) ⌝ }
 {
     match c {
         Call::Begin => begin(g, t, out),
@@ -77,9 +79,9 @@ pub fn perform(
 
 // A look at tables that are lent to be read, with the link of the record that it is on.
 pub fn look(g: Geometry, t: &[u32], out: &mut [u32], c: looks::Look, link: usize) -> Answer
-    requires { ⌜ Ready g (now t) × OutLong g (now out) × LinkOf g (now t) (recordOf (lookCall c)) link ⌝ }
-    ensures reply { λ r. ⌜ replyOf r (now (out .exit)) ≡ replied g (now (t .entry)) (lookCall c) ⌝ }
-    ensures out { λ r. ⌜ now (out .exit) ≡ outLeft g (now (t .entry)) (now (out .entry)) (lookCall c) ⌝ }
+    requires { ⌜ Ready g (now t) × OutLong g (now out) × LinkOf g (now t) (recordOf (command (lookCall c))) link ⌝ }
+    ensures reply { λ r. ⌜ replyOf r (now (out .exit)) ≡ replied g (now (t .entry)) (command (lookCall c)) ⌝ }
+    ensures out { λ r. ⌜ now (out .exit) ≡ outLeft g (now (t .entry)) (now (out .entry)) (command (lookCall c)) ⌝ }
 {
     match c {
         looks::Look::Read(n, page) => read(g, t, out, n, link, page),

@@ -1,6 +1,7 @@
 // The calls that only look, as a type of their own: they need tables and log only to be read.
 ghost use mathlib.Core.Path.{_≡_};
 ghost use mathlib.Core.Option.{some};
+ghost use Rattle.model.specs.Command.{command};
 ghost use Rattle.tables.specs.Ready.{recordOf};
 ghost use Rattle.engine.specs.Looks.{lookCall, onlyLooks, seenCall};
 use model::Call;
@@ -20,7 +21,7 @@ pub enum Seen {
 
 // The number of the record that a look is on, 0 for none.
 pub fn record_seen(c: Look) -> u32
-    ensures { λ r. ⌜ r ≡ recordOf (lookCall c) ⌝ }
+    ensures { λ r. ⌜ r ≡ recordOf (command (lookCall c)) ⌝ }
 {
     match c {
         Look::Read(n, _) => n,

@@ -3,7 +3,8 @@ use mathlib.Core.Path.{_≡_, refl, sym, ap, ap₂, _∙_, subst}
 use mathlib.Core.Logic.{_⊎_, _↔_}
 use mathlib.Core.Bool.{true, false}
 use mathlib.Core.List.{List, [], _∷_, _++_, map}
-use Prim.Native.Nat.{ℕ, _+_}
+use Prim.Native.Nat.{ℕ, _+_, _≤_}
+use lib.ListN.{length}
 use Rattle.answer.specs.Reply.{Reply, accepted, refused}
 use Rattle.answer.specs.Refusal.{NoneBefore}
 use Rattle.geometry.specs.declared.Geometry.{Geometry}
@@ -14,9 +15,10 @@ use Rattle.model.specs.Results.{numbersOf}
 use Rattle.model.specs.State.{State, fresh}
 use Rattle.model.specs.Memory.{makeAfter}
 use Rattle.model.specs.History.{Entry, events, entryOf, told, bookFrom, book, stateFrom, historyFrom, unsynced}
-use Rattle.model.specs.HistoryFacts.{HistoryFacts, givenIn, freedIn, different, Sealed, Names, LastGave}
+use Rattle.model.specs.NameBook.{HasName, OnceNamed, InBook, OpenIn, SealMoved}
+use Rattle.model.specs.HistoryFacts.{HistoryFacts, givenIn, freedIn, different, Sealed, Names, LastGave, ResolveIs}
 use Rattle.model.specs.Model.{Screened, screenedConditions, answer, modelAfter, model}
-use Rattle.model.specs.declared.Call.{Call}
+use Rattle.model.specs.Command.{Command}
 use Rattle.model.proofs.ByNumber.{earlier-iff}
 use Rattle.model.proofs.ModelFacts.{all-ordered}
 use Rattle.model.proofs.Fine.{Fine}
@@ -35,7 +37,7 @@ use Rattle.ledger.proofs.OwnToldProof.{own-book, fresh-owned}
 
 -- ── the book inside the ledger is the book ──
 
-book-step : (g : Geometry) (L : Ledger) (c : Call) → step g L c .book ≡ enter (g .pages) (L .book) (told (entryOf (clerk g) L c))
+book-step : (g : Geometry) (L : Ledger) (c : Command) → step g L c .book ≡ enter (g .pages) (L .book) (told (entryOf (clerk g) L c))
 unfolding step noted
 book-step g L c = book-entered g L c (says g L c) (λ l e. e)
 
@@ -55,16 +57,16 @@ ledger-book = record {
 
 -- ── beside the model: the calls are those that meet none of 2, 3 and 4 ──
 
-abbrev pub plains : List Call → List Screened
+abbrev pub plains : List Command → List Screened
 plains l = map plain l
 
-pub plains-append : (l m : List Call) → plains (l ++ m) ≡ plains l ++ plains m
+pub plains-append : (l m : List Command) → plains (l ++ m) ≡ plains l ++ plains m
 plains-append [] m = refl
 plains-append (c ∷ l) m = ap {B = List Screened} (λ k. plain c ∷ k) (plains-append l m)
 
 module _ (g : Geometry) (inside : Inside g) where
   -- the two machines side by side
-  pub beside : (l : List Call) (L : Ledger) (T : State) → Fine g T → Tells g L T →
+  pub beside : (l : List Command) (L : Ledger) (T : State) → Fine g T → Tells g L T →
       Fine g (stateFrom (model g) T (plains l)) × Tells g (stateFrom (clerk g) L l) (stateFrom (model g) T (plains l)) ×
       (historyFrom (model g) T (plains l) ≡ historyFrom (clerk g) L l)
   beside [] L T fine t = (fine, t, refl)
@@ -76,18 +78,18 @@ module _ (g : Geometry) (inside : Inside g) where
       let d : entryOf (model g) T (plain c) ≡ entryOf (clerk g) L c = λ i. record { call = c; answer = e i } in
       (r .0, r .1, ap₂ {C = List Entry} (λ x m. x ∷ m) d (r .2))
 
-  -- what a call meets before 13, by the ledger and by the model: it is read off the reply, which is the same
-  none-told : (L : Ledger) (T : State) → Fine g T → Tells g L T → (c : Call) →
-      NoneBefore 13 (screenedConditions g T (plain c)) ↔ NoneBefore 13 (refusalsOf g L c)
+  -- what a call meets before k, by the ledger and by the model: it is read off the reply, which is the same
+  none-told : (L : Ledger) (T : State) → Fine g T → Tells g L T → (c : Command) (k : ℕ) →
+      NoneBefore k (screenedConditions g T (plain c)) ↔ NoneBefore k (refusalsOf g L c)
   unfolding answer says
-  none-told L T fine t c =
+  none-told L T fine t c k =
       let same : answer g T (plain c) ≡ says g L c = plain-told g inside c L T fine t in
-      let m = earlier-iff (screenedConditions g T (plain c)) (result g T c) 1 (all-ordered g T (plain c)) 13 in
-      let l = earlier-iff (refusalsOf g L c) (numbersOf (account g L c .result)) 4 (Rattle.ledger.proofs.EachTold.told c .ordered g L) 13 in
+      let m = earlier-iff (screenedConditions g T (plain c)) (result g T c) 1 (all-ordered g T (plain c)) k in
+      let l = earlier-iff (refusalsOf g L c) (numbersOf (account g L c .result)) 4 (Rattle.ledger.proofs.EachTold.told c .ordered g L) k in
       (λ h. l .1 (λ n e d. m .0 h n e (same ∙ d)), λ h. m .1 (λ n e d. l .0 h n e (sym same ∙ d)))
 
   -- what the calls ahead of one lead to
-  module _ (before : List Call) where
+  module _ (before : List Command) where
     abbrev L : Ledger
     L = stateFrom (clerk g) Rattle.ledger.specs.Ledger.fresh before
 
@@ -97,7 +99,7 @@ module _ (g : Geometry) (inside : Inside g) where
     side : Fine g T × Tells g L T × (historyFrom (model g) (fresh g) (plains before) ≡ historyFrom (clerk g) Rattle.ledger.specs.Ledger.fresh before)
     side = beside before Rattle.ledger.specs.Ledger.fresh (fresh g) (fresh-fine g inside) (fresh-tells g inside)
 
-    same-answer : (c : Call) → answer g T (plain c) ≡ says g L c
+    same-answer : (c : Command) → answer g T (plain c) ≡ says g L c
     same-answer c = plain-told g inside c L T (side .0) (side .1)
 
     whole : WholeList (clerk g) (g .pages) (blocks g) Rattle.ledger.specs.Ledger.fresh before
@@ -107,7 +109,7 @@ module _ (g : Geometry) (inside : Inside g) where
         record {
           full = λ w r x k e.
               let i = W .full (plain w) r x k e in
-              let n = none-told L T (side .0) (side .1) w in (
+              let n = none-told L T (side .0) (side .1) w 13 in (
                 λ a. let q = i .0 (same-answer w ∙ a) in (n .0 (q .0), λ b l. subst (λ h. OnPage (book (g .pages) h) b ⊎ (unsynced h b ≡ true)) H (q .1 b l)),
                 λ q. sym (same-answer w) ∙ i .1 (n .1 (q .0), λ b l. subst (λ h. OnPage (book (g .pages) h) b ⊎ (unsynced h b ≡ true)) (sym H) (q .1 b l)),
               );
@@ -117,7 +119,7 @@ module _ (g : Geometry) (inside : Inside g) where
           frees = λ xs ys b e. W .frees xs ys b (ap events H ∙ e);
         }
 
-  facts : (before : List Call) → HistoryFacts (clerk g) (g .pages) (blocks g) Rattle.ledger.specs.Ledger.fresh before
+  facts : (before : List Command) → HistoryFacts (clerk g) (g .pages) (blocks g) Rattle.ledger.specs.Ledger.fresh before
   facts before =
       let W = history-facts g inside (plains before) in
       let H = side before .2 in
@@ -135,6 +137,24 @@ module _ (g : Geometry) (inside : Inside g) where
             (W .birth-is (plain i) b v (subst (Names b v) e n));
         given-after-barrier = λ xs ys zs e f b s. W .given-after-barrier xs ys zs e f b (H ∙ s);
         listed-after-barrier = λ xs ys zs e f b s. W .listed-after-barrier xs ys zs e f b (H ∙ s);
+        resolve-is = λ i l e v n.
+            subst (λ h. ResolveIs (book (g .pages) h .names) l (says g (L before) i)) H
+            (subst (ResolveIs (book (g .pages) (historyFrom (model g) (fresh g) (plains before)) .names) l) (same-answer before i)
+            (W .resolve-is (plain i) l e v (none-told (L before) (T before) (side before .0) (side before .1) i 5 .1 n)));
+        names-few = subst (λ h. length (book (g .pages) h .names) ≤ 32) H (W .names-few);
+        names-valid = λ l r n. W .names-valid l r (subst (λ h. HasName (book (g .pages) h .names) l r) (sym H) n);
+        names-once = subst (λ h. OnceNamed (book (g .pages) h .names)) H (W .names-once);
+        open-one = λ r l k o a b.
+            W .open-one r l k (subst (λ h. OpenIn (book (g .pages) h) r) (sym H) o)
+            (subst (λ h. HasName (book (g .pages) h .names) l r) (sym H) a) (subst (λ h. HasName (book (g .pages) h .names) k r) (sym H) b);
+        named-stays = λ l r n.
+            subst (λ h. InBook (book (g .pages) h) r) H (W .named-stays l r (subst (λ h. HasName (book (g .pages) h .names) l r) (sym H) n));
+        seal-moves = λ i r m rest e a.
+            let w = W .seal-moves (plain i) r m rest e (same-answer before i ∙ a) in
+            let K : List Screened = plains before ++ (plain i ∷ []) in
+            subst (λ h. SealMoved (book (g .pages) (historyFrom (clerk g) Rattle.ledger.specs.Ledger.fresh before) .names) (book (g .pages) h .names) r m)
+            (ap (historyFrom (model g) (fresh g)) (sym (plains-append before (i ∷ []))) ∙ side (before ++ (i ∷ [])) .2)
+            (subst (λ h. SealMoved (book (g .pages) h .names) (book (g .pages) (historyFrom (model g) (fresh g) K) .names) r m) H w);
       }
 
 -- DEMAND 3 AND THE TWO FACTS, OF THE LEDGER ALONE

@@ -1,4 +1,4 @@
--- EVERY SOUND VIEW HAS A BOOK: a line for each record that none stands before, with the records that follow it.
+-- EVERY SOUND VIEW HAS A BOOK: a line for each record that none stands before, with the records that follow it; and the names of the rows in use.
 use mathlib.Core.Path.{_≡_, refl, sym, ap, _∙_, subst}
 use mathlib.Core.Logic.{_⊎_, inl, inr}
 use mathlib.Core.Bool.{Bool, true, cond, _&&_, true≢false}
@@ -18,9 +18,11 @@ use Rattle.model.specs.Book.{Rec, Line, Book, Some, inRecs, windowWith}
 use Rattle.model.proofs.Agree.{Every, Row, Agree}
 use Rattle.model.proofs.BookFacts.{in-recs, of-recs}
 use Rattle.model.proofs.Windows.{WindowsAgree}
+use Rattle.model.proofs.NameActions.{NamesFit, NamesTold}
 use Rattle.model.proofs.ListFacts.{of-append, pw-append}
 use Rattle.model.proofs.DoneSound.{and-l, and-r, hit, miss}
 use Rattle.ledger.proofs.Numbers.{numbersOf, numbersIn, Full}
+use Rattle.ledger.proofs.RowNames.{rowNames, rows-agree}
 
 -- the record in slot s
 abbrev recAt : View → ℕ → Rec
@@ -52,7 +54,7 @@ linesFrom K N s (suc n) = cond (isFirst K s) (lineAt K N s ∷ linesFrom K N (su
 
 unfoldable pub bookOf : View → Notes → Book
 unfolding linesFrom chain windowFrom
-bookOf K N = record { last = K .last; lines = linesFrom K N 0 (K .slots) }
+bookOf K N = record { last = K .last; lines = linesFrom K N 0 (K .slots); names = rowNames K (N .titles) 32 }
 
 -- t is h, or comes after it in its line
 data From (K : View) (h : ℕ) : ℕ → Type 0 where
@@ -349,3 +351,8 @@ module _ (K : View) (N : Notes) (S : Sound K) where
   pub book-windows : WindowsAgree K N (bookOf K N)
   unfolding bookOf
   book-windows s k o = window-of (K .num s) (N .window s) (linesFrom K N 0 (K .slots)) (windows-in s k o (K .slots) 0) (stored s k)
+
+-- AND ITS NAMES, of rows and counts that agree
+pub book-names : (K : View) (N : Notes) → NamesFit K N → NamesTold K N (bookOf K N .names)
+unfolding bookOf
+book-names K N F = rows-agree K (N .titles) (N .names) F

@@ -18,7 +18,7 @@ use Rattle.model.specs.Calls.{result, written}
 use Rattle.model.specs.Crash.{isC}
 use Rattle.model.specs.Layout.{stateOf}
 use Rattle.model.specs.Memory.{Memory, writtenAt, reply, after}
-use Rattle.model.specs.declared.Call.{Call}
+use Rattle.model.specs.Command.{Command}
 use Rattle.model.proofs.Fine.{Fine}
 use Rattle.model.proofs.Keeps.{accepted-is}
 use Rattle.model.proofs.ResultSize.{accepted-short}
@@ -33,7 +33,7 @@ sets-front : (l out : List ℕ) → length l ≤ length out → sets out 0 l ≡
 sets-front l out h = sets-eq l out 0 (omega arith) ∙ ap (λ (k : ℕ). l ++ drop k out) (zero-add (length l))
 
 -- THE RESULT BUFFER: the reply's numbers, and nothing else
-pub out-left : (g : Geometry) (N : Memory) (c : Call) → after g N c .out ≡ outAfter (reply g N c) (N .out)
+pub out-left : (g : Geometry) (N : Memory) (c : Command) → after g N c .out ≡ outAfter (reply g N c) (N .out)
 unfolding after outAfter
 out-left g N c = go (reply g N c) refl
   where
@@ -43,7 +43,7 @@ out-left g N c = go (reply g N c) refl
         ap (λ (m : List ℕ). sets (N .out) 0 m) (accepted-is g N c l e .1) ∙ sets-front l (N .out) (omega (arith, accepted-short g N c l e))
 
 -- the words of a call go behind those that are there, those of C to the start
-written-at : (g : Geometry) (L : Ledger) (T : State) → Tells g L T → (c : Call) → writtenAt T c ≡ 8 * length (account g L c .leaving .log)
+written-at : (g : Geometry) (L : Ledger) (T : State) → Tells g L T → (c : Command) → writtenAt T c ≡ 8 * length (account g L c .leaving .log)
 written-at g L T t c =
     cases (either (isC c))
     (λ y. ap (λ b. cond b 0 (8 * T .used)) y ∙ sym (ap (λ (m : List ℕ). 8 * length m) (told c .log g L ∙ ap (λ b. cond b [] (L .log)) y)))
@@ -51,7 +51,7 @@ written-at g L T t c =
     sym (ap (λ (m : List ℕ). 8 * length m) (told c .log g L ∙ ap (λ b. cond b [] (L .log)) y)))
 
 -- THE LOG: the ledger's words, and every other byte as it was
-pub log-left : (g : Geometry) (L : Ledger) → Inside g → (N : Memory) → Fine g (stateOf g (N .tables)) → Tells g L (stateOf g (N .tables)) → (c : Call) →
+pub log-left : (g : Geometry) (L : Ledger) → Inside g → (N : Memory) → Fine g (stateOf g (N .tables)) → Tells g L (stateOf g (N .tables)) → (c : Command) →
     after g N c .log ≡ leaves (reply g N c) (N .log) (writeAt (N .log) (8 * length (account g L c .leaving .log)) (bytesOf (account g L c .words)))
 unfolding after
 log-left g L inside N fine t c = go (reply g N c) refl

@@ -18,12 +18,12 @@ use Rattle.model.specs.Calls.{looking, asNoted, renews, wordsBy, leftBy, condit
 use Rattle.model.specs.History.{firstGiven, eventsOf}
 use Rattle.model.specs.Crash.{isC}
 use Rattle.model.specs.declared.Spelling.{Spelling}
-use Rattle.model.specs.declared.Call.{Call}
-use Rattle.model.specs.declared.Call.the-variants.{Begin, Write, Erase, Seal, Fork, Delete, Read, Barrier, Compress, FreeList, Estimate, Retain}
+use Rattle.model.specs.Command.{Command}
+use Rattle.model.specs.Command.{Begin, Write, Erase, Seal, Fork, Delete, Read, Barrier, Compress, FreeList, Estimate, Retain, Attach, Detach, Resolve}
 use Rattle.model.proofs.ByNumber.{none-at}
 use Rattle.model.proofs.Fine.{Fine}
 use Rattle.model.proofs.Closing.{closing-first, closing-12}
-use Rattle.ledger.specs.BookReading.{blockOn}
+use Rattle.ledger.specs.BookReading.{blockOn, carriers}
 use Rattle.ledger.specs.Ledger.{Ledger, withBirths, isFree, young, freedBy, picked, runsIn, afterKill, afterGiving, afterDelete, afterClearing, closed}
 use Rattle.ledger.specs.Ledger.{account, refusalsOf, blockGiven, keeps}
 use Rattle.ledger.proofs.Tells.{Tells, Answered, Keeping, unmoved, still-told, list-answered}
@@ -36,22 +36,23 @@ use Rattle.ledger.proofs.EstimateTold.{estimate-answered}
 use Rattle.ledger.proofs.GrowKept.{begin-kept, fork-kept}
 use Rattle.ledger.proofs.SealTold.{closed-freed, closed-log, seal-answered, seal-kept}
 use Rattle.ledger.proofs.RetainTold.{retain-answered, retain-kept}
+use Rattle.ledger.proofs.NamingTold.{attach-answered, attach-kept, detach-answered, detach-kept, resolve-answered}
 use Rattle.ledger.proofs.KillKept.{erase-kept, write-kept}
 use Rattle.ledger.proofs.DeleteKept.{delete-kept}
 
 -- its log words are the model's
-abbrev pub Words : Call → Type 0
+abbrev pub Words : Command → Type 0
 Words c = (g : Geometry) (L : Ledger) (T : State) → Inside g → Fine g T → Tells g L T → NoneHolds (conditions g T c) → account g L c .words ≡ written g T c
 
 -- its items are its numbers, by the spelling of the call
-abbrev pub Spells : Call → Type 0
+abbrev pub Spells : Command → Type 0
 Spells c = (g : Geometry) (L : Ledger) → itemsOf (spelling c) (numbersOf (account g L c .result)) ≡ account g L c .result
 
 -- all that it may be turned away for stands in the order of the refusals, after 4
-abbrev pub InOrder : Call → Type 0
+abbrev pub InOrder : Command → Type 0
 InOrder c = (g : Geometry) (L : Ledger) → Ordered 4 (refusalsOf g L c)
 
-pub record Told (c : Call) : Type 0 where
+pub record Told (c : Command) : Type 0 where
   -- it is answered as the ledger says, and leaves what the ledger keeps
   pub answered : Answered c
   pub keeping : Keeping c
@@ -68,10 +69,10 @@ pub record Told (c : Call) : Type 0 where
 -- ── a call that looks only ──
 
 -- in the ledger: it writes nothing and leaves all
-abbrev pub Still : Call → Type 0
+abbrev pub Still : Command → Type 0
 Still c = (g : Geometry) (L : Ledger) → (account g L c .words ≡ []) × (account g L c .leaving ≡ L)
 
-module _ (c : Call) {s : Spelling} {cs : Geometry → State → List Condition} {res : Geometry → State → List ℕ}
+module _ (c : Command) {s : Spelling} {cs : Geometry → State → List Condition} {res : Geometry → State → List ℕ}
     (e : model.account c ≡ looking s cs res asNoted) (unread : (P : ℕ) (B : Book) (b : ℕ) → accept P B c b ≡ B) (z : Still c) where
   still-kept : Keeping c
   unfolding keeps
@@ -111,9 +112,14 @@ unfolding flatMap numbersOf
 items-runs [] = refl
 items-runs (s ∷ l) = ap {B = List Item} (λ m. plain (s .0) ∷ plain (s .1) ∷ m) (items-runs l)
 
+items-plain : (ns : List ℕ) → map plain (numbersOf (map plain ns)) ≡ map plain ns
+unfolding numbersOf
+items-plain [] = refl
+items-plain (n ∷ ns) = ap {B = List Item} (λ l. plain n ∷ l) (items-plain ns)
+
 -- ── each call ──
 
-pub told : (c : Call) → Told c
+pub told : (c : Command) → Told c
 unfolding account afterKill afterGiving afterDelete afterClearing itemsOf numbersOf bornIn oneThenBorn afterFirst blockGiven blocksIn
 told Begin = record {
   answered = begin-answered;
@@ -200,3 +206,23 @@ told (Retain r k) = record {
   block = λ g L B. refl;
   ordered = λ g L. omega arith;
 }
+told (Attach l r) = record {
+  answered = attach-answered l r;
+  keeping = attach-kept l r;
+  words = λ g L T inside fine t n. refl;
+  log = λ g L. refl;
+  items = λ g L. refl;
+  block = λ g L B. refl;
+  ordered = λ g L. omega arith;
+}
+told (Detach l) = record {
+  answered = detach-answered l;
+  keeping = detach-kept l;
+  words = λ g L T inside fine t n. refl;
+  log = λ g L. refl;
+  items = λ g L. refl;
+  block = λ g L B. refl;
+  ordered = λ g L. omega arith;
+}
+told (Resolve l) =
+    looks-told (Resolve l) refl (λ P B b. refl) (λ g L. (refl, refl)) (resolve-answered l) (λ g L. items-plain (carriers (L .book) l)) (λ g L. omega arith)

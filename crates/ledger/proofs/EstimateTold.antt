@@ -19,7 +19,7 @@ use Rattle.model.specs.Held.{bit, tally, shardsAbove, shardsFreed}
 use Rattle.model.specs.Actions.{follower, slotOf}
 use Rattle.model.specs.State.{State}
 use Rattle.model.specs.Calls.{slot}
-use Rattle.model.specs.declared.Call.the-variants.{Estimate}
+use Rattle.model.specs.Command.{Estimate}
 use Rattle.model.proofs.Fine.{Fine}
 use Rattle.model.proofs.ListFacts.{keep-append}
 use Rattle.model.proofs.Tally.{tally-ext}
@@ -28,6 +28,7 @@ use Rattle.ledger.specs.Ledger.{Ledger, rising, shardOf, shardsIf, accou
 use Rattle.ledger.proofs.BookRead.{Reading}
 use Rattle.ledger.proofs.RisingFacts.{rising-cut}
 use Rattle.ledger.proofs.Tells.{Tells, Answered}
+use Rattle.ledger.proofs.NamesRead.{named-told}
 use Rattle.ledger.proofs.CallsTold.{there-told, slot-told}
 use Rattle.ledger.proofs.DeleteTold.{follow-none, follow-some, shard-told, freed-told, fork-told}
 
@@ -77,4 +78,5 @@ estimate-answered r g L T inside fine t =
     rw (none, there)
     (cases (either (eqb (slotOf (T .view) r) 0))
     (λ y. rw y)
-    (λ n. rw (n, fork-told g L T inside fine t r n, freed-told g L T inside fine t r n, shards-told g L T inside fine t r n)))
+    (λ n.
+    rw (n, fork-told g L T inside fine t r n, named-told g L T inside fine t r n, freed-told g L T inside fine t r n, shards-told g L T inside fine t r n)))

@@ -11,7 +11,7 @@ use Rattle.model.specs.State.{State, fresh}
 use Rattle.model.specs.History.{wasAccepted, stateFrom}
 use Rattle.model.specs.ReadingLaws.{Shows, Lost, Touched, ShowsFrom, ReadingLaws}
 use Rattle.model.specs.Model.{answer, modelAfter, model}
-use Rattle.model.specs.declared.Call.{Call}
+use Rattle.model.specs.Command.{Command}
 use Rattle.model.proofs.Fine.{Fine}
 use Rattle.model.proofs.StepFacts.{fresh-fine}
 use Rattle.model.proofs.ReadingFacts.{reading-laws}
@@ -35,7 +35,7 @@ module _ (g : Geometry) (inside : Inside g) where
     eight = λ v n c a. W .eight (plain v) n c (plain-told g inside v L T F t ∙ a);
   }
 
-  touched-told : (more : List Call) (L : Ledger) (T : State) → Fine g T → Tells g L T → (r x : ℕ) → Touched (model g) T r x (plains more) →
+  touched-told : (more : List Command) (L : Ledger) (T : State) → Fine g T → Tells g L T → (r x : ℕ) → Touched (model g) T r x (plains more) →
       Touched (clerk g) L r x more
   touched-told [] L T F t r x w = w
   touched-told (c ∷ more) L T F t r x w =
@@ -54,17 +54,17 @@ module _ (g : Geometry) (inside : Inside g) where
       (S (plains more) (λ w. n (touched-told more L T F t r x w)))
 
   module _ (L : Ledger) (T : State) (F : Fine g T) (t : Tells g L T) where
-    same : (c : Call) (a : Reply) → says g L c ≡ a → answer g T (plain c) ≡ a
+    same : (c : Command) (a : Reply) → says g L c ≡ a → answer g T (plain c) ≡ a
     same c a e = plain-told g inside c L T F t ∙ e
 
     -- after a call
-    next-told : (c : Call) (r x : ℕ) (l : List ℕ) → ShowsFrom (model g) (modelAfter g T (plain c)) r x l → ShowsFrom (clerk g) (step g L c) r x l
+    next-told : (c : Command) (r x : ℕ) (l : List ℕ) → ShowsFrom (model g) (modelAfter g T (plain c)) r x l → ShowsFrom (clerk g) (step g L c) r x l
     next-told c r x l S =
         let (fine, tells, e) = beside g inside (c ∷ []) L T F t in
         from-told (step g L c) (modelAfter g T (plain c)) fine tells r x l S
 
     -- after a call and any more
-    later-same : (c : Call) (more : List Call) (d : Call) (a : Reply) → says g (stateFrom (clerk g) (step g L c) more) d ≡ a →
+    later-same : (c : Command) (more : List Command) (d : Command) (a : Reply) → says g (stateFrom (clerk g) (step g L c) more) d ≡ a →
         answer g (stateFrom (model g) (modelAfter g T (plain c)) (plains more)) (plain d) ≡ a
     later-same c more d a e =
         let (fine, tells, h) = beside g inside (c ∷ more) L T F t in

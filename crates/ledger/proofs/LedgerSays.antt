@@ -14,7 +14,7 @@ use Rattle.geometry.specs.declared.Geometry.{Geometry}
 use Rattle.geometry.specs.Limits.{blocks}
 use Rattle.model.specs.Memory.{Memory, reply, makeReply, makeAfter}
 use Rattle.model.specs.Demand.{Own, withOut, run}
-use Rattle.model.specs.declared.Call.{Call}
+use Rattle.model.specs.Command.{Command}
 use Rattle.ledger.specs.Ledger.{Ledger, refusalsOf, says}
 use Rattle.ledger.specs.Told.{tooShort, saysTo, stepsTo, LedgerSays}
 use Rattle.ledger.proofs.EachTold.{told}
@@ -26,11 +26,11 @@ pub ledger-says : LedgerSays
 ledger-says = record { lent = store-told; own = own-store-told }
 
 -- all that the ledger refuses for comes behind 4 in the order of the refusals
-pub refusals-ordered : (g : Geometry) (L : Ledger) (c : Call) → Ordered 4 (refusalsOf g L c)
+pub refusals-ordered : (g : Geometry) (L : Ledger) (c : Command) → Ordered 4 (refusalsOf g L c)
 refusals-ordered g L c = told c .ordered g L
 
 -- THE LEDGER NEVER SAYS 3 OR 4
-pub never-3-4 : (g : Geometry) (L : Ledger) (c : Call) → (says g L c ≡ refused 3 → ⊥) × (says g L c ≡ refused 4 → ⊥)
+pub never-3-4 : (g : Geometry) (L : Ledger) (c : Command) → (says g L c ≡ refused 3 → ⊥) × (says g L c ≡ refused 4 → ⊥)
 unfolding says
 never-3-4 g L c = (
   λ e. none-in 4 3 (omega arith) (refusalsOf g L c) (refusals-ordered g L c) (decide-refused (refusalsOf g L c) _ 4 3 (refusals-ordered g L c) e .0),

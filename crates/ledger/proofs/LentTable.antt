@@ -13,8 +13,8 @@ use Rattle.log.specs.Word.{wordBytes, bytesOf}
 use Rattle.model.specs.Layout.{stateOf}
 use Rattle.model.specs.Memory.{Memory, usedLog, short?, reply, after, makeReply, makeAfter}
 use Rattle.model.specs.Demand.{Own, withOut, run}
-use Rattle.model.specs.declared.Call.{Call}
-use Rattle.model.specs.declared.Call.the-variants.{Compress}
+use Rattle.model.specs.Command.{Command}
+use Rattle.model.specs.Command.{Compress}
 use Rattle.ledger.specs.Ledger.{Ledger, fresh, says, step, steps, replies}
 use Rattle.ledger.proofs.Computed.{answers, words}
 use Rattle.ledger.proofs.PaperTable.{small, both, outputs, toC, table, log-before-C, log-after-C}
@@ -76,7 +76,7 @@ module _ (M : Memory) (e : makeReply small M ≡ accepted []) (l : List Own) (r 
       0 ∷ 0 ∷ 0 ∷ 0 ∷ 0 ∷ 0 ∷ 0x40 ∷ 2 ∷
       0 ∷ 0 ∷ 0 ∷ 0 ∷ 0 ∷ 0 ∷ 0 ∷ 2 ∷ []
   unfolding words wordBytes
-  log-before c = roomy-log small M e l r ∙ ap (λ (cs : List Call). bytesOf (steps small fresh cs .log)) c ∙ ap bytesOf log-before-C
+  log-before c = roomy-log small M e l r ∙ ap (λ (cs : List Command). bytesOf (steps small fresh cs .log)) c ∙ ap bytesOf log-before-C
 
   -- "after it 8001, 3"
   pub log-after : calls l ≡ toC ++ (Compress ∷ []) →
@@ -84,7 +84,7 @@ module _ (M : Memory) (e : makeReply small M ≡ accepted []) (l : List Own) (r 
       0 ∷ 0 ∷ 0 ∷ 0 ∷ 0 ∷ 0 ∷ 0x80 ∷ 1 ∷
       0 ∷ 0 ∷ 0 ∷ 0 ∷ 0 ∷ 0 ∷ 0 ∷ 3 ∷ []
   unfolding words wordBytes
-  log-after c = roomy-log small M e l r ∙ ap (λ (cs : List Call). bytesOf (steps small fresh cs .log)) c ∙ ap bytesOf log-after-C
+  log-after c = roomy-log small M e l r ∙ ap (λ (cs : List Command). bytesOf (steps small fresh cs .log)) c ∙ ap bytesOf log-after-C
 
 -- ── the making: "log words 9 for N = 4 (2) and 10 (accepted)" (2.1) ──
 

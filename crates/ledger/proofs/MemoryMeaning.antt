@@ -24,7 +24,7 @@ use Rattle.model.specs.Layout.{need, freeWord, stateOf, made}
 use Rattle.model.specs.Memory.{Memory, short?, sound?, writtenAt, reply, storedBy, after, makeReply, makeAfter}
 use Rattle.model.specs.SoundStore.{MadeFor, SoundStore}
 use Rattle.model.specs.RefusalMeans.{sentences, Say}
-use Rattle.model.specs.declared.Call.{Call}
+use Rattle.model.specs.Command.{Command}
 use Rattle.model.proofs.Demands.{all-ordered}
 use Rattle.model.proofs.Keeps.{making-is, made-tables, sound-fine}
 use Rattle.model.proofs.MadeFacts.{made-length, made-for, made-zero, made-free, made-beyond}
@@ -112,7 +112,7 @@ making-means g M =
 pub is-unsound : (g : Geometry) → Inside g → (t log : List ℕ) → Means (not (sound? g t log)) (SoundStore g t log → ⊥) (SoundStore g t log)
 is-unsound g i t log = let s = sound-iff g i t log in negated (record { holds = s .0; passes = s .1 })
 
-call-means : (g : Geometry) (M : Memory) (c : Call) → CallMeans g M c
+call-means : (g : Geometry) (M : Memory) (c : Command) → CallMeans g M c
 unfolding reply after
 call-means g M c =
     let T : State = stateOf g (M .tables) in

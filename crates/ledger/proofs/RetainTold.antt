@@ -12,7 +12,7 @@ use Rattle.model.specs.Lists.{Once}
 use Rattle.model.specs.Results.{numbersOf}
 use Rattle.model.specs.Actions.{slotOf}
 use Rattle.model.specs.Book.{Rec, Line, inRecs, setWindow, retained}
-use Rattle.model.specs.declared.Call.the-variants.{Retain}
+use Rattle.model.specs.Command.{Retain}
 use Rattle.model.proofs.EachCall.{fits}
 use Rattle.ledger.specs.BookReading.{isThere}
 use Rattle.ledger.specs.Ledger.{account, says, keeps}
@@ -60,4 +60,5 @@ retain-kept r k g L T inside fine t n =
       used = omega (arith, t .used, length-append (L .log) []);
       waiting = t .waiting;
       windows = f .windows (L .book) 0 (t .book) (t .windows);
+      names = f .sides (L .book) 0 (t .book) (t .names);
     }

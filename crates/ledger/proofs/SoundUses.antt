@@ -1,5 +1,5 @@
 -- A USE FOR EACH PART OF `every-sound-told` AND `every-tables-told`, on the second memory of `Unreached`: what is answered there, and what is left.
--- Record 3 is sealed, 5 follows it, 7 is a fork on it and 8 is empty; the table is full; there are two arenas, and block 0 waits.
+-- Record 3 is sealed, 5 follows it, 7 is a fork on it and 8 is empty; the table is full; there are two arenas, and block 0 waits. 3 has the name b, and 8 a.
 use mathlib.Core.Path.{_≡_, refl, sym, ap, _∙_, subst}
 use mathlib.Core.Bool.{true, false, or-true, true≢false}
 use mathlib.Core.List.{List, [], _∷_, _++_, flatMap}
@@ -20,18 +20,23 @@ use Rattle.model.specs.View.{View}
 use Rattle.model.specs.Held.{tally}
 use Rattle.model.specs.Lists.{below?, keepIf}
 use Rattle.model.specs.Results.{numbersOf}
-use Rattle.model.specs.Book.{Line, Book, inRecs, inLines}
-use Rattle.model.specs.Layout.{field, numbers, viewOf, stateOf}
+use Rattle.model.specs.Names.{sameName}
+use Rattle.model.specs.Book.{Line, NameOn, Book, inRecs, inLines}
+use Rattle.model.specs.NameBook.{HasName}
+use Rattle.model.specs.Layout.{field, numbers, viewOf, titlesOf, notesOf, stateOf}
 use Rattle.model.specs.Memory.{Memory, usedLog, allConditions, reply, after}
 use Rattle.model.specs.SoundStore.{SoundStore}
 use Rattle.model.specs.Demand.{Request, metBy, Own, withOut, run}
-use Rattle.model.specs.declared.Call.{Call}
-use Rattle.model.specs.declared.Call.the-variants.{Begin, Write, Erase, Delete, Read}
-use Rattle.ledger.specs.BookReading.{lineIn, isThere, pageBlock, baseOf, baseAmong}
+use Rattle.model.specs.Command.{Command}
+use Rattle.model.specs.Command.{Begin, Write, Erase, Delete, Read, Attach}
+use Rattle.model.proofs.NameBytes.{same-not}
+use Rattle.model.proofs.NameBook.{named-in}
+use Rattle.ledger.specs.BookReading.{lineIn, isThere, pageBlock, baseOf, baseAmong, carriersAmong, carriers, hasName}
 use Rattle.ledger.specs.Ledger.{Ledger, rising, among, change, without, isHeld, isFree, withBirths, arena, young, joins, afterKill, afterGiving}
-use Rattle.ledger.specs.Ledger.{arenasFrom, fromMark, candidates, picked, account, refusalsOf, says, keeps}
+use Rattle.ledger.specs.Ledger.{isName, arenasFrom, fromMark, candidates, picked, account, refusalsOf, says, keeps}
 use Rattle.ledger.specs.Told.{SameBlocks, outAfter, saysTo, stepTo, stepsTo, logTo, logAlong}
 use Rattle.ledger.specs.SoundTold.{SameRecord, SameRecords, SameStore, SoundTold, TablesTold}
+use Rattle.ledger.proofs.NamesRead.{has-alike}
 use Rattle.ledger.proofs.LogMeaning.{is-bytes}
 use Rattle.ledger.proofs.OwnToldProof.{roomy-says}
 use Rattle.ledger.proofs.SoundTold.{every-sound-told, every-tables-told}
@@ -55,6 +60,15 @@ fork-there (l ∷ ls) n e =
     cases (either (inRecs n (l .recs)))
     (λ y. rw y (rw (eq-eqb (l .base) (l .base) refl)))
     (λ f. rw f (rw (fork-there ls n (rw f at e)) (or-true (eqb (l .base) (lineIn ls n .base)))))
+
+-- a name in the book has a record
+carried : (ps : List NameOn) (l : List ℕ) (n : ℕ) → HasName ps l n → ltb 0 (length (carriersAmong ps l)) ≡ true
+unfolding carriersAmong
+carried [] l n h = absurd h
+carried (p ∷ ps) l n h =
+    cases (either (sameName (p .0) l))
+    (λ y. rw y (lt-ltb 0 (suc (length (carriersAmong ps l))) (omega arith)))
+    (λ f. rw f (carried ps l n (cases h (λ (a : (p .0 ≡ l) × (p .1 ≡ n)). absurd (same-not (p .0) l f (a .0))) (λ g. g))))
 
 module _ (L : Ledger) (same : SameStore forked L (stateOf forked forked-tables)) (its : SameBlocks L (stateOf forked forked-tables)) where
   abbrev B : Book
@@ -126,6 +140,23 @@ module _ (L : Ledger) (same : SameStore forked L (stateOf forked forked-tables))
   says-11 : says forked L Begin ≡ refused 11
   unfolding says account stateOf viewOf field tally
   says-11 = rw (same .records .many)
+
+  -- `names`: 3 has the name b, and 8 the name a
+  name-b : HasName (B .names) (98 ∷ []) 3
+  unfolding stateOf viewOf notesOf titlesOf field numbers
+  name-b = its .names (98 ∷ []) 0 (omega arith) .1 (4, omega arith, refl, refl)
+
+  name-a : HasName (B .names) (97 ∷ []) 8
+  unfolding stateOf viewOf notesOf titlesOf field numbers
+  name-a = its .names (97 ∷ []) 3 (omega arith) .1 (1, omega arith, refl, refl)
+
+  -- b is in use, so it is on no other record; 8 is open and has a name, so it is given no second
+  says-17 : (says forked L (Attach (98 ∷ []) 5) ≡ refused 17) × (says forked L (Attach (99 ∷ []) 8) ≡ refused 17)
+  unfolding says account isName hasName keepIf stateOf viewOf field
+  says-17 = (
+    rw (there .1, carried (B .names) (98 ∷ []) 3 name-b),
+    rw (there .3, rec-8 .writable, has-alike (B .names) 8, named-in (B .names) 8 .1 (97 ∷ [], name-a), or-true (ltb 0 (length (carriers B (99 ∷ []))))),
+  )
 
   -- `pred`: in record 5, whose pred is 3, block 1 is freed; block 5, born in 3, is not, nor is in record 7 block 6, born in 2
   says-E : (says forked L (Erase 5 1) ≡ accepted (1 ∷ 5 ∷ [])) × (says forked L (Erase 5 0) ≡ accepted []) ×
@@ -229,7 +260,7 @@ module _ (out : List ℕ) (long : 80 ≤ length out) where
   abbrev L : Ledger
   L = told-there .ledger
 
-  abbrev asks : Call → Own
+  abbrev asks : Command → Own
   asks c = record { call = c; out = out }
 
   -- the blocks as they stand
@@ -238,11 +269,11 @@ module _ (out : List ℕ) (long : 80 ≤ length out) where
   now = told-there .told [] .blocks
 
   -- a reply is what the ledger says, and so is what an accepted call leaves
-  is-said : (c : Call) (r : Reply) → says forked (told-there .ledger) c ≡ r → reply forked (withOut N out) c ≡ r
+  is-said : (c : Command) (r : Reply) → says forked (told-there .ledger) c ≡ r → reply forked (withOut N out) c ≡ r
   unfolding stepsTo
   is-said c r e = told-there .told [] .says (asks c) ∙ roomy-says forked L (asks c) long ∙ e
 
-  is-kept : (c : Call) (l : List ℕ) → says forked (told-there .ledger) c ≡ accepted l →
+  is-kept : (c : Command) (l : List ℕ) → says forked (told-there .ledger) c ≡ accepted l →
       stepsTo forked (told-there .ledger) (asks c ∷ []) ≡ keeps forked (told-there .ledger) c
   unfolding stepsTo stepTo
   is-kept c l e = ap (λ (r : Reply). leaves r L (keeps forked L c)) (roomy-says forked L (asks c) long ∙ e)
@@ -260,18 +291,21 @@ module _ (out : List ℕ) (long : 80 ≤ length out) where
         told-there .told [] .out (asks (Read 3 1)) ∙ ap (λ (r : Reply). outAfter r out) (roomy-says forked L (asks (Read 3 1)) long ∙ a),
       )
 
-  -- `live`, `writable`, `base`, `many`: no record 0 is there; 3 is sealed; a fork is on it; the table is full
+  -- `live`, `writable`, `base`, `many`, `names`: no record 0 is there; 3 is sealed; a fork is on it; the table is full; b is in use; 8 has a name
   pub refuses : (reply forked (withOut N out) (Read 0 0) ≡ refused 8) × (reply forked (withOut N out) (Write 3 0 0) ≡ refused 9) ×
-      (reply forked (withOut N out) (Delete 3) ≡ refused 10) × (reply forked (withOut N out) Begin ≡ refused 11)
+      (reply forked (withOut N out) (Delete 3) ≡ refused 10) × (reply forked (withOut N out) Begin ≡ refused 11) ×
+      (reply forked (withOut N out) (Attach (98 ∷ []) 5) ≡ refused 17) × (reply forked (withOut N out) (Attach (99 ∷ []) 8) ≡ refused 17)
   refuses = (
     is-said (Read 0 0) (refused 8) (says-8 L (told-there .same) now 0 (omega arith)),
     is-said (Write 3 0 0) (refused 9) (says-9 L (told-there .same) now),
     is-said (Delete 3) (refused 10) (says-10 L (told-there .same) now),
     is-said Begin (refused 11) (says-11 L (told-there .same) now),
+    is-said (Attach (98 ∷ []) 5) (refused 17) (says-17 L (told-there .same) now .0),
+    is-said (Attach (99 ∷ []) 8) (refused 17) (says-17 L (told-there .same) now .1),
   )
 
   -- with a buffer that is a number too short it is 3, whatever is called, and the buffer stays
-  pub short-gives-3 : (c : Call) (other : List ℕ) → length other ≡ 79 →
+  pub short-gives-3 : (c : Command) (other : List ℕ) → length other ≡ 79 →
       (reply forked (withOut N other) c ≡ refused 3) × (after forked (withOut N other) c .out ≡ other)
   unfolding saysTo outAfter stepsTo
   short-gives-3 c other e =
@@ -365,6 +399,6 @@ module _ (i : Request) (c : i .call ≡ Write 8 0 0) (n : NoneBefore 5 (allCondi
   unfolding outAfter
   lent-W-leaves = (
     lent-there .told .log [] i ∙ ap (λ (r : Reply). leaves r (i .log) (placed forked lent-ledger (i .call) (i .log))) lent-W-gives ∙
-        ap (λ (d : Call). placed forked lent-ledger d (i .log)) c ∙ placed-then lent-ledger (lent-there .same) lent-now (i .log),
+        ap (λ (d : Command). placed forked lent-ledger d (i .log)) c ∙ placed-then lent-ledger (lent-there .same) lent-now (i .log),
     lent-there .told .out [] i ∙ ap (λ (r : Reply). outAfter r (i .out)) lent-W-gives,
   )

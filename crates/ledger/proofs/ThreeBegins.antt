@@ -17,7 +17,7 @@ use Rattle.log.specs.Tool.{readable, heldAtEnd, everyReply, readReply, compactW
 use Rattle.model.specs.Layout.{need}
 use Rattle.model.specs.Memory.{Memory, short?, reply, makeReply, makeAfter}
 use Rattle.model.specs.Demand.{Own, withOut, run}
-use Rattle.model.specs.declared.Call.{Call}
+use Rattle.model.specs.Command.{Command}
 use Rattle.model.proofs.Keeps.{Long}
 use Rattle.model.proofs.Replies.{not-short}
 use Rattle.ledger.specs.Ledger.{fresh, says, steps}
@@ -77,7 +77,7 @@ module _ (g : Geometry) (i : Inside g) (M : Memory) where
 
 -- ── a call: one less is refused whatever the tables say; on a store that was made, with the exact length, it is answered as the ledger says ──
 
-module _ (g : Geometry) (i : Inside g) (M : Memory) (c : Call) where
+module _ (g : Geometry) (i : Inside g) (M : Memory) (c : Command) where
   call-refused : short? g M ≡ true → reply g M c ≡ refused 3
   unfolding reply
   call-refused s = rw (inside-fits g i, s)

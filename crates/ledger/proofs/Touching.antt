@@ -1,10 +1,11 @@
 -- What a call may touch of the memory that it is lent.
-use mathlib.Core.Path.{_≡_, refl, sym, ap, _∙_, subst}
+use mathlib.Core.Path.{_≡_, refl, sym, ap, ap₂, _∙_, subst}
 use mathlib.Core.Logic.{_⊎_}
-use mathlib.Core.Bool.{cond}
+use mathlib.Core.Bool.{cond, _&&_}
 use mathlib.Core.List.{List}
-use Prim.Native.Nat.{ℕ, _-_, _*_, _≤_, _<_}
+use Prim.Native.Nat.{ℕ, _-_, _*_, _/_, _%_, _≤_, _<_}
 use native.Mathlib.Omega.{arith}
+use lib.Dec.{leb, ltb}
 use lib.ListN.{length, getD}
 use lib.Seq.{sets}
 use borrow.Author.Tests.{lt-leb, le-leb, le-ltb}
@@ -18,9 +19,10 @@ use Rattle.model.specs.State.{State, Notes, withUsed, withNotes, synced}
 use Rattle.model.specs.Calls.{Account, looking, opening, freeing, closing, placing, marking, renewing, account, renews, wordsBy, leftBy, resultBy, result}
 use Rattle.model.specs.Calls.{written, effect, logged}
 use Rattle.model.specs.Held.{waits, available}
-use Rattle.model.specs.Layout.{need, stateOf, stored, headerNumber, noteNumber, freeWord}
+use Rattle.model.specs.Names.{Titles}
+use Rattle.model.specs.Layout.{need, stateOf, stored, headerNumber, titleNumber, noteNumber, freeWord}
 use Rattle.model.specs.Memory.{Memory, writtenAt, reply, midway, storedBy, after}
-use Rattle.model.specs.declared.Call.{Call}
+use Rattle.model.specs.Command.{Command}
 use Rattle.model.proofs.Fine.{effect-fine}
 use Rattle.model.proofs.Keeps.{accepted-is, sound-fine}
 use Rattle.model.proofs.LayoutFacts.{by-address, stored-length, stored-header, stored-column, stored-spare, stored-page, stored-list, stored-birth}
@@ -42,7 +44,7 @@ used-is g t T room = stored-header g T t room 9 (omega arith)
 -- ── every call ──
 
 -- what is left, by the reply
-abbrev memoryAfter : Geometry → Memory → Call → Reply → Memory
+abbrev memoryAfter : Geometry → Memory → Command → Reply → Memory
 memoryAfter g M c r =
     let T = stateOf g (M .tables) in
     record {
@@ -51,7 +53,35 @@ memoryAfter g M c r =
       out = leaves r (M .out) (sets (M .out) 0 (result g T c));
     }
 
-module _ (g : Geometry) (M : Memory) (c : Call) (l : List ℕ) (e : reply g M c ≡ accepted l) where
+-- ── what is noted, number by number ──
+
+-- outside the column of the windows a number depends on the names alone
+note-off : (R : ℕ) (P N : Notes) (t : List ℕ) (i : ℕ) → R ≤ 64 → P .names ≡ N .names → P .titles ≡ N .titles → (i < 576) ⊎ (640 ≤ i) →
+    noteNumber R P t i ≡ noteNumber R N t i
+unfolding noteNumber
+note-off R P N t i few d f o =
+    cases o
+    (λ h. rw (lt-leb 576 i h) rest)
+    (λ h. rw (le-leb 576 i (omega arith), le-ltb (i - 576) R (omega arith)) rest)
+  where
+    others : Notes → ℕ
+    others Q =
+        cond (leb 640 i && ltb (i - 640) R) (Q .names (i - 640))
+        (cond (leb 768 i) (titleNumber (Q .titles) t ((i - 768) / 40) ((i - 768) % 40)) (getD t i 0))
+
+    rest : others P ≡ others N
+    rest =
+        ap₂ (λ (names : ℕ → ℕ) (X : Titles). cond (leb 640 i && ltb (i - 640) R) (names (i - 640))
+        (cond (leb 768 i) (titleNumber X t ((i - 768) / 40) ((i - 768) % 40)) (getD t i 0))) d f
+
+-- below 640 it depends on the windows alone
+note-low : (R : ℕ) (P N : Notes) (t : List ℕ) (i : ℕ) → P .window ≡ N .window → i < 640 → noteNumber R P t i ≡ noteNumber R N t i
+unfolding noteNumber
+note-low R P N t i d h =
+    rw (lt-leb 640 i h, lt-leb 768 i (omega arith))
+    (ap (λ (w : ℕ → ℕ). cond (leb 576 i && ltb (i - 576) R) (w (i - 576)) (getD t i 0)) d)
+
+module _ (g : Geometry) (M : Memory) (c : Command) (l : List ℕ) (e : reply g M c ≡ accepted l) where
   abbrev T : State
   T = stateOf g (M .tables)
 
@@ -65,18 +95,20 @@ module _ (g : Geometry) (M : Memory) (c : Call) (l : List ℕ) (e : reply g M c 
   same : stored g T t ≡ t
   same = let s = accepted-is g M c l e .0 .sound in stored-state g t (s .made) (s .free) room
 
-  -- other notes change the column of the windows alone
-  windows-only : (N : Notes) → Within 576 640 (M .tables) (stored g (withNotes (stateOf g (M .tables)) N) (M .tables))
-  unfolding noteNumber headerNumber freeWord available waits
-  windows-only N =
+  -- other notes change nothing but their own numbers: from lo up to hi, where they have others
+  notes-only : (N : Notes) (lo hi : ℕ) → 512 ≤ lo → lo ≤ hi → hi ≤ 2048 →
+      ((i : ℕ) → 512 ≤ i → i < 2048 → (i < lo) ⊎ (hi ≤ i) →
+      noteNumber (g .records) N (M .tables) i ≡ noteNumber (g .records) (stateOf g (M .tables) .notes) (M .tables) i) →
+      Within lo hi (M .tables) (stored g (withNotes (stateOf g (M .tables)) N) (M .tables))
+  unfolding headerNumber freeWord available waits
+  notes-only N lo hi low mid high others =
       let U : State = withNotes T N in
       let said : (i : ℕ) → getD (stored g T t) i 0 ≡ getD t i 0 = λ i. ap (λ (l : List ℕ). getD l i 0) same in
-      let few : g .records ≤ 64 = accepted-is g M c l e .0 .inside .records-most in
-      changed-between 576 640 t (stored g U t) (omega arith) (omega (arith, room)) (stored-length g U t)
-      (by-address g (λ i. (i < 576) ⊎ (640 ≤ i) → getD (stored g U t) i 0 ≡ getD t i 0) (record {
+      changed-between lo hi t (stored g U t) mid (omega (arith, room)) (stored-length g U t)
+      (by-address g (λ i. (i < lo) ⊎ (hi ≤ i) → getD (stored g U t) i 0 ≡ getD t i 0) (record {
         header = λ i h o. stored-header g U t room i h ∙ same-header i ∙ sym (stored-header g T t room i h) ∙ said i;
         column = λ f k hf hk o. stored-column g U t room f k hf hk ∙ sym (stored-column g T t room f k hf hk) ∙ said _;
-        spare = λ i a b o. stored-spare g U t room i a b ∙ note-off N i few o;
+        spare = λ i a b o. stored-spare g U t room i a b ∙ others i a b o ∙ sym (stored-spare g T t room i a b) ∙ said i;
         page = λ k x hk hx o. stored-page g U t room k x hk hx ∙ sym (stored-page g T t room k x hk hx) ∙ said _;
         list = λ k i hk hi o. stored-list g U t room k i hk hi ∙ sym (stored-list g T t room k i hk hi) ∙ said _;
         birth = λ b hb o. stored-birth g U t room b hb ∙ sym (stored-birth g T t room b hb) ∙ said _;
@@ -87,11 +119,22 @@ module _ (g : Geometry) (M : Memory) (c : Call) (l : List ℕ) (e : reply g M c 
       same-header : (i : ℕ) → headerNumber g (withNotes T N) t i ≡ headerNumber g T t i
       same-header i = refl
 
-      note-off : (N : Notes) (i : ℕ) → g .records ≤ 64 → (i < 576) ⊎ (640 ≤ i) → noteNumber (g .records) N t i ≡ getD t i 0
-      note-off N i few o =
-          cases o
-          (λ h. rw (lt-leb 576 i h))
-          (λ h. rw (le-leb 576 i (omega arith), le-ltb (i - 576) (g .records) (omega arith)))
+  few : g .records ≤ 64
+  few = accepted-is g M c l e .0 .inside .records-most
+
+  -- where the names stay, nothing but the column of the windows
+  windows-only : (N : Notes) → N .names ≡ stateOf g (M .tables) .notes .names → N .titles ≡ stateOf g (M .tables) .notes .titles →
+      Within 576 640 (M .tables) (stored g (withNotes (stateOf g (M .tables)) N) (M .tables))
+  windows-only N d f =
+      notes-only N 576 640 (omega arith) (omega arith) (omega arith)
+      (λ i a b o. note-off (g .records) N (stateOf g (M .tables) .notes) t i few d f o)
+
+  -- where the windows stay, nothing but counts and rows of names
+  names-only : (N : Notes) → N .window ≡ stateOf g (M .tables) .notes .window →
+      Within 640 2048 (M .tables) (stored g (withNotes (stateOf g (M .tables)) N) (M .tables))
+  names-only N d =
+      notes-only N 640 2048 (omega arith) (omega arith) (omega arith)
+      (λ i a b o. note-low (g .records) N (stateOf g (M .tables) .notes) t i d (cases o (λ h. h) (λ h. absurd (let z : ⊥ = omega arith in z))))
 
   now-used : getD (storedBy g t c) 9 0 ≡ effect g T c .used
   now-used = used-is g (midway g T (account c) t) (effect g T c) (omega (arith, room, midway-length g T (account c) t))
@@ -124,14 +167,15 @@ abbrev WordsIn : Geometry → Memory → Account → Type 0
 WordsIn g M A =
     Within (cond (renews A) 0 (8 * stateOf g (M .tables) .used)) (8 * getD (leftAs g M A .tables) 9 0) (M .log) (leftAs g M A .log)
 
-by-kind : (g : Geometry) (M : Memory) (c : Call) (A : Account) (l : List ℕ) → account c ≡ A → reply g M c ≡ accepted l → TouchedAs g A M (leftAs g M A)
+by-kind : (g : Geometry) (M : Memory) (c : Command) (A : Account) (l : List ℕ) → account c ≡ A → reply g M c ≡ accepted l → TouchedAs g A M (leftAs g M A)
 unfolding stateOf logged
 by-kind g M c (looking s cs res note) l d e = (
   write-none (M .log) _,
-  (
-    λ z. ap (λ N. stored g (withNotes (stateOf g (M .tables)) N) (M .tables)) z ∙ same g M c l e,
-    windows-only g M c l e (note (stateOf g (M .tables))),
-  ),
+  record {
+    none = λ z. ap (λ N. stored g (withNotes (stateOf g (M .tables)) N) (M .tables)) z ∙ same g M c l e;
+    window = windows-only g M c l e (note (stateOf g (M .tables)));
+    names = names-only g M c l e (note (stateOf g (M .tables)));
+  },
 )
 by-kind g M c (opening cs a) l d e = write-none (M .log) _
 by-kind g M c (freeing cs a) l d e = subst (WordsIn g M) d (words g M c l e)
@@ -143,7 +187,7 @@ by-kind g M c marking l d e = (
 )
 by-kind g M c renewing l d e = (subst (WordsIn g M) d (words g M c l e), ends-waits g M c l e _ _ _)
 
-by-call : (g : Geometry) (M : Memory) (c : Call) (l : List ℕ) → reply g M c ≡ accepted l → TouchedBy g c M (memoryAfter g M c (accepted l))
+by-call : (g : Geometry) (M : Memory) (c : Command) (l : List ℕ) → reply g M c ≡ accepted l → TouchedBy g c M (memoryAfter g M c (accepted l))
 by-call g M c l e = by-kind g M c (account c) l refl e
 
 -- WHAT A CALL MAY TOUCH

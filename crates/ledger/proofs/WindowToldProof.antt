@@ -10,7 +10,7 @@ use lib.ListN.{length}
 use borrow.Author.Tests.{lt-ltb, ltb-false, le-ltb}
 use Rattle.answer.specs.Reply.{accepted}
 use Rattle.answer.specs.Refusal.{NoneHolds}
-use Rattle.answer.proofs.Cases.{cases, same?}
+use Rattle.answer.proofs.Cases.{cases, same?, lt?}
 use Rattle.answer.proofs.Decided.{decide-accepted}
 use Rattle.geometry.specs.declared.Geometry.{Geometry}
 use Rattle.geometry.specs.Limits.{Inside}
@@ -20,19 +20,22 @@ use Rattle.model.specs.Actions.{doS, done, forked, slotOf}
 use Rattle.model.specs.State.{State, withNotes}
 use Rattle.model.specs.Window.{steps, sealedOf, victims, sealing, actedAll, WindowStops}
 use Rattle.model.specs.WindowMeans.{Took, TakesOldest}
-use Rattle.model.specs.Calls.{slot, windowOf, windowPassed, closes, acted, conditions, result, effect}
-use Rattle.model.specs.Book.{recSealed, accept}
+use Rattle.model.specs.Calls.{slot, windowOf, sealedNotes, closes, acted, conditions, result, effect}
+use Rattle.model.specs.Book.{Book, recSealed, accept}
+use Rattle.model.specs.NameBook.{HasName}
 use Rattle.model.specs.Model.{stateAfter}
-use Rattle.model.specs.declared.Call.{Call}
-use Rattle.model.specs.declared.Call.the-variants.{Seal}
+use Rattle.model.specs.Command.{Command}
+use Rattle.model.specs.Command.{Seal}
 use Rattle.model.proofs.Asked.{Unrefused}
 use Rattle.model.proofs.Fine.{Fine, named-slot, effect-fine}
-use Rattle.model.proofs.WindowLine.{sealed-of}
-use Rattle.model.proofs.WindowFacts.{victims-may}
+use Rattle.model.proofs.WindowLine.{sealed-of, older-less}
+use Rattle.model.proofs.WindowFacts.{of-sealed, victims-may}
 use Rattle.model.proofs.WindowSeal.{seal-stops, seal-takes}
-use Rattle.model.proofs.WindowBook.{OpenNext, just-live, book-sealed, open-along}
+use Rattle.model.proofs.WindowBook.{OpenNext, OlderNamed, just-live, book-sealed, open-along}
+use Rattle.model.proofs.NameBook.{named-in}
+use Rattle.model.proofs.NameActions.{trimmed-names}
 use Rattle.model.proofs.WindowTheorems.{takes-oldest}
-use Rattle.model.proofs.Closing.{closing-first, closing-12}
+use Rattle.model.proofs.Closing.{closing-first, closing-12, closing-book}
 use Rattle.ledger.specs.BookReading.{isThere, pageBlock, blockOn, forkOn, sealedOn, windowOn}
 use Rattle.ledger.specs.Ledger.{Ledger, afterSeal, closed, account, says, blockGiven, keeps}
 use Rattle.ledger.specs.WindowTold.{after, WindowLoop, TakenOut, WindowBooked, WindowBook}
@@ -43,7 +46,7 @@ use Rattle.ledger.proofs.Tells.{Tells, fresh-tells}
 use Rattle.ledger.proofs.CallsTold.{there-told, slot-told}
 use Rattle.ledger.proofs.DeleteTold.{fork-told}
 use Rattle.ledger.proofs.SealTold.{line-sealed, asks, sealed-fine, sealed-tells, window-told}
-use Rattle.ledger.proofs.SealTold.{next, now-named, closed-book, seal-answered, seal-kept}
+use Rattle.ledger.proofs.SealTold.{next, now-named, older-alike, closed-book, seal-answered, seal-kept}
 use Rattle.ledger.proofs.ToldProof.{plain, left-from}
 
 -- ── a record by its number and by its slot ──
@@ -86,7 +89,8 @@ map-many f (c ∷ l) = ap suc (map-many f l)
 -- ── S, between the ledger right after the seal and the ledger after the call ──
 
 module _ (g : Geometry) (inside : Inside g) (A : Ledger) (T : State) (F : Fine g T) (a : Tells g A T) (Z : Ledger) (U : State) (G : Fine g U) (z : Tells g Z U)
-    (n s : ℕ) (w : TakesOldest (T .view) (U .view) n s) (p : 0 < n → WindowStops (U .view) n s) (O : OpenNext (T .view) s) (P : OpenNext (U .view) s) where
+    (names : ℕ → ℕ) (n s : ℕ) (w : TakesOldest (T .view) (U .view) names n s) (p : 0 < n → WindowStops (U .view) names n s)
+    (O : OpenNext (T .view) s) (P : OpenNext (U .view) s) (N : OlderNamed (T .view) names s (A .book)) (kept : Z .book .names ≡ A .book .names) where
   abbrev K : View
   K = T .view
 
@@ -120,6 +124,30 @@ module _ (g : Geometry) (inside : Inside g) (A : Ledger) (T : State) (F : Fine g
   few-now : length (sealedOn (Z .book) (T .view .num s)) ≡ length (sealedOf (U .view) s)
   few-now = ap length sealed-now ∙ map-many (U .view .num) (sealedOf (U .view) s)
 
+  -- an older record, by the counts that the window reads and by the book's names
+  some-name : (c : ℕ) → 0 < T .view .num c → T .view .num c < T .view .num s → 0 < names c → (l : List ℕ) × HasName (A .book .names) l (T .view .num c)
+  some-name c h o i = named-in (A .book .names) (K .num c) .0 (N c h o ∙ lt-ltb 0 (names c) i)
+
+  no-name : (c : ℕ) (l : List ℕ) → 0 < T .view .num c → T .view .num c < T .view .num s → names c ≡ 0 → HasName (A .book .names) l (T .view .num c) → ⊥
+  no-name c l h o e i =
+      true≢false (sym (named-in (A .book .names) (K .num c) .1 (l, i)) ∙ N c h o ∙ le-ltb 0 (names c) (omega arith))
+
+  -- a sealed record other than s is older
+  is-older : (c : ℕ) → In c (sealedOf (T .view) s) → (c ≡ s → ⊥) → T .view .num c < T .view .num s
+  is-older c i d = older-less K (F .sound) s (just-live K (F .sound) s O) c (of-sealed K s c i d)
+
+  still-older : (c : ℕ) → In c (sealedOf (U .view) s) → (c ≡ s → ⊥) → U .view .num c < U .view .num s
+  still-older c i d = older-less L (G .sound) s (just-live L (G .sound) s P) c (of-sealed L s c i d)
+
+  -- one that stays and has no fork on it has a name
+  stays-named : (c : ℕ) → 0 < U .view .num c → In c (sealedOf (U .view) s) → (c ≡ s → ⊥) → 0 < names c →
+      (l : List ℕ) × HasName (Z .book .names) l (U .view .num c)
+  stays-named c live i d h =
+      let e = w .num c live in
+      let o : T .view .num c < T .view .num s = omega (arith, still-older c i d, same-r) in
+      let (l, a) = some-name c (omega arith) o h in
+      (l, subst (λ ps. HasName ps l (U .view .num c)) (sym kept) (subst (HasName (A .book .names) l) (sym e) a))
+
   booked : WindowBooked (A .book) (Z .book) n (T .view .num s)
   booked = record {
     windowed = λ m t. w .windowed (slot T m) (took m t);
@@ -130,21 +158,32 @@ module _ (g : Geometry) (inside : Inside g) (A : Ledger) (T : State) (F : Fine g
         let u = took m t in
         ap (forkOn (A .book)) (sym (number m t)) ∙ fork-at g inside A T F a (slot T m) (u .0) ∙
         le-ltb 0 (forked K (slot T m)) (omega (arith, w .unforked (slot T m) u));
-    oldest = λ m k t i d f y.
+    nameless = λ m l t h.
+        let u = took m t in
+        no-name (slot T m) l (u .0) (w .notNewest (slot T m) u) (w .nameless (slot T m) u) (subst (HasName (A .book .names) l) (sym (number m t)) h);
+    oldest = λ m k t i d f q y.
         let (c, ic, ec) = of-map (K .num) (sealedOf K s) k (subst (λ l. In k l) (sealed-at g inside A T F a s O) i) in
         let h = at g inside Z U G z k y in
         let e : K .num (slot U k) ≡ k = sym (w .num (slot U k) (h .0)) ∙ h .1 in
         let same : slot U k ≡ c = F .sound .links .apart (slot U k) c (omega (arith, w .num (slot U k) (h .0), h .0)) (e ∙ ec) in
         let live : 0 < K .num c = omega (arith, ap (K .num) same, w .num (slot U k) (h .0), h .0) in
         let bare : forked K c ≡ 0 = unforked-is (forked K c) (sym (fork-at g inside A T F a c live) ∙ ap (forkOn (A .book)) (sym ec) ∙ f) in
-        omega (arith, w .oldest (slot T m) c (took m t) ic (λ q. d (ec ∙ ap (K .num) q)) bare (omega (arith, ap (L .num) same, h .0)), number m t, ec);
+        let other : c ≡ s → ⊥ = λ z. d (ec ∙ ap (K .num) z) in
+        let none : names c ≡ 0 = cases (lt? 0 (names c))
+        (λ b. let (l, x) = some-name c live (is-older c ic other) b in absurd (q l (subst (HasName (A .book .names) l) (sym ec) x)))
+        (λ b. omega arith) in
+        omega (arith, w .oldest (slot T m) c (took m t) ic other bare none (omega (arith, ap (L .num) same, h .0)), number m t, ec);
     needed = λ m t. omega (arith, w .needed (slot T m) (took m t), few-now);
     stops = λ h. cases (p h)
         (λ l. inl (omega (arith, few-now)))
         (λ f. inr (λ k i d.
         let (c, ic, ec) = of-map (L .num) (sealedOf L s) k (subst (λ l. In k l) sealed-now i) in
         let live = sealed-of L (G .sound) s (just-live L (G .sound) s P) (G .sound .links .prevs (P .slot) s (P .live) (P .prev) .sealed) .live c ic in
-        ap (forkOn (Z .book)) ec ∙ fork-at g inside Z U G z c live ∙ lt-ltb 0 (forked L c) (f c ic (λ q. d (ec ∙ ap (L .num) q ∙ same-r)))));
+        let other : c ≡ s → ⊥ = λ q. d (ec ∙ ap (L .num) q ∙ same-r) in
+        cases (f c ic other)
+        (λ b. inl (ap (forkOn (Z .book)) ec ∙ fork-at g inside Z U G z c live ∙ lt-ltb 0 (forked L c) b))
+        (λ b. let (l, x) = stays-named c live ic other b in inr (l, subst (HasName (Z .book .names) l) (sym ec) x))));
+    names = kept;
     pages = λ m x y.
         let h = at g inside Z U G z m y in
         let e : K .num (slot U m) ≡ m = sym (w .num (slot U m) (h .0)) ∙ h .1 in
@@ -161,7 +200,7 @@ module _ (g : Geometry) (inside : Inside g) (A : Ledger) (T : State) (F : Fine g
 
 -- ── after any calls ──
 
-module _ (g : Geometry) (inside : Inside g) (before : List Call) (r : ℕ) (l : List ℕ) (e : says g (after g before) (Seal r) ≡ accepted l) where
+module _ (g : Geometry) (inside : Inside g) (before : List Command) (r : ℕ) (l : List ℕ) (e : says g (after g before) (Seal r) ≡ accepted l) where
   abbrev L₀ : Ledger
   L₀ = after g before
 
@@ -190,6 +229,16 @@ module _ (g : Geometry) (inside : Inside g) (before : List Call) (r : ℕ) (l : 
   loop : (b : ℕ) → closed g (after g before) r .ledger .book ≡ accept (g .pages) (after g before .book) (Seal r) b
   loop b = closed-book g inside L₀ T₀ fine tells r early last b
 
+  -- the deletes move no name
+  same-names : keeps g (after g before) (Seal r) .book .names ≡ recSealed (after g before .book) r .names
+  unfolding keeps
+  same-names =
+      let B : Book = L₀ .book in
+      let m : ℕ = T₀ .view .num (slot T₀ r) in
+      let b : ℕ = blockGiven (account g L₀ (Seal r) .result) in
+      ap (λ (C : Book). C .names) (sym (closing-book g inside T₀ fine r early B (g .pages) b (tells .book) (tells .windows))) ∙
+      trimmed-names (recSealed B m) (windowOf T₀ r) m ∙ ap (λ k. recSealed B k .names) (named-slot g inside T₀ fine r (early .eight) .1)
+
   window-booked : WindowBooked (recSealed (after g before .book) r) (keeps g (after g before) (Seal r) .book) (windowOn (after g before .book) r) r
   unfolding acted actedAll sealing steps
   window-booked =
@@ -197,16 +246,18 @@ module _ (g : Geometry) (inside : Inside g) (before : List Call) (r : ℕ) (l : 
       let s₀ : ℕ = slot T₀ r in
       let q = asks g inside L₀ T₀ fine tells r early in
       let n₀ : ℕ = windowOf T₀ r in
+      let names₀ : ℕ → ℕ = T₀ .notes .names in
       let O = next g inside L₀ T₀ fine tells r early in
       let F = sealed-fine g inside L₀ T₀ fine tells r early last in
       let K₁ : View = done K₀ (doS s₀) in
       subst (λ n. WindowBooked (recSealed (L₀ .book) r) (keeps g L₀ (Seal r) .book) n r) (sym (window-told g inside L₀ T₀ fine tells r early))
       (subst (λ m. WindowBooked (recSealed (L₀ .book) r) (keeps g L₀ (Seal r) .book) n₀ m) (now-named g inside L₀ T₀ fine tells r early)
-      (booked g inside (afterSeal L₀ r) (withNotes (acted T₀ (doS s₀) 0) (windowPassed T₀ r)) F (sealed-tells g inside L₀ T₀ fine tells r early)
+      (booked g inside (afterSeal L₀ r) (withNotes (acted T₀ (doS s₀) 0) (sealedNotes T₀ r)) F (sealed-tells g inside L₀ T₀ fine tells r early)
       (keeps g L₀ (Seal r)) (effect g T₀ (Seal r)) (effect-fine g inside T₀ fine (Seal r) none) (seal-kept r g L₀ T₀ inside fine tells none)
-      n₀ s₀ (takes-oldest K₁ (steps K₀ (closes T₀ r)) n₀ s₀ (seal-takes K₀ s₀ (fine .sound) q n₀))
-      (seal-stops K₀ s₀ (fine .sound) q n₀) O
-      (open-along (victims K₁ n₀ s₀) K₁ s₀ (victims-may K₁ n₀ s₀ (F .sound) (just-live K₁ (F .sound) s₀ O)) O)))
+      names₀ n₀ s₀ (takes-oldest K₁ (steps K₀ (closes T₀ r)) names₀ n₀ s₀ (seal-takes K₀ s₀ (fine .sound) q names₀ n₀))
+      (seal-stops K₀ s₀ (fine .sound) q names₀ n₀) O
+      (open-along (victims K₁ names₀ n₀ s₀) K₁ s₀ (victims-may K₁ names₀ n₀ s₀ (F .sound) (just-live K₁ (F .sound) s₀ O)) O)
+      (older-alike g inside L₀ T₀ fine tells r early) same-names))
 
 -- THE LOOP IS THE BOOK'S OWN STEP
 pub window-loop : WindowLoop

@@ -4,7 +4,7 @@ use mathlib.Core.List.{List, []}
 use Rattle.answer.specs.Reply.{accepted}
 use Rattle.geometry.specs.declared.Geometry.{Geometry}
 use Rattle.geometry.specs.Limits.{Inside, blocks}
-use Rattle.model.specs.declared.Call.{Call}
+use Rattle.model.specs.Command.{Command}
 use Rattle.model.specs.Book.{emptyBook}
 use Rattle.model.specs.History.{Machine, Demand3, stateFrom}
 use Rattle.model.specs.HistoryFacts.{HistoryFacts}
@@ -14,11 +14,11 @@ use Rattle.ledger.specs.Ledger.{Ledger, fresh, refusalsOf, says, step}
 use Rattle.ledger.specs.Told.{BookKept, ledgerAfter, stepsTo}
 
 abbrev pub clerk : Geometry → Machine
-clerk g = record { Tables = Ledger; Asked = Call; call = λ c. c; conditions = refusalsOf g; answer = says g; after = step g }
+clerk g = record { Tables = Ledger; Asked = Command; call = λ c. c; conditions = refusalsOf g; answer = says g; after = step g }
 
 -- for any six numbers inside the limits, and any calls
 abbrev pub LedgerDemand : Type 0
-LedgerDemand = (g : Geometry) → Inside g → (l : List Call) →
+LedgerDemand = (g : Geometry) → Inside g → (l : List Command) →
     Demand3 (clerk g) (g .pages) (blocks g) fresh l × HistoryFacts (clerk g) (g .pages) (blocks g) fresh l
 
 -- THE BOOK INSIDE THE LEDGER IS THE PAGE BOOK, fed from the replies: of the ledger alone; of the store's history on lent memory; and of a store that keeps

@@ -1,4 +1,4 @@
--- THE REFUSALS, of a making (2, 3) and of a call (2 to 15), each exactly when, and acceptance (rules 2.1, 7.1, 8), on any memory; what a making leaves (2.3).
+-- THE REFUSALS, of a making (2, 3) and of a call (2 to 18), each exactly when, and acceptance (rules 2.1, 7.1, 8), on any memory; what a making leaves (2.3).
 use mathlib.Core.Path.{_≡_}
 use mathlib.Core.Logic.{_↔_, _⊎_}
 use mathlib.Core.List.{List, []}
@@ -14,7 +14,7 @@ use Rattle.model.specs.Layout.{stateOf}
 use Rattle.model.specs.Memory.{Memory, reply, after, makeReply, makeAfter}
 use Rattle.model.specs.SoundStore.{MadeFor, SoundStore}
 use Rattle.model.specs.RefusalMeans.{sentences, First, NoneTrue}
-use Rattle.model.specs.declared.Call.{Call}
+use Rattle.model.specs.Command.{Command}
 
 -- how many numbers the tables of a geometry are
 abbrev pub tableSize : Geometry → ℕ
@@ -53,11 +53,11 @@ pub record MakingMeans (g : Geometry) (M : Memory) : Type 0 where
 abbrev pub held : Geometry → Memory → State
 held g M = stateOf g (M .tables)
 
-pub record CallMeans (g : Geometry) (M : Memory) (c : Call) : Type 0 where
+pub record CallMeans (g : Geometry) (M : Memory) (c : Command) : Type 0 where
   pub two : (reply g M c ≡ refused 2) ↔ (Inside g → ⊥)
   pub three : (reply g M c ≡ refused 3) ↔ (Inside g × TooShort g M)
   pub four : (reply g M c ≡ refused 4) ↔ (Inside g × (Enough g M × (SoundStore g (M .tables) (M .log) → ⊥)))
-  -- 5 to 15: the first of the call's sentences that is true (RefusalMeans has them in the rules' words) has this number
+  -- 5 to 18: the first of the call's sentences that is true (RefusalMeans has them in the rules' words) has this number
   pub later : (n : ℕ) → 4 < n →
       (reply g M c ≡ refused n) ↔ (Inside g × (Enough g M × (SoundStore g (M .tables) (M .log) × First n (sentences g (held g M) c))))
   -- none of them is true
@@ -67,4 +67,4 @@ pub record CallMeans (g : Geometry) (M : Memory) (c : Call) : Type 0 where
   pub refusal : (n : ℕ) → reply g M c ≡ refused n → after g M c ≡ M
 
 abbrev pub MemoryMeans : Type 0
-MemoryMeans = (g : Geometry) (M : Memory) → MakingMeans g M × ((c : Call) → CallMeans g M c)
+MemoryMeans = (g : Geometry) (M : Memory) → MakingMeans g M × ((c : Command) → CallMeans g M c)

@@ -15,13 +15,13 @@ use Rattle.answer.specs.Refusal.{NoneHolds, leaves}
 use Rattle.answer.proofs.Decided.{decide-accepts}
 use Rattle.geometry.specs.declared.Geometry.{Geometry}
 use Rattle.model.specs.Held.{frees}
-use Rattle.model.specs.declared.Call.{Call}
-use Rattle.model.specs.declared.Call.the-variants.{Begin, Fork}
+use Rattle.model.specs.Command.{Command}
+use Rattle.model.specs.Command.{Begin, Fork}
 use Rattle.model.specs.View.{View}
-use Rattle.model.specs.State.{State, withView, withNotes, withWindow}
+use Rattle.model.specs.State.{State, Notes, withView, withNotes, bareNotes}
 use Rattle.model.specs.Effects.{begin, fork}
 use Rattle.model.specs.Actions.{Action, doB, doF, done, slotOf, vacant}
-use Rattle.model.specs.Calls.{account, slot, conditions, result, acted, effect, withoutWindow}
+use Rattle.model.specs.Calls.{account, slot, conditions, result, acted, effect, begunNotes}
 use Rattle.model.specs.Layout.{viewOf, stateOf, stored}
 use Rattle.model.specs.Memory.{midway, storedBy}
 use Rattle.model.proofs.ByNumber.{none-at}
@@ -52,12 +52,12 @@ module _ {g : Geometry} {t : List ℕ} (R : Ready g t) where
   T = stateOf g t
 
   -- what a call promises
-  abbrev pub Left : Call → List ℕ → Answer → List ℕ → List ℕ → Type 0
+  abbrev pub Left : Command → List ℕ → Answer → List ℕ → List ℕ → Type 0
   Left c out r u out′ = (replyOf r out′ ≡ replied g t c) × ((u ≡ tablesLeft g t c) × (out′ ≡ outLeft g t out c))
 
   -- ── a refusal ──
 
-  pub refused-left : (c : Call) (s k : ℕ) (v : Verdict) (out : List ℕ) → v ≡ verdict g t c s → v ≡ Refused k → Left c out (answer.Refused k) t out
+  pub refused-left : (c : Command) (s k : ℕ) (v : Verdict) (out : List ℕ) → v ≡ verdict g t c s → v ≡ Refused k → Left c out (answer.Refused k) t out
   unfolding verdict replied replyOf tablesLeft outLeft
   refused-left c s k v out e d =
       let a : replied g t c ≡ refused k = refuses (conditions g T c) s (pred (vacant (T .view))) k (result g T c) (sym e ∙ d) in (
@@ -70,7 +70,7 @@ module _ {g : Geometry} {t : List ℕ} (R : Ready g t) where
 
   -- ── what acceptance says of the slots ──
 
-  taken : (c : Call) (s a b : ℕ) (v : Verdict) → v ≡ verdict g t c s → v ≡ Accept a b →
+  taken : (c : Command) (s a b : ℕ) (v : Verdict) → v ≡ verdict g t c s → v ≡ Accept a b →
       NoneHolds (conditions g T c) × (a ≡ s) × (b ≡ pred (vacant (T .view)))
   unfolding verdict
   taken c s a b v e d = accepts (conditions g T c) s (pred (vacant (T .view))) a b (sym e ∙ d)
@@ -114,11 +114,10 @@ module _ {g : Geometry} {t : List ℕ} (R : Ready g t) where
   -- ── an accepted call, which left the tables u and gave r ──
 
   module _ (u out : List ℕ) (r : ℕ) (num : r ≡ getD t 6 0 + 1) (long : OutLong g out) where
-    grown : (c : Call) (K : View) (f : ℕ) → NoneHolds (conditions g T c) → result g T c ≡ suc (T .view .last) ∷ [] →
-        withNotes (withView T K) (withWindow (T .notes) f 0) ≡ effect g T c → midway g T (account c) t ≡ t → u ≡ viewed g t K f 0 →
-        Left c out (answer.Done 1) u (set out 0 r)
+    grown : (c : Command) (K : View) (N : Notes) → NoneHolds (conditions g T c) → result g T c ≡ suc (T .view .last) ∷ [] →
+        withNotes (withView T K) N ≡ effect g T c → midway g T (account c) t ≡ t → u ≡ viewed g t K N → Left c out (answer.Done 1) u (set out 0 r)
     unfolding viewed replied replyOf tablesLeft outLeft
-    grown c K f n e k way d =
+    grown c K N n e k way d =
         let a : replied g t c ≡ accepted (result g T c) = decide-accepts (conditions g T c) (result g T c) n in
         let v : r ≡ suc (T .view .last) = omega (arith, last-at) in (
           ap accepted (one out r (omega arith) ∙ ap (λ (n : ℕ). n ∷ []) v ∙ sym e) ∙ sym a,
@@ -128,19 +127,20 @@ module _ {g : Geometry} {t : List ℕ} (R : Ready g t) where
           ),
         )
 
-    -- the action of a new line, which has no window
+    -- the action of a new line, which has no window, and no name
     bare : (a : Action) → frees (T .view) a ≡ [] →
-        withNotes (withView T (done (T .view) a)) (withoutWindow T) ≡ withNotes (acted T a 0) (withoutWindow T)
-    bare a e = ap (λ U. withNotes U (withoutWindow T)) (acted-is T a e)
+        withNotes (withView T (done (T .view) a)) (begunNotes T) ≡ withNotes (acted T a 0) (begunNotes T)
+    bare a e = ap (λ U. withNotes U (begunNotes T)) (acted-is T a e)
 
-    pub begin-left : (s f : ℕ) (v : Verdict) → v ≡ verdict g t Begin 0 → v ≡ Accept s f → u ≡ viewed g t (begin (T .view) f) f 0 →
+    pub begin-left : (s f : ℕ) (v : Verdict) → v ≡ verdict g t Begin 0 → v ≡ Accept s f → u ≡ viewed g t (begin (T .view) f) (bareNotes (T .notes) f) →
         Left Begin out (answer.Done 1) u (set out 0 r)
     begin-left s f v e d b =
         let w = taken Begin 0 s f v e d in
-        grown Begin _ _ (w .0) refl (bare doB refl) refl (b ∙ ap (λ (f : ℕ). viewed g t (begin (T .view) f) f 0) (w .2))
+        grown Begin _ _ (w .0) refl (bare doB refl) refl (b ∙ ap (λ (f : ℕ). viewed g t (begin (T .view) f) (bareNotes (T .notes) f)) (w .2))
 
-    pub fork-left : (n s f : ℕ) (v : Verdict) → v ≡ verdict g t (Fork n) (slot T n) → v ≡ Accept s f → u ≡ viewed g t (fork (T .view) s f) f 0 →
-        Left (Fork n) out (answer.Done 1) u (set out 0 r)
+    pub fork-left : (n s f : ℕ) (v : Verdict) → v ≡ verdict g t (Fork n) (slot T n) → v ≡ Accept s f →
+        u ≡ viewed g t (fork (T .view) s f) (bareNotes (T .notes) f) → Left (Fork n) out (answer.Done 1) u (set out 0 r)
     fork-left n s f v e d b =
         let w = taken (Fork n) (slot T n) s f v e d in
-        grown (Fork n) _ _ (w .0) refl (bare (doF (slot T n)) refl) refl (b ∙ ap₂ (λ (s f : ℕ). viewed g t (fork (T .view) s f) f 0) (w .1) (w .2))
+        grown (Fork n) _ _ (w .0) refl (bare (doF (slot T n)) refl) refl
+        (b ∙ ap₂ (λ (s f : ℕ). viewed g t (fork (T .view) s f) (bareNotes (T .notes) f)) (w .1) (w .2))

@@ -11,7 +11,7 @@ use Rattle.answer.specs.Reply.{refused}
 use Rattle.answer.specs.Refusal.{Condition, decide, NoneHolds}
 use Rattle.answer.proofs.Cases.{cases, either}
 use Rattle.geometry.specs.declared.Geometry.{Geometry}
-use Rattle.model.specs.declared.Call.the-variants.{Begin, Fork}
+use Rattle.model.specs.Command.{Begin, Fork}
 use Rattle.model.specs.Actions.{slotOf, vacant}
 use Rattle.model.specs.Calls.{slot, conditions}
 use Rattle.model.specs.Layout.{openCell, viewOf, stateOf}

@@ -4,7 +4,7 @@ use mathlib.Core.List.{List, [], _∷_}
 use Prim.Native.Nat.{ℕ, pred}
 use Rattle.answer.specs.Refusal.{Condition}
 use Rattle.geometry.specs.declared.Geometry.{Geometry}
-use Rattle.model.specs.declared.Call.{Call}
+use Rattle.model.specs.Command.{Command}
 use Rattle.model.specs.Actions.{vacant}
 use Rattle.model.specs.Calls.{conditions}
 use Rattle.model.specs.Layout.{stateOf}
@@ -17,5 +17,5 @@ verdictOf [] s f = Accept s f
 verdictOf (c ∷ cs) s f = cond (c .1) (Refused (c .0)) (verdictOf cs s f)
 
 -- of a call on the record in slot s
-unfoldable pub verdict : Geometry → List ℕ → Call → ℕ → Verdict
+unfoldable pub verdict : Geometry → List ℕ → Command → ℕ → Verdict
 verdict g t c s = verdictOf (conditions g (stateOf g t) c) s (pred (vacant (stateOf g t .view)))

@@ -4,7 +4,7 @@ pub mod verdict;
 
 ghost use mathlib.Core.Path.{_≡_};
 ghost use Rattle.answer.specs.Reply.{replyOf};
-ghost use Rattle.model.specs.declared.Call.the-variants.{Begin, Fork};
+ghost use Rattle.model.specs.Command.{Begin, Fork};
 ghost use Rattle.tables.specs.Ready.{Ready, OutLong, LinkOf};
 ghost use Rattle.tables.specs.Outcome.{replied, tablesLeft, outLeft};
 use crate::grow::begin_at;

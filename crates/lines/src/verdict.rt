@@ -1,6 +1,6 @@
 // Whether a call that opens a record is refused, and on which slots it works.
 ghost use mathlib.Core.Path.{_≡_};
-ghost use Rattle.model.specs.declared.Call.the-variants.{Begin, Fork};
+ghost use Rattle.model.specs.Command.{Begin, Fork};
 ghost use Rattle.model.specs.Layout.{stateOf};
 ghost use Rattle.model.specs.Calls.{slot};
 ghost use Rattle.tables.specs.Ready.{Roomy, Ready, LinkOf};

@@ -17,8 +17,8 @@ use Rattle.log.specs.Word.{writeAt, wordBytes, bytesOf}
 use Rattle.log.specs.Runs.{runs}
 use Rattle.log.specs.Compress as log
 use Rattle.log.proofs.Tools.{take-sets}
-use Rattle.model.specs.declared.Call.{Call}
-use Rattle.model.specs.declared.Call.the-variants.{Barrier, Compress, FreeList}
+use Rattle.model.specs.Command.{Command}
+use Rattle.model.specs.Command.{Barrier, Compress, FreeList}
 use Rattle.model.specs.State.{synced}
 use Rattle.model.specs.Layout.{stateOf, stored}
 use Rattle.model.specs.Memory.{writtenAt, storedBy}
@@ -33,7 +33,7 @@ use Rattle.logging.proofs.Listing.{pairsFrom}
 
 -- ── any call, by its reply ──
 
-module _ (g : Geometry) (t : List ℕ) (c : Call) where
+module _ (g : Geometry) (t : List ℕ) (c : Command) where
   -- what an accepted call leaves
   module _ (a : replied g t c ≡ accepted (result g (stateOf g t) c)) where
     pub reply-done : (out : List ℕ) → length (result g (stateOf g t) c) ≤ length out
@@ -96,7 +96,7 @@ synced-holds {g} {t} {u} R e =
         pages = S .pages;
         blocks = S .blocks;
         mark = S .mark;
-        window = S .window;
+        notes = S .notes;
         few = omega arith;
       };
     }

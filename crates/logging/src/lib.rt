@@ -11,7 +11,7 @@ ghost use Rattle.log.specs.Word.{writeAt, bytesOf};
 ghost use Rattle.log.specs.Runs.{ending};
 ghost use Rattle.log.specs.Compress.{compressed};
 ghost use Rattle.model.specs.Calls.{pairs};
-ghost use Rattle.model.specs.declared.Call.the-variants.{Barrier, Compress, FreeList};
+ghost use Rattle.model.specs.Command.{Barrier, Compress, FreeList};
 ghost use Rattle.tables.specs.Ready.{Ready, OutLong, LogLong};
 ghost use Rattle.tables.specs.Outcome.{replied, tablesLeft, logLeft, outLeft};
 use answer::Answer;

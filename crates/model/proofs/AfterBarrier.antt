@@ -22,8 +22,8 @@ use Rattle.model.specs.History.{Machine, Event, give, free, Entry, entry
 use Rattle.model.specs.History.{wasAccepted, freedAmong, syncsBy, syncs, synced?, unsyncedAfter, unsyncedFrom, unsynced}
 use Rattle.model.specs.HistoryFacts.{Synced, Frees, Gives, runsOfPairs, Lists}
 use Rattle.model.specs.Model.{Screened, answer, model, stateAfter, history}
-use Rattle.model.specs.declared.Call.{Call}
-use Rattle.model.specs.declared.Call.the-variants.{Write}
+use Rattle.model.specs.Command.{Command}
+use Rattle.model.specs.Command.{Write}
 use Rattle.model.proofs.EachCall.{Is, is}
 use Rattle.model.proofs.ModelFacts.{accepted-is}
 use Rattle.model.proofs.Waiting.{waits-in}
@@ -125,7 +125,7 @@ frees-by (placing r x k) l b i = refl
 frees-by marking l b i = absurd i
 frees-by renewing l b i = absurd i
 
-frees-not-syncs : (c : Call) (A : Reply) (b : ℕ) → Some (λ v. v ≡ free b) (eventsOf c A) → (wasAccepted A && syncs c) ≡ false
+frees-not-syncs : (c : Command) (A : Reply) (b : ℕ) → Some (λ v. v ≡ free b) (eventsOf c A) → (wasAccepted A && syncs c) ≡ false
 frees-not-syncs c (refused n) b i = refl
 frees-not-syncs c (accepted l) b i = frees-by (account c) l b i
 
@@ -155,7 +155,7 @@ no-give b [] i = i
 no-give b (c ∷ l) i = cases i (λ e. not-free c b (sym e)) (no-give b l)
 
 -- the numbers of a W that gave b begin with it
-pub record GaveBy (b : ℕ) (c : Call) (A : Reply) : Type 0 where
+pub record GaveBy (b : ℕ) (c : Command) (A : Reply) : Type 0 where
   pub r : ℕ
   pub x : ℕ
   pub k : ℕ
@@ -172,7 +172,7 @@ gives-first b r x k (c ∷ v ∷ l) i =
     (λ e. record { r = r; x = x; k = k; rest = v ∷ l; call = refl; answer = ap (λ d. accepted (d ∷ v ∷ l)) (same-give b c e) })
     (λ j. absurd (no-give b (blocksIn l) j))
 
-gave-as : (b : ℕ) (c : Call) (A : Account) (l : List ℕ) → Is c A → Some (λ v. v ≡ give b) (eventsBy A l) → GaveBy b c (accepted l)
+gave-as : (b : ℕ) (c : Command) (A : Account) (l : List ℕ) → Is c A → Some (λ v. v ≡ give b) (eventsBy A l) → GaveBy b c (accepted l)
 gave-as b c (looking s cs res note) l e i = absurd i
 gave-as b c (opening cs a) l e i = absurd i
 gave-as b c (freeing cs a) l e i = absurd (no-give b (blocksIn l) i)
@@ -181,7 +181,7 @@ gave-as b c (placing r x k) l e i = subst (λ d. GaveBy b d (accepted l)) (sym e
 gave-as b c marking l e i = absurd i
 gave-as b c renewing l e i = absurd i
 
-pub gave-by : (b : ℕ) (c : Call) (A : Reply) → Some (λ v. v ≡ give b) (eventsOf c A) → GaveBy b c A
+pub gave-by : (b : ℕ) (c : Command) (A : Reply) → Some (λ v. v ≡ give b) (eventsOf c A) → GaveBy b c A
 gave-by b c (refused n) i = absurd i
 gave-by b c (accepted l) i = gave-as b c (account c) l (is c) i
 

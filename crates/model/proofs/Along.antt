@@ -31,8 +31,8 @@ use Rattle.model.specs.History.{Machine, Entry, entryOf, stateFrom, hist
 use Rattle.model.specs.HistoryFacts.{Synced}
 use Rattle.model.specs.Demand.{Own, withOut, ownStore, run}
 use Rattle.model.specs.Crash.{isC, compacts?, Compacts}
-use Rattle.model.specs.declared.Call.{Call}
-use Rattle.model.specs.declared.Call.the-variants.{Barrier, Compress}
+use Rattle.model.specs.Command.{Command}
+use Rattle.model.specs.Command.{Barrier, Compress}
 use Rattle.model.proofs.EachCall.{Is, is}
 use Rattle.model.proofs.LogKeeps.{logAfter}
 use Rattle.model.proofs.Keeps.{Accepted, accepted-is, sound-fine, log-after, accepted-state, accepted-log}
@@ -65,7 +65,7 @@ renews-syncs marking true e = absurd (false≢true e)
 renews-syncs renewing true e = e
 renews-syncs A false e = absurd (false≢true e)
 
-pub compacts-syncs : (c : Call) (t : Bool) → (t && isC c) ≡ true → (t && syncs c) ≡ true
+pub compacts-syncs : (c : Command) (t : Bool) → (t && isC c) ≡ true → (t && syncs c) ≡ true
 compacts-syncs c t e = renews-syncs (account c) t e
 
 pub quiet-keeps : (l : List Entry) → (Some Synced l → ⊥) → Some Compacts l → ⊥
@@ -105,14 +105,14 @@ used-by g T (placing r x k) e = refl
 used-by g T marking e = refl
 used-by g T renewing e = absurd (false≢true (sym e))
 
-effect-used : (g : Geometry) (T : State) (c : Call) → isC c ≡ false → effect g T c .used ≡ T .used + length (written g T c)
+effect-used : (g : Geometry) (T : State) (c : Command) → isC c ≡ false → effect g T c .used ≡ T .used + length (written g T c)
 effect-used g T c e = used-by g T (account c) e
 
-log-joined : (g : Geometry) (i : Inside g) (T : State) (R : Rattle.model.proofs.Fine.Fine g T) (l : List ℕ) (r : Reads (g .arenas) (g .per) l (held (T .view))) (c : Call) →
+log-joined : (g : Geometry) (i : Inside g) (T : State) (R : Rattle.model.proofs.Fine.Fine g T) (l : List ℕ) (r : Reads (g .arenas) (g .per) l (held (T .view))) (c : Command) →
     isC c ≡ false → logAfter g i T R l r c ≡ l ++ bytesOf (written g T c)
 log-joined g i T R l r c e = ap (λ t. cond t (bytesOf (written g T c)) (l ++ bytesOf (written g T c))) e
 
-renews-C : (c : Call) (A : Account) → Is c A → renews A ≡ true → c ≡ Compress
+renews-C : (c : Command) (A : Account) → Is c A → renews A ≡ true → c ≡ Compress
 renews-C c (looking s cs res note) i e = absurd (false≢true e)
 renews-C c (opening cs a) i e = absurd (false≢true e)
 renews-C c (freeing cs a) i e = absurd (false≢true e)
@@ -121,7 +121,7 @@ renews-C c (placing r x k) i e = absurd (false≢true e)
 renews-C c marking i e = absurd (false≢true e)
 renews-C c renewing i e = i .0
 
-pub is-C : (c : Call) → isC c ≡ true → c ≡ Compress
+pub is-C : (c : Command) → isC c ≡ true → c ≡ Compress
 is-C c e = renews-C c (account c) (is c) e
 
 module _ (g : Geometry) where
@@ -134,7 +134,7 @@ module _ (g : Geometry) where
   used-is M = refl
 
   -- what an accepted call leaves of the log
-  module _ (M : Memory) (c : Call) (l : List ℕ) (e : reply g M c ≡ accepted l) where
+  module _ (M : Memory) (c : Command) (l : List ℕ) (e : reply g M c ≡ accepted l) where
     abbrev T : State
     T = stateOf g (M .tables)
 
@@ -151,11 +151,11 @@ module _ (g : Geometry) where
         log-after g T (M .log) (omega (arith, A .long .log, F .range .used)) F (A .inside) (A .sound .logged) c
 
   -- a refused one leaves it
-  pub refused-tables : (M : Memory) (c : Call) (n : ℕ) → reply g M c ≡ refused n → after g M c .tables ≡ M .tables
+  pub refused-tables : (M : Memory) (c : Command) (n : ℕ) → reply g M c ≡ refused n → after g M c .tables ≡ M .tables
   unfolding after
   refused-tables M c n e = ap (λ r. leaves r (M .tables) (storedBy g (M .tables) c)) e
 
-  refused-log : (M : Memory) (c : Call) (n : ℕ) → reply g M c ≡ refused n → after g M c .log ≡ M .log
+  refused-log : (M : Memory) (c : Command) (n : ℕ) → reply g M c ≡ refused n → after g M c .log ≡ M .log
   unfolding after
   refused-log M c n e =
       let T : State = stateOf g (M .tables) in
@@ -272,7 +272,7 @@ plain-by g T (placing r x k) e = (λ z. omega arith, plain-released (frees (T .v
 plain-by g T marking e = absurd (false≢true (sym e))
 plain-by g T renewing e = absurd (false≢true (sym e))
 
-plain-written : (g : Geometry) (T : State) (c : Call) → syncs c ≡ false → Plain (written g T c)
+plain-written : (g : Geometry) (T : State) (c : Command) → syncs c ≡ false → Plain (written g T c)
 plain-written g T c e = plain-by g T (account c) e
 
 pub plain-wrote : (g : Geometry) (l : List Own) (M : Memory) → (Some Synced (historyFrom (ownStore g) M l) → ⊥) → Plain (wroteAll g M l)
@@ -303,7 +303,7 @@ runs-end [] = ([], refl)
 runs-end (r ∷ l) = let w = runs-end l in (runWords (r .0) (r .1) ++ w .0, ap (λ k. runWords (r .0) (r .1) ++ k) (w .1) ∙ sym (append-assoc (runWords (r .0) (r .1)) (w .0) (barrier ∷ [])))
 
 -- an accepted Y or C is one of the two
-ended-by : (c : Call) (A : Account) → Is c A → (t : Bool) → (t && syncsBy A) ≡ true → ((t && renews A) ≡ true → ⊥) → (c ≡ Barrier) × (t ≡ true)
+ended-by : (c : Command) (A : Account) → Is c A → (t : Bool) → (t && syncsBy A) ≡ true → ((t && renews A) ≡ true → ⊥) → (c ≡ Barrier) × (t ≡ true)
 ended-by c (looking s cs res note) i true e n = absurd (false≢true e)
 ended-by c (opening cs a) i true e n = absurd (false≢true e)
 ended-by c (freeing cs a) i true e n = absurd (false≢true e)
@@ -313,7 +313,7 @@ ended-by c marking i true e n = (i .0, refl)
 ended-by c renewing i true e n = absurd (n refl)
 ended-by c A i false e n = absurd (false≢true e)
 
-pub ended : (c : Call) (t : Bool) → (t && syncs c) ≡ true → ((t && isC c) ≡ true → ⊥) → (c ≡ Barrier) × (t ≡ true)
+pub ended : (c : Command) (t : Bool) → (t && syncs c) ≡ true → ((t && isC c) ≡ true → ⊥) → (c ≡ Barrier) × (t ≡ true)
 ended c t e n = ended-by c (account c) (is c) t e n
 
 module _ (g : Geometry) where

@@ -14,8 +14,9 @@ use Rattle.model.specs.View.{View}
 use Rattle.model.specs.Sound.{Sound}
 use Rattle.model.specs.Actions.{doS, doF, Asks, forked, vacant, slotOf}
 use Rattle.model.specs.State.{State, InRange, WaitingFits, WindowsFit}
+use Rattle.model.specs.NamesAgree.{NamesAgree}
 use Rattle.model.specs.Calls.{slot, writing, erasing, deleting, conditions, account, short}
-use Rattle.model.specs.declared.Call.the-variants.{Write, Erase, Fork}
+use Rattle.model.specs.Command.{Write, Erase, Fork}
 use Rattle.model.proofs.DoneSound.{hit}
 use Rattle.model.proofs.ChoiceFacts.{given-block}
 use Rattle.model.proofs.ByNumber.{none-at}
@@ -42,6 +43,7 @@ pub record Fine (g : Geometry) (T : State) : Type 0 where
   pub range : InRange g T
   pub waits : WaitingFits T
   pub windows : WindowsFit (T .view) (T .notes)
+  pub names : NamesAgree (T .view) (T .notes .titles) (T .notes .names)
 
 -- an S of r is not refused 8, 9 or 11
 pub record Unrefused (T : State) (r : ℕ) : Type 0 where

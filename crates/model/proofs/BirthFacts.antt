@@ -24,8 +24,8 @@ use Rattle.model.specs.Calls.{logged, effect}
 use Rattle.model.specs.History.{Entry, entryOf, stateFrom, historyFrom}
 use Rattle.model.specs.HistoryFacts.{Names, Gave, LastGave}
 use Rattle.model.specs.Model.{Screened, answer, keepOr, modelAfter, model, stateAfter, history}
-use Rattle.model.specs.declared.Call.{Call}
-use Rattle.model.specs.declared.Call.the-variants.{Write}
+use Rattle.model.specs.Command.{Command}
+use Rattle.model.specs.Command.{Write}
 use Rattle.model.specs.declared.Spelling.{Spelling}
 use Rattle.model.specs.declared.Spelling.the-variants.{Numbers, Blocks, NumberAndBlocks}
 use Rattle.model.proofs.ByNumber.{none-at}
@@ -103,20 +103,20 @@ writesBy (placing r x k) = 1
 writesBy marking = 0
 writesBy renewing = 0
 
-abbrev writes : Call → ℕ
+abbrev writes : Command → ℕ
 writes c = writesBy (account c)
 
-abbrev entry : Call → Reply → Entry
+abbrev entry : Command → Reply → Entry
 entry c A = record { call = c; answer = A }
 
-no-write : (c : Call) (A : Reply) → writes c ≡ 0 → (b q : ℕ) → Gave b q (entry c A) → ⊥
+no-write : (c : Command) (A : Reply) → writes c ≡ 0 → (b q : ℕ) → Gave b q (entry c A) → ⊥
 no-write c A n b q w = let z : ⊥ = omega (arith, ap writes (w .3)) in z
 
 abbrev gives? : Reply → ℕ
 gives? (accepted l) = 1
 gives? (refused n) = 0
 
-no-refusal : (c : Call) (n b q : ℕ) → Gave b q (entry c (refused n)) → ⊥
+no-refusal : (c : Command) (n b q : ℕ) → Gave b q (entry c (refused n)) → ⊥
 no-refusal c n b q w = let z : ⊥ = omega (arith, ap gives? (w .4)) in z
 
 abbrev firstOf : Reply → ℕ
@@ -124,7 +124,7 @@ firstOf (accepted l) = getD l 0 0
 firstOf (refused n) = 0
 
 -- a W gave its first number
-other-given : (c : Call) (l : List ℕ) (b q : ℕ) → (b ≡ getD l 0 0 → ⊥) → Gave b q (entry c (accepted l)) → ⊥
+other-given : (c : Command) (l : List ℕ) (b q : ℕ) → (b ≡ getD l 0 0 → ⊥) → Gave b q (entry c (accepted l)) → ⊥
 other-given c l b q n w = n (sym (ap firstOf (w .4)))
 
 -- an action that gives nothing: what is held then has its birth
@@ -136,10 +136,10 @@ quiet K a h e n m t b k =
 
 module _ (g : Geometry) (inside : Inside g) (T : State) (R : Fine g T) (h : List Entry) (t : Tracked (T .view) h) where
   -- a call whose action gives nothing, or that has none
-  acts : (a : Action) (c : Call) (l : List ℕ) → ((b : ℕ) → Gives a b → ⊥) → writes c ≡ 0 → Tracked (done (T .view) a) (h ++ (entry c (accepted l) ∷ []))
+  acts : (a : Action) (c : Command) (l : List ℕ) → ((b : ℕ) → Gives a b → ⊥) → writes c ≡ 0 → Tracked (done (T .view) a) (h ++ (entry c (accepted l) ∷ []))
   acts a c l n z = quiet (T .view) a h (entry c (accepted l)) n (no-write c (accepted l) z) t
 
-  looks : (c : Call) (A : Reply) → ((b q : ℕ) → Gave b q (entry c A) → ⊥) → Tracked (T .view) (h ++ (entry c A ∷ []))
+  looks : (c : Command) (A : Reply) → ((b q : ℕ) → Gave b q (entry c A) → ⊥) → Tracked (T .view) (h ++ (entry c A ∷ []))
   looks c A n b k = kept-last b (T .view .birth b) h (entry c A) (n b) (t b k)
 
   write-told : (r x k : ℕ) (l : List ℕ) → NoneHolds (conditions g T (Write r x k)) → getD l 0 0 ≡ block g T k → l ≡ block g T k ∷ lib.ListN.drop 1 l →
@@ -161,7 +161,7 @@ module _ (g : Geometry) (inside : Inside g) (T : State) (R : Fine g T) (h : List
       let s = kept-last b (K .birth b) h e (λ q. other-given (Write r x k) l b q (λ j. m (j ∙ f))) (t b (omega (arith, i))) in
       subst (λ u. LastGave b u (h ++ (e ∷ []))) (sym i) s))
 
-  told-by : (c : Call) (A : Account) (l : List ℕ) → account c ≡ A → Is c A → NoneHolds (refusalsBy g T A) → resultBy g T A ≡ l →
+  told-by : (c : Command) (A : Account) (l : List ℕ) → account c ≡ A → Is c A → NoneHolds (refusalsBy g T A) → resultBy g T A ≡ l →
       Tracked (leftBy g T A .view) (h ++ (entry c (accepted l) ∷ []))
   unfolding logged given acted actedAll
   told-by c (looking s cs res note) l d i n e = looks c (accepted l) (no-write c (accepted l) (ap writesBy d))
@@ -170,7 +170,7 @@ module _ (g : Geometry) (inside : Inside g) (T : State) (R : Fine g T) (h : List
   told-by c (closing r) l d i n e =
       let K = T .view in
       λ b k.
-      let v = steps-birth K (closes T r) (sealing-giveless K (windowOf T r) (slot T r)) b k in
+      let v = steps-birth K (closes T r) (sealing-giveless K (T .notes .names) (windowOf T r) (slot T r)) b k in
       subst (λ u. LastGave b u (h ++ (entry c (accepted l) ∷ []))) (sym v)
       (kept-last b (K .birth b) h (entry c (accepted l)) (no-write c (accepted l) (ap writesBy d) b) (t b (omega (arith, v))))
   told-by c (placing r x k) l d i n e =
@@ -179,7 +179,7 @@ module _ (g : Geometry) (inside : Inside g) (T : State) (R : Fine g T) (h : List
   told-by c marking l d i n e = looks c (accepted l) (no-write c (accepted l) (ap writesBy d))
   told-by c renewing l d i n e = looks c (accepted l) (no-write c (accepted l) (ap writesBy d))
 
-  effect-told : (c : Call) (l : List ℕ) → NoneHolds (conditions g T c) → result g T c ≡ l → Tracked (effect g T c .view) (h ++ (entry c (accepted l) ∷ []))
+  effect-told : (c : Command) (l : List ℕ) → NoneHolds (conditions g T c) → result g T c ≡ l → Tracked (effect g T c .view) (h ++ (entry c (accepted l) ∷ []))
   effect-told c l n e = told-by c (account c) l refl (is c) n e
 
   pub told-step : (i : Screened) → Tracked (modelAfter g T i .view) (h ++ (entryOf (model g) T i ∷ []))
@@ -193,7 +193,7 @@ module _ (g : Geometry) (inside : Inside g) (T : State) (R : Fine g T) (h : List
   -- ── a birth in the next result ──
 
   -- of blocks that are held
-  named : (c : Call) (A : Reply) (bs : List ℕ) (b v : ℕ) → ((q : ℕ) → In b bs → Gave b q (entry c A) → ⊥) → ((d : ℕ) → In d bs → 0 < T .view .birth d) →
+  named : (c : Command) (A : Reply) (bs : List ℕ) (b v : ℕ) → ((q : ℕ) → In b bs → Gave b q (entry c A) → ⊥) → ((d : ℕ) → In d bs → 0 < T .view .birth d) →
       Some (λ i. i ≡ born b v) (bornIn (paired (T .view .birth) bs)) → LastGave b v (h ++ (entry c A ∷ []))
   named c A bs b v n p i =
       let (j, e) = some-born (T .view .birth) bs b v (subst (Some (λ i. i ≡ born b v)) (born-paired (T .view .birth) bs) i) in
@@ -222,7 +222,7 @@ module _ (g : Geometry) (inside : Inside g) (T : State) (R : Fine g T) (h : List
       (freed-held (writing g T r x k) q) j)
 
   -- a result of a call that gives no block, by its spelling
-  looked : (c : Call) (s : Spelling) (m l : List ℕ) (b v : ℕ) → writes c ≡ 0 → HeldIf T s m →
+  looked : (c : Command) (s : Spelling) (m l : List ℕ) (b v : ℕ) → writes c ≡ 0 → HeldIf T s m →
       Some (λ i. i ≡ born b v) (itemsOf s m) → LastGave b v (h ++ (entry c (accepted l) ∷ []))
   unfolding itemsOf oneThenBorn afterFirst
   looked c Numbers m l b v z w i = absurd (none-born m b v i)
@@ -237,7 +237,7 @@ module _ (g : Geometry) (inside : Inside g) (T : State) (R : Fine g T) (h : List
       named c (accepted l) (w .these) b v (λ u j. no-write c (accepted l) z b u) (w .held)
       (subst (λ k. Some (λ i. i ≡ born b v) (bornIn k)) (sym (w .numbers)) j))
 
-  named-by : (c : Call) (A : Account) (l : List ℕ) (b v : ℕ) → account c ≡ A → Is c A → Fits g T c A → NoneHolds (refusalsBy g T A) → resultBy g T A ≡ l →
+  named-by : (c : Command) (A : Account) (l : List ℕ) (b v : ℕ) → account c ≡ A → Is c A → Fits g T c A → NoneHolds (refusalsBy g T A) → resultBy g T A ≡ l →
       Some (λ i. i ≡ born b v) (itemsOf (spellingBy A) (resultBy g T A)) → LastGave b v (h ++ (entry c (accepted l) ∷ []))
   unfolding itemsOf afterFirst
   named-by c (looking s cs res note) l b v d i f n e o = looked c s (res g T) l b v (ap writesBy d) (f n .1) o
@@ -258,7 +258,7 @@ module _ (g : Geometry) (inside : Inside g) (T : State) (R : Fine g T) (h : List
   named-by c marking l b v d i f n e o = absurd o
   named-by c renewing l b v d i f n e o = absurd (none-born (resultBy g T renewing) b v o)
 
-  result-told : (c : Call) (l : List ℕ) (b v : ℕ) → NoneHolds (conditions g T c) → result g T c ≡ l →
+  result-told : (c : Command) (l : List ℕ) (b v : ℕ) → NoneHolds (conditions g T c) → result g T c ≡ l →
       Some (λ i. i ≡ born b v) (itemsOf (spelling c) (result g T c)) → LastGave b v (h ++ (entry c (accepted l) ∷ []))
   result-told c l b v n e i = named-by c (account c) l b v refl (is c) (fits g inside T R c) n e i
 

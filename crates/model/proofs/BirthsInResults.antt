@@ -22,8 +22,8 @@ use Rattle.model.specs.Layout.{stateOf}
 use Rattle.model.specs.Memory.{Memory, wordsUsed, writtenAt}
 use Rattle.model.specs.Births.{InStore, WithBirths, Spelled, NamedAs, BirthsInResults, wordsAs, wordsFor, LogAsBefore}
 use Rattle.model.specs.Crash.{isC}
-use Rattle.model.specs.declared.Call.{Call}
-use Rattle.model.specs.declared.Call.the-variants.{Compress}
+use Rattle.model.specs.Command.{Command}
+use Rattle.model.specs.Command.{Compress}
 use Rattle.model.specs.declared.Spelling.{Spelling}
 use Rattle.model.specs.declared.Spelling.the-variants.{Numbers, Blocks, NumberAndBlocks}
 use Rattle.model.proofs.ByNumber.{none-at}
@@ -61,7 +61,7 @@ spelled T NumberAndBlocks m l S w e = with-births (T .view) (w .these) (afterFir
 
 module _ (g : Geometry) (inside : Inside g) (T : State) (F : Fine g T) where
   -- by the kind
-  named-as : (c : Call) (A : Account) (l : List ℕ) → Fits g T c A → NoneHolds (refusalsBy g T A) → resultBy g T A ≡ l →
+  named-as : (c : Command) (A : Account) (l : List ℕ) → Fits g T c A → NoneHolds (refusalsBy g T A) → resultBy g T A ≡ l →
       NamedAs (T .view) (leftBy g T A .view) A l
   unfolding given acted actedAll
   named-as c (looking s cs res note) l f n e = spelled T s (res g T) l (F .sound) (f n .1) e
@@ -103,7 +103,7 @@ births-in-results g M c l e =
 -- ── log words ──
 
 -- a call's words, by the blocks of its result
-words-by : (g : Geometry) (T : State) (c : Call) (A : Account) → Is c A → (c ≡ Compress → ⊥) →
+words-by : (g : Geometry) (T : State) (c : Command) (A : Account) → Is c A → (c ≡ Compress → ⊥) →
     wordsBy g T A ≡ wordsAs A (blocksOf (spellingBy A) (resultBy g T A))
 unfolding blocksOf blocksIn afterFirst
 words-by g T c (looking s cs res note) i n = refl
@@ -115,11 +115,11 @@ words-by g T c (placing r x k) i n =
 words-by g T c marking i n = refl
 words-by g T c renewing i n = absurd (n (i .0))
 
-words-are : (g : Geometry) (T : State) (c : Call) → (c ≡ Compress → ⊥) → written g T c ≡ wordsFor c (blocksOf (spelling c) (result g T c))
+words-are : (g : Geometry) (T : State) (c : Command) → (c ≡ Compress → ⊥) → written g T c ≡ wordsFor c (blocksOf (spelling c) (result g T c))
 words-are g T c n = words-by g T c (account c) (is c) n
 
 -- they stand behind those that were used
-behind-used : (g : Geometry) (M : Memory) (c : Call) → (c ≡ Compress → ⊥) → writtenAt (stateOf g (M .tables)) c ≡ 8 * wordsUsed M
+behind-used : (g : Geometry) (M : Memory) (c : Command) → (c ≡ Compress → ⊥) → writtenAt (stateOf g (M .tables)) c ≡ 8 * wordsUsed M
 unfolding stateOf
 behind-used g M c n = ap (λ t. cond t 0 (8 * wordsUsed M)) (not-true (isC c) (λ y. n (is-C c y)))
 

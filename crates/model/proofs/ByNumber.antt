@@ -1,7 +1,7 @@
 -- What a call meets, looked up by the refusal's number: a refusal that is put between two others moves none of these facts.
 use mathlib.Core.Path.{_≡_, refl, sym, ap, _∙_, subst}
 use mathlib.Core.Logic.{_⊎_, inl, inr, _↔_}
-use mathlib.Core.Bool.{Bool, true, false, cond, true≢false}
+use mathlib.Core.Bool.{Bool, true, false, cond, _||_, true≢false}
 use mathlib.Core.List.{List, [], _∷_}
 use Prim.Native.Nat.{ℕ, _<_}
 use native.Mathlib.Omega.{arith}
@@ -11,6 +11,11 @@ use Rattle.answer.specs.Reply.{refused}
 use Rattle.answer.specs.Refusal.{Condition, decide, place, Holds, NoneBefore, Ordered, NoneHolds}
 use Rattle.answer.proofs.Cases.{cases, either, lt?}
 use Rattle.answer.proofs.Decided.{above, none-in, decide-refused}
+
+-- a condition that has two cases is not true: neither case is
+pub or-false : (p q : Bool) → (p || q) ≡ false → (p ≡ false) × (q ≡ false)
+or-false true q e = absurd (true≢false e)
+or-false false q e = (refl, e)
 
 -- the test of refusal n among some conditions; false where they have none of that number
 abbrev pub testOf : ℕ → List Condition → Bool

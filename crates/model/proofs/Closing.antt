@@ -13,13 +13,13 @@ use Rattle.model.specs.Actions.{doS, Asks, done}
 use Rattle.model.specs.Held.{heldCount}
 use Rattle.model.specs.Window.{steps, freesAlong, AsksAlong, sealing, victims}
 use Rattle.model.specs.State.{State}
-use Rattle.model.specs.Calls.{closing, refusalsBy, shortBy, slot, windowOf, windowPassed, closes, freedClosing}
+use Rattle.model.specs.Calls.{closing, refusalsBy, shortBy, slot, windowOf, sealedNotes, closes, freedClosing}
 use Rattle.model.specs.Book.{Book, recSealed, windowWith, trimmed, accept}
-use Rattle.model.specs.declared.Call.the-variants.{Seal}
+use Rattle.model.specs.Command.{Seal}
 use Rattle.model.proofs.ByNumber.{none-at}
 use Rattle.model.proofs.Agree.{Agree}
 use Rattle.model.proofs.BookFacts.{in-lines}
-use Rattle.model.proofs.WindowBook.{seal-agrees}
+use Rattle.model.proofs.WindowBook.{NamedAlike, seal-agrees}
 use Rattle.model.proofs.Windows.{WindowsAgree, seal-windows}
 use Rattle.model.proofs.HeldFacts.{held-done}
 use Rattle.model.proofs.DoneSound.{done-sound}
@@ -47,14 +47,14 @@ module _ (g : Geometry) (inside : Inside g) (T : State) (R : Fine g T) (r : ℕ)
   seals = asks-S g inside T R r n
 
   pub closing-asks : AsksAlong (T .view) (closes T r)
-  closing-asks = seal-asks (T .view) (slot T r) (R .sound) seals (windowOf T r)
+  closing-asks = seal-asks (T .view) (slot T r) (R .sound) seals (T .notes .names) (windowOf T r)
 
   pub closing-giveless : Giveless (closes T r)
-  closing-giveless = sealing-giveless (T .view) (windowOf T r) (slot T r)
+  closing-giveless = sealing-giveless (T .view) (T .notes .names) (windowOf T r) (slot T r)
 
   pub closing-last : steps (T .view) (closes T r) .last ≡ T .view .last + 1
   unfolding seal grow close
-  closing-last = seal-takes (T .view) (slot T r) (R .sound) seals (windowOf T r) .last
+  closing-last = seal-takes (T .view) (slot T r) (R .sound) seals (T .notes .names) (windowOf T r) .last
 
   -- the book's step of the call: the book's window of the line is the store's
   pub closing-book : (B : Book) (P b : ℕ) → Agree (T .view) B → WindowsAgree (T .view) (T .notes) B →
@@ -66,16 +66,17 @@ module _ (g : Geometry) (inside : Inside g) (T : State) (R : Fine g T) (r : ℕ)
       ap (λ t. cond t (trimmed (recSealed B m) (windowWith m (B .lines)) m) B) (sym (in-lines m (B .lines) (A .stored s (seals .0)))) ∙
       ap (λ k. accept P B (Seal k) b) (named-slot g inside T R r (n .eight) .1)
 
-  pub closing-agrees : (B : Book) (P b : ℕ) → Agree (T .view) B → WindowsAgree (T .view) (T .notes) B →
+  pub closing-agrees : (B : Book) (P b : ℕ) → Agree (T .view) B → WindowsAgree (T .view) (T .notes) B → NamedAlike (T .view) (T .notes .names) B →
       Agree (steps (T .view) (closes T r)) (accept P B (Seal r) b)
-  closing-agrees B P b A W =
-      subst (Agree (steps (T .view) (closes T r))) (closing-book B P b A W) (seal-agrees (T .view) B (windowOf T r) (slot T r) (R .sound) seals A)
+  closing-agrees B P b A W N =
+      subst (Agree (steps (T .view) (closes T r))) (closing-book B P b A W)
+      (seal-agrees (T .view) (T .notes .names) B (windowOf T r) (slot T r) (R .sound) seals A N)
 
-  pub closing-windows : (B : Book) (P b : ℕ) → Agree (T .view) B → WindowsAgree (T .view) (T .notes) B →
-      WindowsAgree (steps (T .view) (closes T r)) (windowPassed T r) (accept P B (Seal r) b)
-  closing-windows B P b A W =
-      subst (WindowsAgree (steps (T .view) (closes T r)) (windowPassed T r)) (closing-book B P b A W)
-      (seal-windows (T .view) (T .notes) B (windowOf T r) (slot T r) (R .sound) seals A W)
+  pub closing-windows : (B : Book) (P b : ℕ) → Agree (T .view) B → WindowsAgree (T .view) (T .notes) B → NamedAlike (T .view) (T .notes .names) B →
+      WindowsAgree (steps (T .view) (closes T r)) (sealedNotes T r) (accept P B (Seal r) b)
+  closing-windows B P b A W N =
+      subst (WindowsAgree (steps (T .view) (closes T r)) (sealedNotes T r)) (closing-book B P b A W)
+      (seal-windows (T .view) (T .notes) B (windowOf T r) (slot T r) (R .sound) seals A W N)
 
   -- what is freed was held
   pub closing-held : heldCount (steps (T .view) (closes T r)) + length (freedClosing T r) ≡ heldCount (T .view)
@@ -83,10 +84,10 @@ module _ (g : Geometry) (inside : Inside g) (T : State) (R : Fine g T) (r : ℕ)
   closing-held =
       omega (
         arith,
-        frees-held (victims (done (T .view) (doS (slot T r))) (windowOf T r) (slot T r)) (done (T .view) (doS (slot T r)))
+        frees-held (victims (done (T .view) (doS (slot T r))) (T .notes .names) (windowOf T r) (slot T r)) (done (T .view) (doS (slot T r)))
             (done-sound (T .view) (doS (slot T r)) (R .sound) seals) (closing-asks .1),
         held-done (T .view) (doS (slot T r)) (R .sound) seals,
       )
 
   pub closing-few : length (freedClosing T r) ≤ T .view .blocks
-  closing-few = omega (arith, seal-held (T .view) (slot T r) (R .sound) seals (windowOf T r), held-le (T .view))
+  closing-few = omega (arith, seal-held (T .view) (slot T r) (R .sound) seals (T .notes .names) (windowOf T r), held-le (T .view))

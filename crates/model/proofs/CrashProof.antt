@@ -36,8 +36,8 @@ use Rattle.model.specs.HistoryFacts.{Synced, Gives}
 use Rattle.model.specs.UsedWords.{usedAs, usedThen}
 use Rattle.model.specs.Demand.{Own, withOut, ownStore, run}
 use Rattle.model.specs.Crash.{isC, compacts?, Compacts, Ended, heard, entryAfter, startBy, Crash}
-use Rattle.model.specs.declared.Call.{Call}
-use Rattle.model.specs.declared.Call.the-variants.{Write}
+use Rattle.model.specs.Command.{Command}
+use Rattle.model.specs.Command.{Write}
 use Rattle.model.proofs.ByNumber.{none-at}
 use Rattle.model.proofs.ListFacts.{in-left, in-right}
 use Rattle.model.proofs.HeldFacts.{frees-is}
@@ -93,7 +93,7 @@ renews-all (placing r x k) n m l e = absurd (false≢true e)
 renews-all marking n m l e = absurd (false≢true e)
 renews-all renewing n m l e = refl
 
-C-says : (c : Call) (r : Reply) (n m : ℕ) → (wasAccepted r && isC c) ≡ true → usedThen n c r ≡ usedThen m c r
+C-says : (c : Command) (r : Reply) (n m : ℕ) → (wasAccepted r && isC c) ≡ true → usedThen n c r ≡ usedThen m c r
 C-says c (accepted l) n m e = renews-all (account c) n m l e
 C-says c (refused k) n m e = absurd (false≢true e)
 
@@ -385,7 +385,7 @@ module _ (g : Geometry) (inside : Inside g) where
     abbrev Kept : State → Type 0
     Kept U = (0 < U .view .birth b) ⊎ In b (U .waiting)
 
-    stays-by : (c : Call) (A : Account) → Fits g T c A → NoneHolds (refusalsBy g T A) → syncsBy A ≡ false → Kept T → Kept (leftBy g T A)
+    stays-by : (c : Command) (A : Account) → Fits g T c A → NoneHolds (refusalsBy g T A) → syncsBy A ≡ false → Kept T → Kept (leftBy g T A)
     unfolding given
     stays-by c (looking s cs res note) f n e o = o
     stays-by c (opening cs a) f n e o = acted-stays T (a T) 0 b (R .sound) (f n .asks) o
@@ -397,11 +397,11 @@ module _ (g : Geometry) (inside : Inside g) where
     stays-by c marking f n e o = absurd (false≢true (sym e))
     stays-by c renewing f n e o = absurd (false≢true (sym e))
 
-    stays : (c : Call) → NoneHolds (conditions g T c) → syncs c ≡ false → Kept T → Kept (effect g T c)
+    stays : (c : Command) → NoneHolds (conditions g T c) → syncs c ≡ false → Kept T → Kept (effect g T c)
     stays c n e o = stays-by c (account c) (fits g inside T R c) n e o
 
     -- and it is not given
-    not-given : (c : Call) (l : List ℕ) → NoneHolds (conditions g T c) → result g T c ≡ l → Kept T → GaveBy b c (accepted l) → ⊥
+    not-given : (c : Command) (l : List ℕ) → NoneHolds (conditions g T c) → result g T c ≡ l → Kept T → GaveBy b c (accepted l) → ⊥
     not-given c l n e o G =
         let m = subst (λ d. NoneHolds (conditions g T d)) (G .call) n in
         let q = given-block g inside T (R .range) (G .k) (none-at (conditions g T (Write (G .r) (G .x) (G .k))) m 13) in

@@ -23,7 +23,7 @@ use Rattle.model.specs.Layout.{stateOf, stored}
 use Rattle.model.specs.Memory.{Memory, lent, wordsUsed, writtenAt, reply, after}
 use Rattle.model.specs.Demand.{withOut}
 use Rattle.model.specs.Estimate.{EstimateStill, EstimateRefusals, behind, EstimateTrue, Enough, EstimateEnough, ShardsCounted, ShardsAreCounted}
-use Rattle.model.specs.declared.Call.the-variants.{Delete, Compress, Estimate}
+use Rattle.model.specs.Command.{Delete, Compress, Estimate}
 use Rattle.model.proofs.ByNumber.{none-at}
 use Rattle.model.proofs.CallKinds.{ownRefusals, decide-right}
 use Rattle.model.proofs.DoneSound.{hit, miss}

@@ -11,7 +11,7 @@ use Rattle.model.specs.Calls.{Account, looking, opening, freeing, closin
 use Rattle.model.specs.Calls.{effect}
 use Rattle.model.specs.Layout.{need, stateOf, stored}
 use Rattle.model.specs.Memory.{sealedState, storedAlong, midway, storedBy}
-use Rattle.model.specs.declared.Call.{Call}
+use Rattle.model.specs.Command.{Command}
 use Rattle.model.proofs.LayoutFacts.{stored-length, stored-beyond}
 
 pub along-length : (g : Geometry) (T : State) (l : List Action) (t : List ℕ) → length (storedAlong g T l t) ≡ length t
@@ -31,7 +31,7 @@ midway-length g T (opening cs a) t = refl
 midway-length g T (freeing cs a) t = refl
 midway-length g T (closing r) t =
     let U = sealedState T r in
-    along-length g U (trimming (U .view) (windowOf T r) (slot T r)) (stored g U t) ∙ stored-length g U t
+    along-length g U (trimming (U .view) (T .notes .names) (windowOf T r) (slot T r)) (stored g U t) ∙ stored-length g U t
 midway-length g T (placing r x k) t = refl
 midway-length g T marking t = refl
 midway-length g T renewing t = refl
@@ -42,15 +42,15 @@ midway-beyond g T (opening cs a) t i h = refl
 midway-beyond g T (freeing cs a) t i h = refl
 midway-beyond g T (closing r) t i h =
     let U = sealedState T r in
-    along-beyond g U (trimming (U .view) (windowOf T r) (slot T r)) (stored g U t) i h ∙ stored-beyond g U t i h
+    along-beyond g U (trimming (U .view) (T .notes .names) (windowOf T r) (slot T r)) (stored g U t) i h ∙ stored-beyond g U t i h
 midway-beyond g T (placing r x k) t i h = refl
 midway-beyond g T marking t i h = refl
 midway-beyond g T renewing t i h = refl
 
 -- the same of the tables that the call leaves
-pub by-length : (g : Geometry) (t : List ℕ) (c : Call) → length (storedBy g t c) ≡ length t
+pub by-length : (g : Geometry) (t : List ℕ) (c : Command) → length (storedBy g t c) ≡ length t
 by-length g t c = stored-length g (effect g (stateOf g t) c) (midway g (stateOf g t) (account c) t) ∙ midway-length g (stateOf g t) (account c) t
 
-pub by-beyond : (g : Geometry) (t : List ℕ) (c : Call) (i : ℕ) → need g ≤ i → getD (storedBy g t c) i 0 ≡ getD t i 0
+pub by-beyond : (g : Geometry) (t : List ℕ) (c : Command) (i : ℕ) → need g ≤ i → getD (storedBy g t c) i 0 ≡ getD t i 0
 by-beyond g t c i h =
     stored-beyond g (effect g (stateOf g t) c) (midway g (stateOf g t) (account c) t) i h ∙ midway-beyond g (stateOf g t) (account c) t i h

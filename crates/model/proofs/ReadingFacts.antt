@@ -25,8 +25,8 @@ use Rattle.model.specs.Calls.{refusalsBy, leftBy, conditions, result, ef
 use Rattle.model.specs.History.{stateFrom, wasAccepted}
 use Rattle.model.specs.ReadingLaws.{Shows, Changes, Lost, Seals, Touches, ShowsFrom, Opens, ReadingLaws}
 use Rattle.model.specs.Model.{Screened, answer, keepOr, modelAfter, model}
-use Rattle.model.specs.declared.Call.{Call}
-use Rattle.model.specs.declared.Call.the-variants.{Begin, Write, Erase, Seal, Fork, Delete, Read}
+use Rattle.model.specs.Command.{Command}
+use Rattle.model.specs.Command.{Begin, Write, Erase, Seal, Fork, Delete, Read}
 use Rattle.model.proofs.ListFacts.{in?}
 use Rattle.model.proofs.DoneSound.{spare, miss, done-sound}
 use Rattle.model.proofs.WindowMoves.{steps-birth}
@@ -115,28 +115,28 @@ abbrev Absent : View → ℕ → Type 0
 Absent K r = (t : ℕ) → 0 < K .num t → K .num t ≡ r → ⊥
 
 -- what S does, with the deletes of a window of n, to another record: it leaves its number and its page, or takes it
-sealing-same : (K : View) (q n : ℕ) → Sound K → Asks K (doS q) → (r s x : ℕ) → 0 < K .num s → K .num s ≡ r →
-    Same K (steps K (sealing K n q)) s x ⊎ Absent (steps K (sealing K n q)) r
-sealing-same K q n S a r s x h e =
+sealing-same : (K : View) (names : ℕ → ℕ) (q n : ℕ) → Sound K → Asks K (doS q) → (r s x : ℕ) → 0 < K .num s → K .num s ≡ r →
+    Same K (steps K (sealing K names n q)) s x ⊎ Absent (steps K (sealing K names n q)) r
+sealing-same K names q n S a r s x h e =
     let J = done K (doS q) in
-    let L = steps K (sealing K n q) in
-    let W : WindowTakes J L n q = seal-takes K q S a n in
+    let L = steps K (sealing K names n q) in
+    let W : WindowTakes J L names n q = seal-takes K q S a names n in
     let D : Same K J s x = done-same K (doS q) S a r s x h e tt in
     let sound = done-sound K (doS q) S a in
-    cases (in? s (victims J n q))
+    cases (in? s (victims J names n q))
     (λ i. inr (λ t k j.
-    let away : In t (victims J n q) → ⊥ = λ m. let z : ⊥ = omega (arith, W .gone t m) in z in
+    let away : In t (victims J names n q) → ⊥ = λ m. let z : ⊥ = omega (arith, W .gone t m) in z in
     let same = W .num t away in
     let here : t ≡ s = sound .links .apart t s (omega (arith, same)) (sym same ∙ j ∙ sym e ∙ sym (D .num)) in
     let z : ⊥ = omega (arith, ap (L .num) here, W .gone s i) in z))
     (λ m. inl (record { num = W .num s m ∙ D .num; page = W .page s x ∙ D .page }))
 
 -- the number that a result begins with
-first : (n m : ℕ) (k l : List ℕ) → n ∷ k ≡ m ∷ l → n ≡ m
+pub first : (n m : ℕ) (k l : List ℕ) → n ∷ k ≡ m ∷ l → n ≡ m
 first n m k l e = ap (λ a. getD a 0 0) e
 
 -- a refused call leaves all
-after-none : (g : Geometry) (T : State) (i : Screened) (n : ℕ) → answer g T i ≡ refused n → modelAfter g T i ≡ T
+pub after-none : (g : Geometry) (T : State) (i : Screened) (n : ℕ) → answer g T i ≡ refused n → modelAfter g T i ≡ T
 unfolding modelAfter
 after-none g T i n e = ap (λ A. keepOr A T (effect g T (i .call))) e
 
@@ -154,7 +154,7 @@ module _ (g : Geometry) (inside : Inside g) where
     -- ── one call ──
 
     -- what an accepted call does: nothing to the tables, or an action that misses the page
-    missed : (r x : ℕ) (c : Call) (a : Action) → named (T .view) a ≡ c → (Changes r x c → ⊥) → Misses (T .view) r x a
+    missed : (r x : ℕ) (c : Command) (a : Action) → named (T .view) a ≡ c → (Changes r x c → ⊥) → Misses (T .view) r x a
     missed r x c doB i n = tt
     missed r x c (doW t y b) i n = λ e j. n (inl (0, sym i ∙ ap (λ q. Write q y 0) e ∙ ap (λ z. Write r z 0) j))
     missed r x c (doE t y) i n = λ e j. n (inr (inl (sym i ∙ ap (λ q. Erase q y) e ∙ ap (Erase r) j)))
@@ -163,7 +163,7 @@ module _ (g : Geometry) (inside : Inside g) where
     missed r x c (doD t) i n = λ e. n (inr (inr (sym i ∙ ap Delete e)))
 
     -- a call that does not touch the page, nor delete its record
-    same-by : (c : Call) (A : Account) → Is c A → Fits g T c A → NoneHolds (refusalsBy g T A) → (r s x : ℕ) → 0 < T .view .num s → T .view .num s ≡ r →
+    same-by : (c : Command) (A : Account) → Is c A → Fits g T c A → NoneHolds (refusalsBy g T A) → (r s x : ℕ) → 0 < T .view .num s → T .view .num s ≡ r →
         (Changes r x c → ⊥) → Same (T .view) (leftBy g T A .view) s x ⊎ (Seals c × Absent (leftBy g T A .view) r)
     unfolding logged given acted actedAll
     same-by c (looking p cs res note) i f n r s x h e a = inl (same-view K s x)
@@ -174,7 +174,7 @@ module _ (g : Geometry) (inside : Inside g) where
         let does = f (none-left (cs g T) _ n) in
         inl (done-same K (act T) (R .sound) (does .asks) r s x h e (missed r x c (act T) (does .name) a))
     same-by c (closing q) i f n r s x h e a =
-        cases (sealing-same K (slot T q) (windowOf T q) (R .sound) (seals g inside T R q (closing-first g T q n)) r s x h e)
+        cases (sealing-same K (T .notes .names) (slot T q) (windowOf T q) (R .sound) (seals g inside T R q (closing-first g T q n)) r s x h e)
         (λ d. inl d) (λ d. inr ((q, i), d))
     same-by c (placing q y k) i f n r s x h e a =
         let at = named-slot g inside T R q (none-at (conditions g T (Write q y k)) n 8) .1 in
@@ -183,17 +183,17 @@ module _ (g : Geometry) (inside : Inside g) where
     same-by c marking i f n r s x h e a = inl (same-view K s x)
     same-by c renewing i f n r s x h e a = inl (same-view K s x)
 
-    call-same : (c : Call) → NoneHolds (conditions g T c) → (r s x : ℕ) → 0 < T .view .num s → T .view .num s ≡ r →
+    call-same : (c : Command) → NoneHolds (conditions g T c) → (r s x : ℕ) → 0 < T .view .num s → T .view .num s ≡ r →
         (Changes r x c → ⊥) → Same (T .view) (effect g T c .view) s x ⊎ (Seals c × Absent (effect g T c .view) r)
     call-same c n r s x h e a = same-by c (account c) (is c) (fits g inside T R c) n r s x h e a
 
-    call-births : (c : Call) → NoneHolds (conditions g T c) → Births (T .view) (effect g T c .view)
+    call-births : (c : Command) → NoneHolds (conditions g T c) → Births (T .view) (effect g T c .view)
     call-births c n =
         cases (effect-view g inside T R c n)
         (λ w. subst (Births (T .view)) (sym (w .2)) (held-birth (T .view) (w .0) (w .1)))
         (λ w. subst (Births (T .view)) (sym (w .3)) (λ b h k. steps-birth (T .view) (w .0) (w .2) b k))
 
-    call-forward : (c : Call) → NoneHolds (conditions g T c) → Forward (T .view) (effect g T c .view)
+    call-forward : (c : Command) → NoneHolds (conditions g T c) → Forward (T .view) (effect g T c .view)
     call-forward c n =
         cases (effect-view g inside T R c n)
         (λ w. subst (Forward (T .view)) (sym (w .2)) (done-forward (T .view) (w .0) (R .sound) (w .1)))
@@ -269,7 +269,7 @@ module _ (g : Geometry) (inside : Inside g) where
         (leb-false (g .pages) x (none-at (conditions g T (Read r x)) met 5), record { live = ht; number = et; page = e })
 
     -- what an accepted call leaves, and what it met
-    after-is : (i : Screened) (c : Call) (l : List ℕ) → i .call ≡ c → answer g T i ≡ accepted l →
+    pub after-is : (i : Screened) (c : Command) (l : List ℕ) → i .call ≡ c → answer g T i ≡ accepted l →
         (modelAfter g T i ≡ effect g T c) × NoneHolds (conditions g T c) × (result g T c ≡ l)
     unfolding modelAfter
     after-is i c l e a =
@@ -314,14 +314,14 @@ module _ (g : Geometry) (inside : Inside g) where
         let a = seals g inside T R r o in
         let J = done K (doS q) in
         let L = steps K (closes T r) in
-        let W : WindowTakes J L (windowOf T r) q = seal-takes K q (R .sound) a (windowOf T r) in
+        let W : WindowTakes J L (T .notes .names) (windowOf T r) q = seal-takes K q (R .sound) a (T .notes .names) (windowOf T r) in
         let G = seal-grown K q f (spare K (a .2) .1) in
         -- the new record is not taken
-        let stays : In f (victims J (windowOf T r) q) → ⊥ = λ i.
+        let stays : In f (victims J (T .notes .names) (windowOf T r) q) → ⊥ = λ i.
         let z : ⊥ = omega (arith, W .notNewest f i, G .num-f, seal-num K q (R .sound) a, R .sound .links .records q (a .0) .given) in z in
         let num : L .num f ≡ suc (K .last) = omega (arith, W .num f stays, G .num-f) in
         let page : L .page f x ≡ K .page q x = W .page f x ∙ sym (seal-pages K q f x) in
-        let sound : Sound L = seal-steps-sound K q (R .sound) a (windowOf T r) in
+        let sound : Sound L = seal-steps-sound K q (R .sound) a (T .notes .names) (windowOf T r) in
         let m = first (suc (K .last)) n (paired (K .birth) (freedClosing T r)) rest e in
         let live : 0 < L .num f = omega (arith, num) in
         record {
@@ -379,7 +379,7 @@ module _ (g : Geometry) (inside : Inside g) where
         )
 
     -- B, S and F give the number after the last one, and it is then the last
-    opened : (c : Call) (n : ℕ) (rest : List ℕ) → Opens c → NoneHolds (conditions g T c) → result g T c ≡ n ∷ rest →
+    opened : (c : Command) (n : ℕ) (rest : List ℕ) → Opens c → NoneHolds (conditions g T c) → result g T c ≡ n ∷ rest →
         (n ≡ suc (T .view .last)) × (effect g T c .view .last ≡ n)
     unfolding acted actedAll begin fork grow
     opened c n rest o none e =
@@ -394,7 +394,7 @@ module _ (g : Geometry) (inside : Inside g) where
         (sym m, omega (arith, closing-last g inside T R (s .0) q))))
         (λ f. told c (Fork (f .0)) (f .1) e (λ d. let m = first (suc (K .last)) n [] rest d in (sym m, omega arith))))
       where
-        told : (c d : Call) → c ≡ d → result g T c ≡ n ∷ rest →
+        told : (c d : Command) → c ≡ d → result g T c ≡ n ∷ rest →
             (result g T d ≡ n ∷ rest → (n ≡ suc (T .view .last)) × (effect g T d .view .last ≡ n)) → (n ≡ suc (T .view .last)) × (effect g T c .view .last ≡ n)
         told c d i e k =
             subst (λ b. (n ≡ suc (T .view .last)) × (effect g T b .view .last ≡ n)) (sym i) (k (sym (ap (result g T) i) ∙ e))

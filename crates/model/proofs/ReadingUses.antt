@@ -14,18 +14,18 @@ use Rattle.model.specs.ReadingLaws.{Shows, Changes, Seals, Touched, Open
 use Rattle.model.specs.Demand.{Request, metBy, machine, Own, withOut, run}
 use Rattle.model.specs.State.{fresh}
 use Rattle.model.specs.Model.{answer, model}
-use Rattle.model.specs.declared.Call.{Call}
-use Rattle.model.specs.declared.Call.the-variants.{Begin, Write, Erase, Seal, Fork, Delete, Read, Retain}
+use Rattle.model.specs.Command.{Command}
+use Rattle.model.specs.Command.{Begin, Write, Erase, Seal, Fork, Delete, Read, Retain}
 use Rattle.model.proofs.StepFacts.{fresh-fine}
 use Rattle.model.proofs.ReadingFacts.{reading-laws, fine-from}
 use Rattle.model.proofs.ReadingProof.{reading}
 use Rattle.model.proofs.PaperExample.{small, fine, repliesTo}
 
 -- a call that does not change page x of record r, and is no S
-abbrev Leaves : ℕ → ℕ → Call → Type 0
+abbrev Leaves : ℕ → ℕ → Command → Type 0
 Leaves r x c = (Changes r x c → ⊥) × (Seals c → ⊥)
 
-abbrev Spares : ℕ → ℕ → List Call → Type 0
+abbrev Spares : ℕ → ℕ → List Command → Type 0
 Spares r x [] = Unit {0}
 Spares r x (c ∷ cs) = Leaves r x c × Spares r x cs
 
@@ -81,7 +81,7 @@ by-S q r x (inr (inl e)) = let z : _≡_ {A = ℕ} 0 1 = cc in omega arith
 by-S q r x (inr (inr e)) = let z : _≡_ {A = ℕ} 0 1 = cc in omega arith
 
 -- the ends of the script below
-abbrev afterS : List Call
+abbrev afterS : List Command
 afterS = Fork 1 ∷ Erase 2 0 ∷ Write 3 1 0 ∷ Delete 2 ∷ []
 
 spared-1 : (x : ℕ) → Spares 1 x (Fork 1 ∷ Erase 2 0 ∷ Write 3 1 0 ∷ Delete 2 ∷ [])
@@ -100,13 +100,13 @@ spared-2-0 : Spares 2 0 (Write 3 1 0 ∷ [])
 spared-2-0 = (by-W 3 1 0 2 0 (λ e d. omega arith), tt)
 
 -- a store, with some way to ask each call
-module _ (M : Machine) (ask : Call → M .Asked) (asks : (c : Call) → M .call (ask c) ≡ c) (T : M .Tables) where
+module _ (M : Machine) (ask : Command → M .Asked) (asks : (c : Command) → M .call (ask c) ≡ c) (T : M .Tables) where
   -- the tables after some calls
-  abbrev pub at : List Call → M .Tables
+  abbrev pub at : List Command → M .Tables
   at cs = stateFrom M T (map ask cs)
 
   -- such calls do not touch the page
-  untouched : (r x : ℕ) (cs : List Call) → Spares r x cs → (U : M .Tables) → Touched M U r x (map ask cs) → ⊥
+  untouched : (r x : ℕ) (cs : List Command) → Spares r x cs → (U : M .Tables) → Touched M U r x (map ask cs) → ⊥
   untouched r x [] n U s = s
   untouched r x (c ∷ cs) n U s =
       cases s
@@ -114,7 +114,7 @@ module _ (M : Machine) (ask : Call → M .Asked) (asks : (c : Call) → M .call 
       (λ j. untouched r x cs (n .1) (M .after U (ask c)) j)
 
   -- nor do an S after which the record is read, and such calls
-  past-S : (q r x : ℕ) (l : List ℕ) (cs : List Call) → Spares r x cs → (U : M .Tables) →
+  past-S : (q r x : ℕ) (l : List ℕ) (cs : List Command) → Spares r x cs → (U : M .Tables) →
       M .answer (M .after U (ask (Seal q))) (ask (Read r x)) ≡ accepted l → Touched M U r x (map ask (Seal q ∷ cs)) → ⊥
   past-S q r x l cs n U e s =
       cases s
@@ -140,8 +140,8 @@ module _ (M : Machine) (ask : Call → M .Asked) (asks : (c : Call) → M .call 
     pub other-page : M .answer (at (Begin ∷ Write 1 0 0 ∷ Seal 1 ∷ [])) (ask (Read 1 1)) ≡ accepted other
 
   -- it obeys the laws after any calls
-  module _ (P : ℕ) (laws : (cs : List Call) → ReadingLaws M P (stateFrom M T (map ask cs))) (pages : 1 < P) (b c : ℕ) (H : Heard b c) where
-    abbrev pub whole : List Call
+  module _ (P : ℕ) (laws : (cs : List Command) → ReadingLaws M P (stateFrom M T (map ask cs))) (pages : 1 < P) (b c : ℕ) (H : Heard b c) where
+    abbrev pub whole : List Command
     whole = Begin ∷ Write 1 0 0 ∷ Seal 1 ∷ Fork 1 ∷ Erase 2 0 ∷ Write 3 1 0 ∷ Delete 2 ∷ []
 
     -- written: the W's block is read on its page, to the end of the script and after any more calls that do not name the page
@@ -220,7 +220,7 @@ module _ (M : Machine) (ask : Call → M .Asked) (asks : (c : Call) → M .call 
         [] (ask (Read 2 0)) 0 l (asks (Read 2 0)) e
 
     -- rises: whatever opens a record right after the D is given a number above those of the B, the S and the F
-    pub above-3 : (d : Call) (n : ℕ) (rest : List ℕ) → Opens d → M .answer (at whole) (ask d) ≡ accepted (n ∷ rest) →
+    pub above-3 : (d : Command) (n : ℕ) (rest : List ℕ) → Opens d → M .answer (at whole) (ask d) ≡ accepted (n ∷ rest) →
         (1 < n) × (2 < n) × (3 < n)
     above-3 d n rest o e =
         let opens = subst Opens (sym (asks d)) o in (
@@ -247,10 +247,10 @@ module _ (M : Machine) (ask : Call → M .Asked) (asks : (c : Call) → M .call 
 
   -- ── with a window: the script is B · W 1 0 0 · K 1 1 · S 1 · S 2 ──
 
-  abbrev pub sealedOnce : List Call
+  abbrev pub sealedOnce : List Command
   sealedOnce = Begin ∷ Write 1 0 0 ∷ Retain 1 1 ∷ Seal 1 ∷ []
 
-  abbrev pub sealedTwice : List Call
+  abbrev pub sealedTwice : List Command
   sealedTwice = Begin ∷ Write 1 0 0 ∷ Retain 1 1 ∷ Seal 1 ∷ Seal 2 ∷ []
 
   -- what is heard: the two records are read before S 2, and record 1 is refused with 8 after it
@@ -262,9 +262,9 @@ module _ (M : Machine) (ask : Call → M .Asked) (asks : (c : Call) → M .call 
     pub read-2 : M .answer (at sealedOnce) (ask (Read 2 0)) ≡ accepted two
     pub taken-1 : M .answer (at sealedTwice) (ask (Read 1 0)) ≡ refused 8
 
-  module _ (P : ℕ) (laws : (cs : List Call) → ReadingLaws M P (stateFrom M T (map ask cs))) (n : ℕ) (rest : List ℕ) (H : HeardWindow n rest) where
+  module _ (P : ℕ) (laws : (cs : List Command) → ReadingLaws M P (stateFrom M T (map ask cs))) (n : ℕ) (rest : List ℕ) (H : HeardWindow n rest) where
     -- taken: record 1 is read no more, whatever is called
-    pub never-1 : (cs : List Call) (x : ℕ) (l : List ℕ) → M .answer (stateFrom M (at sealedTwice) (map ask cs)) (ask (Read 1 x)) ≡ accepted l → ⊥
+    pub never-1 : (cs : List Command) (x : ℕ) (l : List ℕ) → M .answer (stateFrom M (at sealedTwice) (map ask cs)) (ask (Read 1 x)) ≡ accepted l → ⊥
     never-1 cs x l e =
         laws sealedOnce .taken (ask (Seal 2)) (ask (Read 1 0)) (ask (Read 1 0)) 1 0 0 (H .one) (asks (Read 1 0)) (H .read-1)
         (asks (Read 1 0)) (H .taken-1) (map ask cs) (ask (Read 1 x)) x l (asks (Read 1 x)) e
@@ -313,7 +313,7 @@ windowed = record {
   taken-1 = refl;
 }
 
-inside : Inside small
+pub inside : Inside small
 inside = record {
   arenas-least = omega arith;
   arenas-most = omega arith;
@@ -330,7 +330,7 @@ inside = record {
   words-most = omega arith;
 }
 
-obeys : (cs : List Call) → ReadingLaws (model small) 2 (stateFrom (model small) (fresh small) (map fine cs))
+obeys : (cs : List Command) → ReadingLaws (model small) 2 (stateFrom (model small) (fresh small) (map fine cs))
 obeys cs =
     reading-laws small inside (stateFrom (model small) (fresh small) (map fine cs))
     (fine-from small inside (map fine cs) (fresh small) (fresh-fine small inside))
@@ -342,7 +342,7 @@ pub fork-of-the-listing : (l : List ℕ) →
 fork-of-the-listing = on-3 (model small) fine (λ c. refl) (fresh small) 2 obeys (omega arith) 0 1 listed
 
 -- and record 1, which its window took, is read no more
-pub taken-in-the-listing : (cs : List Call) (x : ℕ) (l : List ℕ) →
+pub taken-in-the-listing : (cs : List Command) (x : ℕ) (l : List ℕ) →
     let once = Begin ∷ Write 1 0 0 ∷ Retain 1 1 ∷ Seal 1 ∷ Seal 2 ∷ [] in
     answer small (stateFrom (model small) (stateFrom (model small) (fresh small) (map fine once)) (map fine cs)) (fine (Read 1 x)) ≡ accepted l → ⊥
 taken-in-the-listing = never-1 (model small) fine (λ c. refl) (fresh small) 2 obeys 3 [] windowed

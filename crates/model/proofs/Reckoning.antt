@@ -16,7 +16,7 @@ use Rattle.model.specs.History.{free, Entry, entryOf, eventsOf, stateFro
 use Rattle.model.specs.History.{unsyncedFrom, unsynced}
 use Rattle.model.specs.Model.{Screened, answer, keepOr, modelAfter, model, stateAfter, history}
 use Rattle.model.specs.Births.{movesBy, moves}
-use Rattle.model.specs.declared.Call.{Call}
+use Rattle.model.specs.Command.{Command}
 use Rattle.model.proofs.CallKinds.{opens}
 use Rattle.model.proofs.EachCall.{Is, is}
 use Rattle.model.proofs.StepFacts.{events-are}
@@ -37,7 +37,7 @@ joins T b l = elem-append b (T .waiting) l ∙ ap (λ t. elem b (T .waiting) || 
 same-or : (T : State) (b : ℕ) → elem b (T .waiting) ≡ (elem b (T .waiting) || false)
 same-or T b = sym (or-false (elem b (T .waiting)))
 
-waits-by : (g : Geometry) (T : State) (c : Call) (A : Account) → Is c A → (b : ℕ) →
+waits-by : (g : Geometry) (T : State) (c : Command) (A : Account) → Is c A → (b : ℕ) →
     waits (leftBy g T A) b ≡ cond (syncsBy A) false (waits T b || freedAmong b (movesBy g T A))
 unfolding waits acted actedAll given logged elem
 waits-by g T c (looking s cs res note) f b = same-or T b
@@ -48,7 +48,7 @@ waits-by g T c (placing r x k) f b = joins T b (frees (T .view) (writing g T r x
 waits-by g T c marking f b = refl
 waits-by g T c renewing f b = refl
 
-effect-waits : (g : Geometry) (T : State) (c : Call) (b : ℕ) →
+effect-waits : (g : Geometry) (T : State) (c : Command) (b : ℕ) →
     waits (effect g T c) b ≡ cond (syncs c) false (waits T b || freedAmong b (moves g T c))
 effect-waits g T c b = waits-by g T c (account c) (is c) b
 

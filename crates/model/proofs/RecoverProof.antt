@@ -23,7 +23,7 @@ use Rattle.model.specs.Held.{held}
 use Rattle.model.specs.Check.{same, good?}
 use Rattle.model.specs.Layout.{need, stateOf}
 use Rattle.model.specs.Calls.{conditions, result, written}
-use Rattle.model.specs.Memory.{Memory, lent, short?, numbers?, range?, waiting?, windows?, free?, logHolds?, sound?, usedLog, wordsUsed, writtenAt}
+use Rattle.model.specs.Memory.{Memory, lent, short?, numbers?, range?, waiting?, windows?, names?, free?, logHolds?, sound?, usedLog, wordsUsed, writtenAt}
 use Rattle.model.specs.Memory.{reply, storedBy, after, makeAfter}
 use Rattle.model.specs.SoundStore.{SoundStore}
 use Rattle.model.specs.Book.{Some}
@@ -32,7 +32,7 @@ use Rattle.model.specs.UsedWords.{usedThen, usedBy}
 use Rattle.model.specs.Demand.{Own, withOut, ownStore, run}
 use Rattle.model.specs.Crash.{compacts?, Compacts, heard, usedAfter}
 use Rattle.model.specs.Recover.{takenUp, GoesOn, Recovers}
-use Rattle.model.specs.declared.Call.{Call}
+use Rattle.model.specs.Command.{Command}
 use Rattle.model.proofs.Keeps.{making-is, fresh-is-sound}
 use Rattle.model.proofs.Demands.{run-sound}
 use Rattle.model.proofs.Along.{run-append, usedOf, Whole, wroteBy, wrote, wroteAll, joined, compacted, grown, whole-run}
@@ -71,8 +71,8 @@ module _ (g : Geometry) where
   unfolding sound? logHolds?
   same-sound t x y e =
       let T = stateOf g t in
-      ap (λ (u : List ℕ). numbers? g t && (range? g T && (good? (T .view) && (waiting? T && (windows? (T .view) (T .notes) && (free? T t &&
-      (readable g u && all (blocks g) (λ b. same (heldIn (marksOf g u) b) (held (T .view) b))))))))) e
+      ap (λ (u : List ℕ). numbers? g t && (range? g T && (good? (T .view) && (waiting? T && (windows? (T .view) (T .notes) && (names? (T .view) (T .notes) && (free? T t &&
+      (readable g u && all (blocks g) (λ b. same (heldIn (marksOf g u) b) (held (T .view) b)))))))))) e
 
   module _ (t x y : List ℕ) (e : usedLog (stateOf g t) x ≡ usedLog (stateOf g t) y) (lx : 8 * g .words ≤ length x) (ly : 8 * g .words ≤ length y) where
     same-short : (out : List ℕ) → short? g (lent t x out) ≡ short? g (lent t y out)
@@ -81,7 +81,7 @@ module _ (g : Geometry) where
         ap (λ (b : Bool). ltb (length t) (need g) || (b || ltb (length out) (2 * blocks g + 64)))
         (le-ltb (length x) (8 * g .words) lx ∙ sym (le-ltb (length y) (8 * g .words) ly))
 
-    same-reply : (out : List ℕ) (c : Call) → reply g (lent t x out) c ≡ reply g (lent t y out) c
+    same-reply : (out : List ℕ) (c : Command) → reply g (lent t x out) c ≡ reply g (lent t y out) c
     unfolding reply
     same-reply out c =
         ap₂ (λ (b d : Bool). decide ((2, not (fits g)) ∷ (3, b) ∷ (4, not d) ∷ conditions g (stateOf g t) c) (result g (stateOf g t) c))
@@ -162,6 +162,7 @@ other-log g t x y e S = record {
   means = S .means;
   waiting = S .waiting;
   windows = S .windows;
+  names = S .names;
   free = S .free;
   logged = subst (λ l. Reads (g .arenas) (g .per) l (held (stateOf g t .view))) (sym e) (S .logged);
 }

@@ -19,8 +19,8 @@ use Rattle.model.specs.Demand.{Own, withOut, ownStore, run}
 use Rattle.model.specs.Crash.{Compacts, heard, usedAfter}
 use Rattle.model.specs.Recover.{takenUp, Recovered}
 use Rattle.model.specs.ReadingLaws.{Touches}
-use Rattle.model.specs.declared.Call.{Call}
-use Rattle.model.specs.declared.Call.the-variants.{Begin, Write, Read, Barrier}
+use Rattle.model.specs.Command.{Command}
+use Rattle.model.specs.Command.{Begin, Write, Read, Barrier}
 use Rattle.model.proofs.Keeps.{making-is}
 use Rattle.model.proofs.ReadingProof.{reading}
 use Rattle.model.proofs.RecoverProof.{recovers}
@@ -36,7 +36,7 @@ and-false true e = false≢true e
 and-false false e = false≢true e
 
 -- a call, with the result buffer
-abbrev ask : List ℕ → Call → Own
+abbrev ask : List ℕ → Command → Own
 ask out c = record { call = c; out = out }
 
 -- the calls up to the saving; those after it up to the next barrier, and from that on
@@ -84,11 +84,11 @@ module _ (g : Geometry) (M : Memory) (made : makeReply g M ≡ accepted []) (out
     N = takenUp (saved g M out) log
 
     -- `sound`: no call on what any call leaves is answered 4
-    pub stays-sound : (c d : Call) (more : List ℕ) → reply g (withOut (after g (takenUp (saved g M out) log) c) more) d ≡ refused 4 → ⊥
+    pub stays-sound : (c d : Command) (more : List ℕ) → reply g (withOut (after g (takenUp (saved g M out) log) c) more) d ≡ refused 4 → ⊥
     stays-sound c d more = then-never-4 g N c d more (making-is g M made .0) (recovered .sound)
 
     -- `goes-on`, the replies: whatever is called is answered as it would have been when the tables were saved
-    pub as-saved : (c : Call) → reply g (withOut (takenUp (saved g M out) log) out) c ≡ reply g (withOut (saved g M out) out) c
+    pub as-saved : (c : Command) → reply g (withOut (takenUp (saved g M out) log) out) c ≡ reply g (withOut (saved g M out) out) c
     unfolding firstAnswer
     as-saved c = ap firstAnswer (recovered .goes-on (ask out c ∷ []) .replies)
 
@@ -104,7 +104,7 @@ module _ (g : Geometry) (M : Memory) (made : makeReply g M ≡ accepted []) (out
         .gives (ask out (Read 1 0)) l refl (sym (as-saved (Read 1 0)) ∙ e)
 
     -- the tables and the result buffer: after one call more the host saves what it would have saved
-    pub saves-again : (c : Call) →
+    pub saves-again : (c : Command) →
         (run g (takenUp (saved g M out) log) (ask out c ∷ []) .tables ≡ run g (saved g M out) (ask out c ∷ []) .tables) ×
         (run g (takenUp (saved g M out) log) (ask out c ∷ []) .out ≡ run g (saved g M out) (ask out c ∷ []) .out)
     saves-again c = let on = recovered .goes-on (ask out c ∷ []) in (on .tables, on .out)

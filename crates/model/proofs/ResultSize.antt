@@ -17,7 +17,7 @@ use Rattle.model.specs.Calls.{Account, looking, opening, freeing, closin
 use Rattle.model.specs.Calls.{freedClosing, conditions, result}
 use Rattle.model.specs.Layout.{stateOf}
 use Rattle.model.specs.Memory.{Memory, reply}
-use Rattle.model.specs.declared.Call.{Call}
+use Rattle.model.specs.Command.{Command}
 use Rattle.model.proofs.CallKinds.{none-left, frees-only}
 use Rattle.model.proofs.Closing.{closing-first, closing-few}
 use Rattle.model.proofs.EachCall.{Is, is, Fits, fits}
@@ -45,7 +45,7 @@ module _ (g : Geometry) (inside : Inside g) (T : State) (R : Fine g T) where
         erased-one (T .view) (slot T r) (T .view .page (slot T r) x),
       )
 
-  few-by : (c : Call) (A : Account) → Is c A → Fits g T c A → NoneHolds (refusalsBy g T A) → Few g (resultBy g T A)
+  few-by : (c : Command) (A : Account) → Is c A → Fits g T c A → NoneHolds (refusalsBy g T A) → Few g (resultBy g T A)
   few-by c (looking s cs res note) i f n = f n .0
   few-by c (opening cs a) i f n = inl (omega (arith, some))
   few-by c (freeing cs a) i f n =
@@ -62,15 +62,15 @@ module _ (g : Geometry) (inside : Inside g) (T : State) (R : Fine g T) where
   few-by c marking i f n = inl (omega arith)
   few-by c renewing i f n = inl (omega (arith, some))
 
-  pub result-le : (c : Call) → NoneHolds (conditions g T c) → Few g (result g T c)
+  pub result-le : (c : Command) → NoneHolds (conditions g T c) → Few g (result g T c)
   result-le c n = few-by c (account c) (is c) (fits g inside T R c) n
 
-pub accepted-le : (g : Geometry) (M : Memory) (c : Call) (l : List ℕ) → reply g M c ≡ accepted l → Few g l
+pub accepted-le : (g : Geometry) (M : Memory) (c : Command) (l : List ℕ) → reply g M c ≡ accepted l → Few g l
 accepted-le g M c l e =
     let (A, r) = accepted-is g M c l e in
     subst (Few g) r (result-le g (A .inside) (stateOf g (M .tables)) (sound-fine g (M .tables) (M .log) (A .sound)) c (A .none))
 
 -- the result buffer of an accepted call is longer than the result
-pub accepted-short : (g : Geometry) (M : Memory) (c : Call) (l : List ℕ) → reply g M c ≡ accepted l → length l < length (M .out)
+pub accepted-short : (g : Geometry) (M : Memory) (c : Command) (l : List ℕ) → reply g M c ≡ accepted l → length l < length (M .out)
 accepted-short g M c l e =
     let long = accepted-is g M c l e .0 .long .out in cases (accepted-le g M c l e) (λ h. omega (arith, h, long)) (λ h. omega (arith, h, long))

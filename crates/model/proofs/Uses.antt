@@ -43,8 +43,8 @@ use Rattle.model.specs.Demand.{Request, metBy, machine, Own, withOut, ow
 use Rattle.model.specs.Crash.{Ended, heard, usedAfter, startBy, Cut}
 use Rattle.model.specs.HistoryChoice.{isW, writesIn, markBy, MayBeGiven, IsChosen, HistoryChoice}
 use Rattle.model.specs.Estimate.{behind, BirthsAbove}
-use Rattle.model.specs.declared.Call.{Call}
-use Rattle.model.specs.declared.Call.the-variants.{Begin, Write, Erase, Seal, Delete, Read, Barrier, Compress, FreeList, Estimate}
+use Rattle.model.specs.Command.{Command}
+use Rattle.model.specs.Command.{Begin, Write, Erase, Seal, Delete, Read, Barrier, Compress, FreeList, Estimate}
 use Rattle.model.proofs.ListFacts.{rising-same}
 use Rattle.model.proofs.EachCall.{Is, is}
 use Rattle.model.proofs.Keeps.{making-is}
@@ -64,10 +64,10 @@ use Rattle.model.proofs.CutPlace.{passes?, placeOf, cut-early, cut-mid}
 abbrev pub two : Geometry
 two = geometryOf 1 2 2 2 8 6
 
-abbrev pub gave : Call → List ℕ → Entry
+abbrev pub gave : Command → List ℕ → Entry
 gave c l = record { call = c; answer = accepted l }
 
-abbrev pub turned : Call → ℕ → Entry
+abbrev pub turned : Command → ℕ → Entry
 turned c n = record { call = c; answer = refused n }
 
 -- block 0 is on page 0 of record 1, and block 1 is free
@@ -144,7 +144,7 @@ giverBy b v (closing r) a = v
 giverBy b v marking a = v
 giverBy b v renewing a = v
 
-abbrev giver : ℕ → ℕ → Call → Reply → ℕ
+abbrev giver : ℕ → ℕ → Command → Reply → ℕ
 giver b v c a = giverBy b v (account c) a
 
 unfoldable lastGiver : ℕ → ℕ → List Entry → ℕ
@@ -160,7 +160,7 @@ gives-it : (b r v : ℕ) (e : Entry) → Gave b r e → giver b v (e .call) (e .
 unfolding giverBy
 gives-it b r v e (x, k, rest, c, a) = rw (c, a, eq-eqb b b refl)
 
-gives-not : (b v : ℕ) (c : Call) (A : Account) (a : Reply) → Is c A → ((q : ℕ) → Gave b q (record { call = c; answer = a }) → ⊥) → giverBy b v A a ≡ v
+gives-not : (b v : ℕ) (c : Command) (A : Account) (a : Reply) → Is c A → ((q : ℕ) → Gave b q (record { call = c; answer = a }) → ⊥) → giverBy b v A a ≡ v
 unfolding giverBy
 gives-not b v c (placing r x k) (accepted (d ∷ l)) i n =
     rw (ne-eqb d b (λ e. n r (x, k, l, i, ap (λ (f : ℕ). accepted (f ∷ l)) e)))
@@ -262,7 +262,7 @@ module _ (M : Machine) (T : M .Tables) (D : (l : List (M .Asked)) → Demand3 M 
       D before .1 .sealed more v w 1 0 l m cv cw (subst (λ H. Sealed (book 2 H) 1) (sym h) (inl (inl (refl, refl)))) av aw
 
   -- `room`: right after C neither W nor E nor D nor Y is refused 14
-  abbrev Roomy : Call → Type 0
+  abbrev Roomy : Command → Type 0
   Roomy d = (before : List (M .Asked)) (c i : M .Asked) (l : List ℕ) → M .call c ≡ Compress → M .answer (now before) c ≡ accepted l →
       M .call i ≡ d → M .answer (now (before ++ (c ∷ []))) i ≡ refused 14 → ⊥
 
@@ -518,28 +518,28 @@ module _ (M : Memory) (made : makeReply ten M ≡ accepted []) (l : List Own) wh
 -- ── ANY MEMORY ──
 
 -- `fresh-sound`: with whatever bytes in its log and whatever buffer, no call on a fresh store is answered 4
-pub fresh-never-4 : (g : Geometry) (M : Memory) → makeReply g M ≡ accepted [] → (log out : List ℕ) (c : Call) →
+pub fresh-never-4 : (g : Geometry) (M : Memory) → makeReply g M ≡ accepted [] → (log out : List ℕ) (c : Command) →
     reply g (lent (makeAfter g M .tables) log out) c ≡ refused 4 → ⊥
 fresh-never-4 g M made log out c = sound-not-4 g (lent (makeAfter g M .tables) log out) c (making-is g M made .0) (fresh-sound g M made log)
 
 -- `keeps-sound`: whatever was called on a sound memory, accepted or refused, no call on what it left is answered 4, with any buffer
-pub then-never-4 : (g : Geometry) (M : Memory) (c d : Call) (out : List ℕ) → Inside g → SoundStore g (M .tables) (M .log) →
+pub then-never-4 : (g : Geometry) (M : Memory) (c d : Command) (out : List ℕ) → Inside g → SoundStore g (M .tables) (M .log) →
     reply g (withOut (after g M c) out) d ≡ refused 4 → ⊥
 then-never-4 g M c d out inside S = sound-not-4 g (withOut (after g M c) out) d inside (keeps-sound g M c S)
 
 -- and of any six numbers: the counter stays the number of an arena
-pub counter-below : (g : Geometry) (M : Memory) (c : Call) → SoundStore g (M .tables) (M .log) → getD (after g M c .tables) 7 0 < g .arenas
+pub counter-below : (g : Geometry) (M : Memory) (c : Command) → SoundStore g (M .tables) (M .log) → getD (after g M c .tables) 7 0 < g .arenas
 unfolding stateOf
 counter-below g M c S = keeps-sound g M c S .range .counter
 
 -- `room`: on any tables, also such as no fresh store leads to, and with other log bytes than C left, no call right after C is refused 14
-pub lent-room-any : (g : Geometry) (t log other out more k : List ℕ) (c : Call) → reply g (lent t log out) Compress ≡ accepted k →
+pub lent-room-any : (g : Geometry) (t log other out more k : List ℕ) (c : Command) → reply g (lent t log out) Compress ≡ accepted k →
     reply g (lent (after g (lent t log out) Compress .tables) other more) c ≡ refused 14 → ⊥
 lent-room-any g t log other out more k c done =
     room g .0 t (record { call = Compress; log = log; out = out }) (record { call = c; log = other; out = more }) k refl done
 
 -- nor any call of a store that keeps its own log
-pub own-room : (g : Geometry) (M : Memory) (out more k : List ℕ) (c : Call) → reply g (withOut M out) Compress ≡ accepted k →
+pub own-room : (g : Geometry) (M : Memory) (out more k : List ℕ) (c : Command) → reply g (withOut M out) Compress ≡ accepted k →
     reply g (withOut (after g (withOut M out) Compress) more) c ≡ refused 14 → ⊥
 own-room g M out more k c done = room g .1 M (record { call = Compress; out = out }) (record { call = c; out = more }) k refl done
 

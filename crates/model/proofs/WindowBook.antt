@@ -3,7 +3,7 @@ use mathlib.Core.Path.{_≡_, refl, sym, ap, ap₂, _∙_, subst}
 use mathlib.Core.Logic.{_⊎_, inl, inr}
 use mathlib.Core.Bool.{Bool, true, false, cond, not, _&&_, _||_, true≢false}
 use mathlib.Core.List.{List, [], _∷_, map}
-use Prim.Native.Nat.{ℕ, zero, suc, pred, _-_, _≤_, _<_}
+use Prim.Native.Nat.{ℕ, zero, suc, pred, _+_, _-_, _≤_, _<_}
 use native.Mathlib.Omega.{arith}
 use lib.Dec.{eqb, ltb}
 use lib.ListN.{length, take}
@@ -13,21 +13,22 @@ use Rattle.model.specs.View.{View, baseNum}
 use Rattle.model.specs.Lists.{In, keepIf, butLast, trim, onFirst}
 use Rattle.model.specs.Sound.{Sound}
 use Rattle.model.specs.Actions.{doS, doD, Asks, done, forked, vacant, delete}
-use Rattle.model.specs.Book.{Rec, Line, Book, inRecs, recSealed, recOut, sealedIn, sealedWith, anyRec, forkAmong, takenOut, recsOut, trimmed}
-use Rattle.model.specs.Window.{steps, older, sealedOf, victims, trimming, sealing, mayGo}
+use Rattle.model.specs.Book.{Rec, Line, NameOn, Book, inRecs, namesMoved, recSealed, recOut, namedIn, sealedIn, sealedWith, anyRec, forkAmong}
+use Rattle.model.specs.Book.{mayLeave, takenOut, recsOut, trimmed}
+use Rattle.model.specs.Window.{steps, older, sealedOf, bare, victims, trimming, sealing, mayGo}
 use Rattle.model.specs.WindowBook.{outLoop}
 use Rattle.answer.proofs.Cases.{cases, either, same?, pos, lt?}
 use Rattle.model.proofs.TabFacts.{via-is, via-suc}
 use Rattle.model.proofs.ListFacts.{of-keep, keep-ext}
-use Rattle.model.proofs.DoneSound.{done-sound}
+use Rattle.model.proofs.DoneSound.{spare, done-sound}
 use Rattle.model.proofs.Agree.{Every, Row, Agree}
-use Rattle.model.proofs.BookFacts.{LineOf, HasIn, Has, in-recs, of-recs, agree-sealed, agree-done}
+use Rattle.model.proofs.BookFacts.{LineOf, HasIn, Has, in-recs, of-recs, seal-grown, agree-sealed, agree-done}
 use Rattle.model.proofs.WindowLine.{Chain, sealed-is, chain-live, sealed-chain, older-live, older-less}
 use Rattle.model.proofs.WindowDelete.{unforked, no-fork, cut, cut-live, of-cut, prev-stays}
-use Rattle.model.proofs.WindowLists.{of-take}
+use Rattle.model.proofs.WindowLists.{of-take, butLast-snoc}
 use Rattle.model.proofs.WindowAlong.{MayGo, head-live, head-free, head-not, others-not, tail-may}
-use Rattle.model.proofs.WindowFacts.{bare, loose, sealed-length, victims-are, loop-loose, victims-may, first, next-sound, next-live, next-loose}
-use Rattle.model.proofs.WindowFacts.{next-length, take-none}
+use Rattle.model.proofs.WindowFacts.{loose, sealed-length, of-sealed, victims-are, loop-loose, victims-may, first, next-sound, next-live}
+use Rattle.model.proofs.WindowFacts.{next-loose, next-length, take-none}
 use Rattle.model.proofs.WindowSeal.{seal-sealed, seal-num}
 
 -- ── lists of numbers of slots ──
@@ -60,11 +61,9 @@ pub map-ext : (f g : ℕ → ℕ) (l : List ℕ) → ((s : ℕ) → In s l → f
 map-ext f g [] h = refl
 map-ext f g (s ∷ l) h = ap₂ {C = List ℕ} (λ (n : ℕ) (m : List ℕ). n ∷ m) (h s (inl refl)) (map-ext f g l (λ t i. h t (inr i)))
 
-of-butLast : (l : List ℕ) (s : ℕ) → In s (butLast l) → In s l
-unfolding butLast
-of-butLast [] s i = i
-of-butLast (t ∷ []) s i = absurd i
-of-butLast (t ∷ u ∷ l) s i = cases i (λ e. inl e) (λ j. inr (of-butLast (u ∷ l) s j))
+of-butLast : (K : View) (r s : ℕ) → In s (butLast (sealedOf K r)) → In s (older K r)
+unfolding sealedOf
+of-butLast K r s i = rw (butLast-snoc (older K r) r) at i
 
 -- ── what the book finds ──
 
@@ -83,6 +82,51 @@ and-left false q e = e
 and-right : (p q : Bool) → (p && q) ≡ true → q ≡ true
 and-right true q e = e
 and-right false q e = absurd (true≢false (sym e))
+
+not-above : (n : ℕ) → not (ltb 0 n) ≡ eqb n 0
+not-above n =
+    cases (lt? 0 n)
+    (λ h. rw (lt-ltb 0 n h, ne-eqb n 0 (λ e. let z : ⊥ = omega arith in z)))
+    (λ h. rw (le-ltb 0 n h, eq-eqb n 0 (omega arith)))
+
+-- ── who has a name ──
+
+-- the book has a name on a record exactly where the store's count of its slot is above 0
+abbrev pub NamedAlike : View → (ℕ → ℕ) → Book → Type 0
+NamedAlike K names B = (s : ℕ) → 0 < K .num s → namedIn (B .names) (K .num s) ≡ ltb 0 (names s)
+
+-- the same of the records with a number below that of r, where r was just sealed: the seal moves no name of theirs
+abbrev pub OlderNamed : View → (ℕ → ℕ) → ℕ → Book → Type 0
+OlderNamed K names r B = (s : ℕ) → 0 < K .num s → K .num s < K .num r → namedIn (B .names) (K .num s) ≡ ltb 0 (names s)
+
+-- names that move from number r to number m: any other number has one where it had one
+pub moved-others : (ps : List NameOn) (r m n : ℕ) → (n ≡ r → ⊥) → (n ≡ m → ⊥) → namedIn (namesMoved ps r m) n ≡ namedIn ps n
+unfolding namedIn namesMoved
+moved-others [] r m n dr dm = refl
+moved-others (p ∷ ps) r m n dr dm = ap₂ (λ (b c : Bool). b || c) one (moved-others ps r m n dr dm)
+  where
+    one : eqb (cond (eqb (p .1) r) m (p .1)) n ≡ eqb (p .1) n
+    one =
+        cases (same? (p .1) r)
+        (λ e. rw (eq-eqb (p .1) r e, ne-eqb m n (λ i. dm (sym i)), ne-eqb (p .1) n (λ i. dr (sym i ∙ e))))
+        (λ d. rw (ne-eqb (p .1) r d))
+
+-- right after the seal of s
+pub older-named : (K : View) (names : ℕ → ℕ) (B : Book) (s : ℕ) → Sound K → Asks K (doS s) → Agree K B → NamedAlike K names B →
+    OlderNamed (done K (doS s)) names s (recSealed B (K .num s))
+unfolding recSealed
+older-named K names B s S a A N t h l =
+    let f : ℕ = pred (vacant K) in
+    let G = seal-grown K s f (spare K (a .2) .1) in
+    let e = seal-num K s S a in
+    let given = S .links .records s (a .0) .given in
+    let n : t ≡ f → ⊥ = λ i. let z : ⊥ = omega (arith, ap (done K (doS s) .num) i, G .num-f) in z in
+    let same = G .num t n in
+    let ht : 0 < K .num t = omega arith in
+    ap (namedIn (namesMoved (B .names) (K .num s) (B .last + 1))) same ∙
+    moved-others (B .names) (K .num s) (B .last + 1) (K .num t) (λ i. let z : ⊥ = omega arith in z)
+    (λ i. let z : ⊥ = omega (arith, S .links .records t ht .given, A .last) in z) ∙
+    N t ht
 
 -- ── the book and the store agree ──
 
@@ -204,7 +248,7 @@ module _ (K : View) (S : Sound K) where
       (λ j. or-right (eqb (l .base) m && anyRec (l .recs)) (forkAmong m ls) (line-fork n m ls h d (e .1) j))
 
   -- THE BOOK'S FORKS are the store's
-  pub book-forks : (B : Book) (t : ℕ) → Agree K B → 0 < K .num t → not (forkAmong (K .num t) (B .lines)) ≡ bare K t
+  pub book-forks : (B : Book) (t : ℕ) → Agree K B → 0 < K .num t → not (forkAmong (K .num t) (B .lines)) ≡ eqb (forked K t) 0
   book-forks B t A h =
       cases (either (forkAmong (K .num t) (B .lines)))
       (λ y.
@@ -218,23 +262,34 @@ module _ (K : View) (S : Sound K) where
       true≢false (sym (line-fork n (K .num t) (B .lines) hn (ap (via (K .num)) en ∙ via-suc (K .num) t) (A .booked) (A .stored n hn)) ∙ y)) in
       rw (y, eq-eqb (forked K t) 0 z))
 
+  -- SO ARE ITS RECORDS WITHOUT FORK AND NAME
+  pub book-bare : (names : ℕ → ℕ) (B : Book) (r t : ℕ) → Agree K B → OlderNamed K names r B → 0 < K .num t → K .num t < K .num r →
+      mayLeave B (K .num t) ≡ bare K names t
+  unfolding mayLeave bare
+  book-bare names B r t A N h l = ap₂ (λ (b c : Bool). b && c) (book-forks B t A h) (ap not (N t h l) ∙ not-above (names t))
+
+  older-bare : (names : ℕ → ℕ) (B : Book) (r t : ℕ) → Agree K B → OlderNamed K names r B → 0 < K .num r → In t (older K r) →
+      mayLeave B (K .num t) ≡ bare K names t
+  older-bare names B r t A N h i = book-bare names B r t A N (older-live K S r h t i) (older-less K S r h t i)
+
   sealed-live : (r t : ℕ) → 0 < K .num r → In t (sealedOf K r) → 0 < K .num t
   sealed-live r t h i = chain-live K S (sealedOf K r) 0 (suc r) t (sealed-chain K S r h) i
 
   -- THE BOOK TAKES OUT the numbers of the victims
-  pub book-takes : (B : Book) (n r : ℕ) → Agree K B → OpenNext K r → takenOut B n (K .num r) ≡ map (K .num) (victims K n r)
+  pub book-takes : (names : ℕ → ℕ) (B : Book) (n r : ℕ) → Agree K B → OpenNext K r → OlderNamed K names r B →
+      takenOut B n (K .num r) ≡ map (K .num) (victims K names n r)
   unfolding takenOut victims trim
-  book-takes B zero r A O = refl
-  book-takes B (suc n) r A O =
+  book-takes names B zero r A O N = refl
+  book-takes names B (suc n) r A O N =
       let l = sealedOf K r in
       let f = K .num in
-      let may : ℕ → Bool = λ m. not (forkAmong m (B .lines)) in
+      let may : ℕ → Bool = mayLeave B in
       let k : ℕ = length l - suc n in
       ap (λ (m : List ℕ). take (length m - suc n) (keepIf may (butLast m))) (book-sealed B r A O) ∙
       ap₂ (λ (i : ℕ) (m : List ℕ). take (i - suc n) (keepIf may m)) (map-length f l) (map-butLast f l) ∙
       ap (take k) (map-keep f may (butLast l) ∙
-      ap (map f) (keep-ext (λ s. may (f s)) (bare K) (butLast l) (λ s i. book-forks B s A (sealed-live r s (just-live r O) (of-butLast l s i))))) ∙
-      map-take f k (keepIf (bare K) (butLast l))
+      ap (map f) (keep-ext (λ s. may (f s)) (bare K names) (butLast l) (λ s i. older-bare names B r s A N (just-live r O) (of-butLast K r s i)))) ∙
+      map-take f k (keepIf (bare K names) (butLast l))
 
 -- the deletions, in the book
 agree-along : (vs : List ℕ) (K : View) (r : ℕ) (B : Book) → MayGo K r vs → Agree K B → Agree (steps K (map doD vs)) (recsOut B (map (K .num) vs))
@@ -249,40 +304,42 @@ agree-along (v ∷ ws) K r B M A =
     (agree-along ws (delete K v) r (recOut B (K .num v)) (tail-may K r v ws M) (agree-done K (doD v) B (M .sound) (hv, fv) A))
 
 -- THE BOOK AND THE STORE AGREE AFTER A WINDOW'S DELETES
-pub window-agrees : (K : View) (B : Book) (n r : ℕ) → Sound K → Agree K B → OpenNext K r → Agree (steps K (trimming K n r)) (trimmed B n (K .num r))
+pub window-agrees : (K : View) (names : ℕ → ℕ) (B : Book) (n r : ℕ) → Sound K → Agree K B → OpenNext K r → OlderNamed K names r B →
+    Agree (steps K (trimming K names n r)) (trimmed B n (K .num r))
 unfolding trimmed
-window-agrees K B n r S A O =
-    subst (λ l. Agree (steps K (trimming K n r)) (recsOut B l)) (sym (book-takes K S B n r A O))
-    (agree-along (victims K n r) K r B (victims-may K n r S (just-live K S r O)) A)
+window-agrees K names B n r S A O N =
+    subst (λ l. Agree (steps K (trimming K names n r)) (recsOut B l)) (sym (book-takes K S names B n r A O N))
+    (agree-along (victims K names n r) K r B (victims-may K names n r S (just-live K S r O)) A)
 
 -- AND AFTER THE WHOLE CALL S
-pub seal-agrees : (K : View) (B : Book) (n s : ℕ) → Sound K → Asks K (doS s) → Agree K B →
-    Agree (steps K (sealing K n s)) (trimmed (recSealed B (K .num s)) n (K .num s))
+pub seal-agrees : (K : View) (names : ℕ → ℕ) (B : Book) (n s : ℕ) → Sound K → Asks K (doS s) → Agree K B → NamedAlike K names B →
+    Agree (steps K (sealing K names n s)) (trimmed (recSealed B (K .num s)) n (K .num s))
 unfolding sealing steps
-seal-agrees K B n s S a A =
+seal-agrees K names B n s S a A N =
     let (d, hf, ef, of) = seal-sealed K s S a in
-    subst (λ m. Agree (steps (done K (doS s)) (trimming (done K (doS s)) n s)) (trimmed (recSealed B (K .num s)) n m)) (seal-num K s S a)
-    (window-agrees (done K (doS s)) (recSealed B (K .num s)) n s (done-sound K (doS s) S a) (agree-sealed K s B S a A)
-    (record { slot = pred (vacant K); live = hf; prev = ef; isOpen = of }))
+    subst (λ m. Agree (steps (done K (doS s)) (trimming (done K (doS s)) names n s)) (trimmed (recSealed B (K .num s)) n m)) (seal-num K s S a)
+    (window-agrees (done K (doS s)) names (recSealed B (K .num s)) n s (done-sound K (doS s) S a) (agree-sealed K s B S a A)
+    (record { slot = pred (vacant K); live = hf; prev = ef; isOpen = of }) (older-named K names B s S a A N))
 
 -- ── the loop, on the book ──
 
 -- the loop's candidates
-pub book-loose : (K : View) (S : Sound K) (B : Book) (r : ℕ) → Agree K B → OpenNext K r →
-    keepIf (λ m. not (eqb m (K .num r)) && not (forkAmong m (B .lines))) (sealedWith (K .num r) (B .lines)) ≡ map (K .num) (loose K r)
+pub book-loose : (K : View) (S : Sound K) (names : ℕ → ℕ) (B : Book) (r : ℕ) → Agree K B → OpenNext K r → OlderNamed K names r B →
+    keepIf (λ m. not (eqb m (K .num r)) && mayLeave B m) (sealedWith (K .num r) (B .lines)) ≡ map (K .num) (loose K names r)
 unfolding mayGo
-book-loose K S B r A O =
+book-loose K S names B r A O N =
     let h = just-live K S r O in
-    let t : ℕ → Bool = λ m. not (eqb m (K .num r)) && not (forkAmong m (B .lines)) in
+    let t : ℕ → Bool = λ m. not (eqb m (K .num r)) && mayLeave B m in
     ap (keepIf t) (book-sealed K S B r A O) ∙ map-keep (K .num) t (sealedOf K r) ∙
-    ap (map (K .num)) (keep-ext (λ s. t (K .num s)) (mayGo K r) (sealedOf K r)
-    (λ s i. ap₂ (λ (b c : Bool). not b && c) (same-test s i h) (book-forks K S B s A (sealed-live K S r s h i))) ∙ loop-loose K r S h)
+    ap (map (K .num)) (keep-ext (λ s. t (K .num s)) (mayGo K names r) (sealedOf K r) (λ s i. same-test s i h) ∙ loop-loose K names r S h)
   where
-    same-test : (s : ℕ) → In s (sealedOf K r) → 0 < K .num r → eqb (K .num s) (K .num r) ≡ eqb s r
+    same-test : (s : ℕ) → In s (sealedOf K r) → 0 < K .num r → (not (eqb (K .num s) (K .num r)) && mayLeave B (K .num s)) ≡ (not (eqb s r) && bare K names s)
     same-test s i h =
         cases (same? s r)
         (λ e. rw (eq-eqb s r e, eq-eqb (K .num s) (K .num r) (ap (K .num) e)))
-        (λ n. rw (ne-eqb s r n, ne-eqb (K .num s) (K .num r) (λ e. n (S .links .apart s r (sealed-live K S r s h i) e))))
+        (λ n.
+        let d = of-sealed K r s i n in
+        rw (ne-eqb s r n, ne-eqb (K .num s) (K .num r) (λ e. let z : ⊥ = omega (arith, older-less K S r h s d) in z)) (older-bare K S names B r s A N h d))
 
 -- after a delete before r the open record still follows r
 pub next-open : (K : View) (r v : ℕ) (ws : List ℕ) → MayGo K r (v ∷ ws) → OpenNext K r → OpenNext (delete K v) r
@@ -308,18 +365,30 @@ open-along [] K r M O = O
 open-along (v ∷ ws) K r M O = open-along ws (delete K v) r (tail-may K r v ws M) (next-open K r v ws M O)
 
 -- and of the others that may go no number changes
-pub next-numbers : (K : View) (r v : ℕ) (c : List ℕ) → Sound K → 0 < K .num r → loose K r ≡ v ∷ c → (j : ℕ) →
+pub next-numbers : (K : View) (names : ℕ → ℕ) (r v : ℕ) (c : List ℕ) → Sound K → 0 < K .num r → loose K names r ≡ v ∷ c → (j : ℕ) →
     map ((delete K v) .num) (take j c) ≡ map (K .num) (take j c)
-next-numbers K r v c S h e j =
-    let M = first K r v c S h e in
+next-numbers K names r v c S h e j =
+    let M = first K names r v c S h e in
     let hv = head-live K r v [] M in
     let fv = head-free K r v [] M in
     let G = cut K S v hv fv in
-    let sl = next-sound K r v c S h e in
-    let hl = next-live K r v c S h e in
+    let sl = next-sound K names r v c S h e in
+    let hl = next-live K names r v c S h e in
     map-ext ((delete K v) .num) (K .num) (take j c)
     (λ w i. G .num w (of-cut K S v hv fv w (older-live (delete K v) sl r hl w
-    (of-keep (bare (delete K v)) w (older (delete K v) r) (rw (next-loose K r v c S h e) (of-take j c w i)) .0)) .1))
+    (of-keep (bare (delete K v) names) w (older (delete K v) r) (rw (next-loose K names r v c S h e) (of-take j c w i)) .0)) .1))
+
+-- and no name: a record taken out leaves the book's names
+pub next-named : (K : View) (names : ℕ → ℕ) (r v : ℕ) (ws : List ℕ) (B : Book) → MayGo K r (v ∷ ws) → OlderNamed K names r B →
+    OlderNamed (delete K v) names r (recOut B (K .num v))
+unfolding recOut
+next-named K names r v ws B M N s h l =
+    let S = M .sound in
+    let hv = head-live K r v ws M in
+    let fv = head-free K r v ws M in
+    let G = cut K S v hv fv in
+    let (hs, n) = of-cut K S v hv fv s h in
+    ap (namedIn (B .names)) (G .num s n) ∙ N s hs (omega (arith, G .num s n, G .num r (head-not K r v ws M)))
 
 -- a turn
 out-ends : (k n r : ℕ) (B : Book) → length (sealedWith r (B .lines)) ≤ n → outLoop k B n r ≡ []
@@ -327,50 +396,52 @@ unfolding outLoop
 out-ends zero n r B h = refl
 out-ends (suc k) n r B h = rw (le-ltb n (length (sealedWith r (B .lines))) h)
 
-out-stuck : (k n r : ℕ) (B : Book) → keepIf (λ m. not (eqb m r) && not (forkAmong m (B .lines))) (sealedWith r (B .lines)) ≡ [] →
+out-stuck : (k n r : ℕ) (B : Book) → keepIf (λ m. not (eqb m r) && mayLeave B m) (sealedWith r (B .lines)) ≡ [] →
     outLoop k B n r ≡ []
 unfolding outLoop onFirst
 out-stuck zero n r B e = refl
 out-stuck (suc k) n r B e = cases (either (ltb n (length (sealedWith r (B .lines))))) (λ y. rw (y, e)) (λ y. rw y)
 
 out-turn : (k n r v : ℕ) (c : List ℕ) (B : Book) → n < length (sealedWith r (B .lines)) →
-    keepIf (λ m. not (eqb m r) && not (forkAmong m (B .lines))) (sealedWith r (B .lines)) ≡ v ∷ c →
+    keepIf (λ m. not (eqb m r) && mayLeave B m) (sealedWith r (B .lines)) ≡ v ∷ c →
     outLoop (suc k) B n r ≡ v ∷ outLoop k (recOut B v) n r
 unfolding outLoop onFirst
 out-turn k n r v c B h e = rw (lt-ltb n (length (sealedWith r (B .lines))) h, e)
 
-outs : (n r : ℕ) (c : List ℕ) (k : ℕ) (K : View) (B : Book) → Sound K → Agree K B →
-    OpenNext K r → loose K r ≡ c → length (sealedOf K r) ≤ k →
+outs : (names : ℕ → ℕ) (n r : ℕ) (c : List ℕ) (k : ℕ) (K : View) (B : Book) → Sound K → Agree K B →
+    OpenNext K r → OlderNamed K names r B → loose K names r ≡ c → length (sealedOf K r) ≤ k →
     outLoop k B n (K .num r) ≡ map (K .num) (take (length (sealedOf K r) - n) c)
-outs n r c zero K B S A O e m = absurd (let z : ⊥ = omega (arith, sealed-length K r) in z)
-outs n r [] (suc k) K B S A O e m =
-    out-stuck (suc k) n (K .num r) B (book-loose K S B r A O ∙ ap (map (K .num)) e) ∙ ap (map (K .num)) (sym (take-none (length (sealedOf K r) - n)))
-outs n r (v ∷ c) (suc k) K B S A O e m =
+outs names n r c zero K B S A O N e m = absurd (let z : ⊥ = omega (arith, sealed-length K r) in z)
+outs names n r [] (suc k) K B S A O N e m =
+    out-stuck (suc k) n (K .num r) B (book-loose K S names B r A O N ∙ ap (map (K .num)) e) ∙
+    ap (map (K .num)) (sym (take-none (length (sealedOf K r) - n)))
+outs names n r (v ∷ c) (suc k) K B S A O N e m =
     let h = just-live K S r O in
     let len = ap length (book-sealed K S B r A O) ∙ map-length (K .num) (sealedOf K r) in
     cases (lt? n (length (sealedOf K r)))
     (λ l.
-    let M = first K r v c S h e in
+    let M = first K names r v c S h e in
     let hv = head-live K r v [] M in
     let fv = head-free K r v [] M in
     let G = cut K S v hv fv in
     let O′ = next-open K r v [] M O in
-    let sl = next-sound K r v c S h e in
-    let d : length (sealedOf K r) - n ≡ suc (length (sealedOf (delete K v) r) - n) = omega (arith, next-length K r v c S h e) in
-    let ih = outs n r c k (delete K v) (recOut B (K .num v)) sl (agree-done K (doD v) B S (hv, fv) A) O′ (next-loose K r v c S h e)
-    (omega (arith, next-length K r v c S h e)) in
-    out-turn k n (K .num r) (K .num v) (map (K .num) c) B (omega arith) (book-loose K S B r A O ∙ ap (map (K .num)) e) ∙
+    let sl = next-sound K names r v c S h e in
+    let d : length (sealedOf K r) - n ≡ suc (length (sealedOf (delete K v) r) - n) = omega (arith, next-length K names r v c S h e) in
+    let ih = outs names n r c k (delete K v) (recOut B (K .num v)) sl (agree-done K (doD v) B S (hv, fv) A) O′ (next-named K names r v [] B M N)
+    (next-loose K names r v c S h e) (omega (arith, next-length K names r v c S h e)) in
+    out-turn k n (K .num r) (K .num v) (map (K .num) c) B (omega arith) (book-loose K S names B r A O N ∙ ap (map (K .num)) e) ∙
     ap {B = List ℕ} (λ (l : List ℕ). K .num v ∷ l)
     (ap (outLoop k (recOut B (K .num v)) n) (sym (G .num r (head-not K r v [] M))) ∙ ih ∙
-    next-numbers K r v c S h e (length (sealedOf (delete K v) r) - n)) ∙
+    next-numbers K names r v c S h e (length (sealedOf (delete K v) r) - n)) ∙
     ap (λ i. map (K .num) (take i (v ∷ c))) (sym d))
     (λ l.
     let d : length (sealedOf K r) - n ≡ 0 = omega arith in
     out-ends (suc k) n (K .num r) B (omega arith) ∙ ap (λ i. map (K .num) (take i (v ∷ c))) (sym d))
 
 -- THE PAPER'S LOOP on the book takes out what `takenOut` says
-pub book-loop : (K : View) (B : Book) (k n r : ℕ) → Sound K → Agree K B → OpenNext K r → 0 < n → length (sealedOf K r) ≤ k →
-    outLoop k B n (K .num r) ≡ takenOut B n (K .num r)
-book-loop K B k zero r S A O p m = absurd (let z : ⊥ = omega arith in z)
-book-loop K B k (suc n) r S A O p m =
-    outs (suc n) r (loose K r) k K B S A O refl m ∙ ap (map (K .num)) (sym (victims-are K n r)) ∙ sym (book-takes K S B (suc n) r A O)
+pub book-loop : (K : View) (names : ℕ → ℕ) (B : Book) (k n r : ℕ) → Sound K → Agree K B → OpenNext K r → OlderNamed K names r B →
+    0 < n → length (sealedOf K r) ≤ k → outLoop k B n (K .num r) ≡ takenOut B n (K .num r)
+book-loop K names B k zero r S A O N p m = absurd (let z : ⊥ = omega arith in z)
+book-loop K names B k (suc n) r S A O N p m =
+    outs names (suc n) r (loose K names r) k K B S A O N refl m ∙ ap (map (K .num)) (sym (victims-are K names n r)) ∙
+    sym (book-takes K S names B (suc n) r A O N)

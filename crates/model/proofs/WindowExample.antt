@@ -1,6 +1,7 @@
--- A worked example, computed: a line of five sealed records with a fork on the second, and a window of 2.
+-- Worked examples, computed: a line of five sealed records with a fork on the second, and a window of 2; first with no name, then with one on the oldest.
 use mathlib.Core.Path.{_≡_, refl}
 use mathlib.Core.List.{List, [], _∷_, _++_, map}
+use Prim.Native.Nat.{ℕ}
 use lib.ListN.{drop}
 use lib.Count.{leadingZeros}
 use Rattle.answer.specs.Reply.{accepted, refused}
@@ -14,11 +15,12 @@ use Rattle.model.specs.Effects.{pruned, prune}
 use Rattle.model.specs.Actions.{Action, doB, doW, doS, doF, done, follower, forked, power, emptyAt, vacant, deleteAt, delete}
 use Rattle.model.specs.Held.{freedOne, erased, deleted}
 use Rattle.model.specs.Model.{history}
-use Rattle.model.specs.declared.Call.{Call}
-use Rattle.model.specs.declared.Call.the-variants.{Begin, Write, Erase, Seal, Fork, Retain}
-use Rattle.model.specs.Book.{Book, emptyBook, inRecs, inLines, pagesIn, pagesOf, inLine, sealRec, dropRec, keepLine, dropIn, openLine, recSealed}
-use Rattle.model.specs.Book.{recOut, windowWith, sealedIn, sealedWith, anyRec, forkAmong, takenOut, recsOut, trimmed, accept}
-use Rattle.model.specs.Window.{steps, freesAlong, upTo, older, sealedOf, victims, sealing, mayGo, trimLoop, bornAbove}
+use Rattle.model.specs.Command.{Command}
+use Rattle.model.specs.Command.{Begin, Write, Erase, Seal, Fork, Delete, Retain, Attach, Resolve}
+use Rattle.model.specs.Book.{Book, emptyBook, inRecs, inLines, pagesIn, pagesOf, inLine, sealRec, dropRec, keepLine, dropIn, openLine}
+use Rattle.model.specs.Book.{namesMoved, recSealed, recOut, namedIn, nameAdded, windowWith, sealedIn, sealedWith, anyRec, forkAmong, mayLeave, takenOut}
+use Rattle.model.specs.Book.{recsOut, trimmed, accept}
+use Rattle.model.specs.Window.{steps, freesAlong, upTo, older, sealedOf, bare, victims, sealing, mayGo, trimLoop, bornAbove}
 use Rattle.model.specs.Window.{lastStaying, floorOf, freesOf, freesWalked}
 use Rattle.model.specs.WindowBook.{outLoop}
 use Rattle.model.proofs.PaperExample.{fine, repliesTo}
@@ -63,12 +65,16 @@ unfolding written keepIf rows cleared shard shards leave unlinked joined unlink 
 before = written
 
 unfoldable pub trimmings : View
-unfolding before upTo older sealedOf butLast trim victims sealing mayGo onFirst trimLoop bornAbove lastStaying floorOf freesOf freesWalked
+unfolding before upTo older sealedOf butLast trim bare victims sealing mayGo onFirst trimLoop bornAbove lastStaying floorOf freesOf freesWalked
 trimmings = before
+
+-- no record has a name
+abbrev pub none : ℕ → ℕ
+none s = 0
 
 -- record 5 is sealed: 1, 3 and 4 go, 2 has a fork on it, and 2 and 5 are left
 abbrev pub after : View
-after = steps before (sealing before 2 4)
+after = steps before (sealing before none 2 4)
 
 abbrev pub sealedView : View
 sealedView = steps before (doS 4 ∷ [])
@@ -77,11 +83,11 @@ pub example-line : sealedOf sealedView 4 ≡ 0 ∷ 1 ∷ 2 ∷ 3 ∷ 4 ∷ []
 unfolding trimmings
 example-line = refl
 
-pub example-victims : victims sealedView 2 4 ≡ 0 ∷ 2 ∷ 3 ∷ []
+pub example-victims : victims sealedView none 2 4 ≡ 0 ∷ 2 ∷ 3 ∷ []
 unfolding trimmings
 example-victims = refl
 
-pub example-loop : trimLoop 5 sealedView 2 4 .gone ≡ 0 ∷ 2 ∷ 3 ∷ []
+pub example-loop : trimLoop 5 sealedView none 2 4 .gone ≡ 0 ∷ 2 ∷ 3 ∷ []
 unfolding trimmings
 example-loop = refl
 
@@ -90,7 +96,7 @@ unfolding trimmings
 example-left = refl
 
 -- 1 goes and frees block 0, 3 frees block 3, and 4 frees block 4 (born in 3, which is gone by then) and block 5; record 2 stays, with blocks 1 and 2
-pub example-frees : freesAlong before (sealing before 2 4) ≡ 0 ∷ 3 ∷ 4 ∷ 5 ∷ []
+pub example-frees : freesAlong before (sealing before none 2 4) ≡ 0 ∷ 3 ∷ 4 ∷ 5 ∷ []
 unfolding trimmings
 example-frees = refl
 
@@ -98,7 +104,7 @@ pub example-counted : freesOf before (0 ∷ 2 ∷ 3 ∷ []) (0 ∷ 2 ∷ 3 ∷ [
 unfolding trimmings
 example-counted = refl
 
-pub example-walked : freesWalked before 3 0 (0 ∷ 1 ∷ 2 ∷ 3 ∷ 4 ∷ []) ≡ 4
+pub example-walked : freesWalked before none 3 0 (0 ∷ 1 ∷ 2 ∷ 3 ∷ 4 ∷ []) ≡ 4
 unfolding trimmings
 example-walked = refl
 
@@ -106,18 +112,53 @@ example-walked = refl
 abbrev pub forkedTwice : View
 forkedTwice = steps before (doF 3 ∷ [])
 
-pub example-stops : sealedOf (steps forkedTwice (sealing forkedTwice 2 4)) 4 ≡ 1 ∷ 3 ∷ 4 ∷ []
+pub example-stops : sealedOf (steps forkedTwice (sealing forkedTwice none 2 4)) 4 ≡ 1 ∷ 3 ∷ 4 ∷ []
 unfolding trimmings
 example-stops = refl
+
+-- ── with a name on record 1, the oldest: it is passed over, 3 and 4 go, and three are left ──
+
+abbrev pub first : ℕ → ℕ
+first = put none 0 1
+
+pub named-victims : victims sealedView first 2 4 ≡ 2 ∷ 3 ∷ []
+unfolding trimmings
+named-victims = refl
+
+pub named-loop : trimLoop 5 sealedView first 2 4 .gone ≡ 2 ∷ 3 ∷ []
+unfolding trimmings
+named-loop = refl
+
+pub named-left : sealedOf (steps before (sealing before first 2 4)) 4 ≡ 0 ∷ 1 ∷ 4 ∷ []
+unfolding trimmings
+named-left = refl
+
+-- block 0 stays, on a page of record 1
+pub named-frees : freesAlong before (sealing before first 2 4) ≡ 3 ∷ 4 ∷ 5 ∷ []
+unfolding trimmings
+named-frees = refl
+
+pub named-counted : freesOf before (2 ∷ 3 ∷ []) (2 ∷ 3 ∷ []) ≡ 3
+unfolding trimmings
+named-counted = refl
+
+pub named-walked : freesWalked before first 3 0 (0 ∷ 1 ∷ 2 ∷ 3 ∷ 4 ∷ []) ≡ 3
+unfolding trimmings
+named-walked = refl
+
+-- with a window of 3 two go where no name is, the oldest and the third; with the name the third and the fourth
+pub three-victims : (victims sealedView none 3 4 ≡ 0 ∷ 2 ∷ []) × (victims sealedView first 3 4 ≡ 2 ∷ 3 ∷ [])
+unfolding trimmings
+three-victims = (refl, refl)
 
 -- ── the same in the book, by numbers ──
 
 unfoldable pub pages : Book
-unfolding put emptyBook inRecs inLines pagesIn pagesOf inLine sealRec dropRec keepLine dropIn openLine recSealed recOut
+unfolding put emptyBook inRecs inLines pagesIn pagesOf inLine sealRec dropRec keepLine dropIn openLine namesMoved recSealed recOut
 pages = accept 2 (accept 2 (accept 2 (accept 2 (accept 2 (accept 2 emptyBook Begin 0) (Seal 1) 0) (Seal 2) 0) (Seal 3) 0) (Seal 4) 0) (Fork 2) 0
 
 unfoldable pub book : Book
-unfolding pages keepIf onFirst butLast trim windowWith sealedIn sealedWith anyRec forkAmong takenOut recsOut trimmed outLoop
+unfolding pages keepIf onFirst butLast trim namedIn nameAdded windowWith sealedIn sealedWith anyRec forkAmong mayLeave takenOut recsOut trimmed outLoop
 book = pages
 
 abbrev pub sealedBook : Book
@@ -135,12 +176,28 @@ pub example-book-left : sealedWith 5 (trimmed sealedBook 2 5 .lines) ≡ 2 ∷ 5
 unfolding book
 example-book-left = refl
 
+-- with a name on record 1, and one on the open record 5 that moves to 6: 1 is passed over, 5 is not named when it is sealed
+abbrev pub namedBook : Book
+namedBook = accept 2 (accept 2 (accept 2 book (Attach (97 ∷ []) 1) 0) (Attach (98 ∷ []) 5) 0) (Seal 5) 0
+
+pub named-book : takenOut namedBook 2 5 ≡ 3 ∷ 4 ∷ []
+unfolding book
+named-book = refl
+
+pub named-book-loop : outLoop 5 namedBook 2 5 ≡ 3 ∷ 4 ∷ []
+unfolding book
+named-book-loop = refl
+
+pub named-book-left : sealedWith 5 (trimmed namedBook 2 5 .lines) ≡ 1 ∷ 2 ∷ 5 ∷ []
+unfolding book
+named-book-left = refl
+
 -- ── the calls, by the model: two windows, on a line and on its fork ──
 
 abbrev twoLines : Geometry
 twoLines = record { arenas = 1; per = 12; pages = 4; records = 12; turn = 64; words = 40 }
 
-abbrev setUp : List Call
+abbrev setUp : List Command
 setUp =
     Begin ∷ Write 1 0 0 ∷ Write 1 1 0 ∷ Seal 1 ∷ Write 2 0 0 ∷ Write 2 2 0 ∷ Seal 2
     ∷ Write 3 0 0 ∷ Write 3 1 0 ∷ Seal 3 ∷ Write 4 0 0 ∷ Write 4 2 0
@@ -155,3 +212,10 @@ pub example-calls : drop 17 (map (λ e. e .answer) (history twoLines (map fine (
     ∷ refused 15 ∷ refused 8 ∷ refused 9 ∷ []
 unfolding repliesTo
 example-calls = refl
+
+-- the same line with a name on record 1: S takes 3 and 4, and passes 1 and 2 over. Then 1 may not be deleted, and M gives its number
+pub named-calls : drop 17 (map (λ e. e .answer) (history twoLines (map fine (setUp ++
+    (Retain 5 2 ∷ Attach (97 ∷ []) 1 ∷ Seal 5 ∷ Delete 1 ∷ Resolve (97 ∷ []) ∷ Delete 3 ∷ []))))) ≡
+    accepted [] ∷ accepted [] ∷ accepted (7 ∷ 4 ∷ 3 ∷ 5 ∷ 3 ∷ 6 ∷ 4 ∷ []) ∷ refused 18 ∷ accepted (1 ∷ []) ∷ refused 8 ∷ []
+unfolding repliesTo
+named-calls = refl

@@ -2,11 +2,11 @@
 -- The oldest goes first. So when a victim goes, nothing has joined its follower's deadlist yet, and its pred is the nearest older record that stays.
 use mathlib.Core.Path.{_≡_, refl, sym, ap, ap₂, _∙_, subst}
 use mathlib.Core.Logic.{inl, inr}
-use mathlib.Core.Bool.{Bool, true, false, cond, _&&_, _||_}
+use mathlib.Core.Bool.{Bool, true, false, cond, _&&_, _||_, true≢false}
 use mathlib.Core.List.{List, [], _∷_, _++_, map}
 use Prim.Native.Nat.{ℕ, zero, suc, pred, _+_, _-_, _<_}
 use native.Mathlib.Omega.{arith}
-use lib.Dec.{eqb, ltb}
+use lib.Dec.{ltb}
 use lib.ListN.{length, take, length-append}
 use borrow.Author.Tests.{eq-eqb, ne-eqb, lt-ltb}
 use Rattle.model.specs.Table.{via}
@@ -15,8 +15,8 @@ use Rattle.model.specs.Lists.{In, elem, keepIf, butLast, trim}
 use Rattle.model.specs.Sound.{Sound}
 use Rattle.model.specs.Actions.{doD, follower, forked, delete}
 use Rattle.model.specs.Held.{frees}
-use Rattle.model.specs.Window.{freesAlong, older, sealedOf, victims, trimming, bornAbove, lastStaying, floorOf, freesOf, freesWalked}
-use Rattle.answer.proofs.Cases.{cases, same?}
+use Rattle.model.specs.Window.{freesAlong, older, sealedOf, bare, victims, trimming, bornAbove, lastStaying, floorOf, freesOf, freesWalked}
+use Rattle.answer.proofs.Cases.{cases, either, same?}
 use Rattle.model.proofs.ListFacts.{keep-ext, keep-yes, keep-no}
 use Rattle.model.proofs.Waiting.{in-elem, not-in-elem}
 use Rattle.model.proofs.Facts.{pnum-next, pnum-first, bnum-next}
@@ -24,7 +24,7 @@ use Rattle.model.proofs.WindowLine.{Chain, sealed-chain, sealed-base, o
 use Rattle.model.proofs.WindowDelete.{rest, rest-out, rest-in, follower-is, cut, cut-sound, cut-live, cut-base, prev-stays, older-cut, list-cut}
 use Rattle.model.proofs.WindowDelete.{birth-cut, frees-above}
 use Rattle.model.proofs.WindowAlong.{MayGo, head-live, head-free, others-not, tail-may}
-use Rattle.model.proofs.WindowFacts.{bare, sealed-length, victims-may}
+use Rattle.model.proofs.WindowFacts.{sealed-length, victims-may, victims-bare}
 
 -- ── the nearest older record that stays ──
 
@@ -131,15 +131,16 @@ frees-sum (v ∷ ws) K r M =
     (frees-sum ws (delete K v) r (tail-may K r v ws M) ∙ all-cut K r v ws M ws (λ u i. i))
 
 -- THE FREES OF A WINDOW, COUNTED before anything is done: a sum over the victims
-pub frees-counted : (K : View) (n r : ℕ) → Sound K → 0 < K .num r → length (freesAlong K (trimming K n r)) ≡ freesOf K (victims K n r) (victims K n r)
-frees-counted K n r S h = frees-sum (victims K n r) K r (victims-may K n r S h)
+pub frees-counted : (K : View) (names : ℕ → ℕ) (n r : ℕ) → Sound K → 0 < K .num r →
+    length (freesAlong K (trimming K names n r)) ≡ freesOf K (victims K names n r) (victims K names n r)
+frees-counted K names n r S h = frees-sum (victims K names n r) K r (victims-may K names n r S h)
 
 -- ── and by one walk along the line ──
 
-module _ (K : View) (S : Sound K) (vs : List ℕ) (free : (v : ℕ) → In v vs → forked K v ≡ 0) where
+module _ (K : View) (names : ℕ → ℕ) (S : Sound K) (vs : List ℕ) (free : (v : ℕ) → In v vs → bare K names v ≡ true) where
   -- those that go from here on
   abbrev ahead : ℕ → List ℕ → List ℕ
-  ahead k l = take k (keepIf (bare K) (butLast l))
+  ahead k l = take k (keepIf (bare K names) (butLast l))
 
   -- what is known at s, the first of what is left of the line
   record At (k p s : ℕ) (l : List ℕ) : Type 0 where
@@ -147,42 +148,43 @@ module _ (K : View) (S : Sound K) (vs : List ℕ) (free : (v : ℕ) → In v vs 
     there : (t : ℕ) → In t (ahead k (s ∷ l)) → In t vs
 
   -- s goes
-  goes : (k s t : ℕ) (l : List ℕ) → forked K s ≡ 0 → ahead (suc k) (s ∷ t ∷ l) ≡ s ∷ ahead k (t ∷ l)
+  goes : (k s t : ℕ) (l : List ℕ) → bare K names s ≡ true → ahead (suc k) (s ∷ t ∷ l) ≡ s ∷ ahead k (t ∷ l)
   unfolding butLast
-  goes k s t l f = ap (take (suc k)) (keep-yes (bare K) s (butLast (t ∷ l)) (eq-eqb (forked K s) 0 f))
+  goes k s t l f = ap (take (suc k)) (keep-yes (bare K names) s (butLast (t ∷ l)) f)
 
-  -- s stays, for its fork
-  stays : (k s t : ℕ) (l : List ℕ) → (forked K s ≡ 0 → ⊥) → ahead k (s ∷ t ∷ l) ≡ ahead k (t ∷ l)
+  -- s stays, for its fork or its name
+  stays : (k s t : ℕ) (l : List ℕ) → bare K names s ≡ false → ahead k (s ∷ t ∷ l) ≡ ahead k (t ∷ l)
   unfolding butLast
-  stays k s t l f = ap (take k) (keep-no (bare K) s (butLast (t ∷ l)) (ne-eqb (forked K s) 0 f))
+  stays k s t l f = ap (take k) (keep-no (bare K names) s (butLast (t ∷ l)) f)
 
-  walk-goes : (k p s t : ℕ) (l : List ℕ) → forked K s ≡ 0 →
-      freesWalked K (suc k) p (s ∷ t ∷ l) ≡ bornAbove K p t + freesWalked K k p (t ∷ l)
+  walk-goes : (k p s t : ℕ) (l : List ℕ) → bare K names s ≡ true →
+      freesWalked K names (suc k) p (s ∷ t ∷ l) ≡ bornAbove K p t + freesWalked K names k p (t ∷ l)
   unfolding freesWalked
-  walk-goes k p s t l f = rw (lt-ltb 0 (suc k) (omega arith), eq-eqb (forked K s) 0 f)
+  walk-goes k p s t l f = rw (lt-ltb 0 (suc k) (omega arith), f)
 
-  walk-forked : (k p s t : ℕ) (l : List ℕ) → (forked K s ≡ 0 → ⊥) → freesWalked K k p (s ∷ t ∷ l) ≡ freesWalked K k (K .num s) (t ∷ l)
+  walk-stays : (k p s t : ℕ) (l : List ℕ) → bare K names s ≡ false →
+      freesWalked K names k p (s ∷ t ∷ l) ≡ freesWalked K names k (K .num s) (t ∷ l)
   unfolding freesWalked
-  walk-forked k p s t l f = go (ltb 0 k) refl
+  walk-stays k p s t l f = go (ltb 0 k) refl
     where
       go : (b : Bool) → ltb 0 k ≡ b →
-          cond (ltb 0 k && eqb (forked K s) 0) (bornAbove K p t + freesWalked K (pred k) p (t ∷ l)) (freesWalked K k (K .num s) (t ∷ l)) ≡
-          freesWalked K k (K .num s) (t ∷ l)
-      go true e = rw (e, ne-eqb (forked K s) 0 f)
+          cond (ltb 0 k && bare K names s) (bornAbove K p t + freesWalked K names (pred k) p (t ∷ l)) (freesWalked K names k (K .num s) (t ∷ l)) ≡
+          freesWalked K names k (K .num s) (t ∷ l)
+      go true e = rw (e, f)
       go false e = rw e
 
-  walk-done : (p : ℕ) (l : List ℕ) → freesWalked K 0 p l ≡ 0
+  walk-done : (p : ℕ) (l : List ℕ) → freesWalked K names 0 p l ≡ 0
   unfolding freesWalked
   walk-done p [] = refl
   walk-done p (s ∷ []) = refl
   walk-done p (s ∷ t ∷ l) = walk-done (K .num s) (t ∷ l)
 
-  walk : (l : List ℕ) (k p s a e : ℕ) → Chain K a (s ∷ l) e → At k p s l → freesWalked K k p (s ∷ l) ≡ freesOf K vs (ahead k (s ∷ l))
+  walk : (l : List ℕ) (k p s a e : ℕ) → Chain K a (s ∷ l) e → At k p s l → freesWalked K names k p (s ∷ l) ≡ freesOf K vs (ahead k (s ∷ l))
   unfolding freesOf
   walk l zero p s a e c A = walk-done p (s ∷ l)
   walk [] (suc k) p s a e c A = unfold freesWalked in unfold keepIf in unfold butLast in refl
   walk (t ∷ l) (suc k) p s a e (hs, es, c) A =
-      cases (same? (forked K s) 0)
+      cases (either (bare K names s))
       (λ f.
       let split = goes k s t l f in
       let i : In s vs = A .there s (rw split (inl refl)) in
@@ -195,38 +197,38 @@ module _ (K : View) (S : Sound K) (vs : List ℕ) (free : (v : ℕ) → In v vs 
       ap (freesOf K vs) (sym split))
       (λ f.
       let split = stays (suc k) s t l f in
-      let out : In s vs → ⊥ = λ i. f (free s i) in
+      let out : In s vs → ⊥ = λ i. true≢false (sym (free s i) ∙ f) in
       let B : At (suc k) (K .num s) t l = record {
         floor = sym (floor-next K S vs t s (c .0) (c .1) ∙ rw (not-in-elem s vs out) refl);
         there = λ u j. A .there u (rw split j);
       } in
-      walk-forked (suc k) p s t l f ∙ walk l (suc k) (K .num s) t (suc s) e c B ∙ ap (freesOf K vs) (sym split))
+      walk-stays (suc k) p s t l f ∙ walk l (suc k) (K .num s) t (suc s) e c B ∙ ap (freesOf K vs) (sym split))
 
 -- the sum over the victims is what the walk along the line finds
-pub sum-walked : (K : View) (n r : ℕ) → Sound K → 0 < K .num r → 0 < n →
-    freesOf K (victims K n r) (victims K n r) ≡ freesWalked K (length (sealedOf K r) - n) (baseNum K r) (sealedOf K r)
+pub sum-walked : (K : View) (names : ℕ → ℕ) (n r : ℕ) → Sound K → 0 < K .num r → 0 < n →
+    freesOf K (victims K names n r) (victims K names n r) ≡ freesWalked K names (length (sealedOf K r) - n) (baseNum K r) (sealedOf K r)
 unfolding victims trim
-sum-walked K zero r S h p = absurd (let z : ⊥ = omega arith in z)
-sum-walked K (suc n) r S h p = sym (go (sealedOf K r) refl)
+sum-walked K names zero r S h p = absurd (let z : ⊥ = omega arith in z)
+sum-walked K names (suc n) r S h p = sym (go (sealedOf K r) refl)
   where
     vs : List ℕ
-    vs = victims K (suc n) r
+    vs = victims K names (suc n) r
 
     k : ℕ
     k = length (sealedOf K r) - suc n
 
-    go : (l : List ℕ) → sealedOf K r ≡ l → freesWalked K k (baseNum K r) l ≡ freesOf K vs (take k (keepIf (bare K) (butLast l)))
+    go : (l : List ℕ) → sealedOf K r ≡ l → freesWalked K names k (baseNum K r) l ≡ freesOf K vs (take k (keepIf (bare K names) (butLast l)))
     go [] e = absurd (let z : ⊥ = omega (arith, sealed-length K r, ap length e) in z)
     go (s ∷ l) e =
         let c : Chain K 0 (s ∷ l) (suc r) = rw e at (sealed-chain K S r h) in
         let b : K .base s ≡ K .base r = sealed-base K S r h s (rw e (inl refl)) in
-        walk K S vs (victims-may K (suc n) r S h .free) l k (baseNum K r) s 0 (suc r) c
+        walk K names S vs (victims-bare K names (suc n) r) l k (baseNum K r) s 0 (suc r) c
         (record {
           floor = sym (floor-first K S vs s (c .0) (c .1) ∙ ap (via (K .num)) b);
-          there = λ t i. unfold victims in unfold trim in subst (λ m. In t (take k (keepIf (bare K) (butLast m)))) (sym e) i;
+          there = λ t i. unfold victims in unfold trim in subst (λ m. In t (take k (keepIf (bare K names) (butLast m)))) (sym e) i;
         })
 
 -- THE SAME BY A WALK along the line, oldest first, which keeps the number of the last record that stays
-pub frees-walked : (K : View) (n r : ℕ) → Sound K → 0 < K .num r → 0 < n →
-    length (freesAlong K (trimming K n r)) ≡ freesWalked K (length (sealedOf K r) - n) (baseNum K r) (sealedOf K r)
-frees-walked K n r S h p = frees-counted K n r S h ∙ sum-walked K n r S h p
+pub frees-walked : (K : View) (names : ℕ → ℕ) (n r : ℕ) → Sound K → 0 < K .num r → 0 < n →
+    length (freesAlong K (trimming K names n r)) ≡ freesWalked K names (length (sealedOf K r) - n) (baseNum K r) (sealedOf K r)
+frees-walked K names n r S h p = frees-counted K names n r S h ∙ sum-walked K names n r S h p

@@ -1,4 +1,4 @@
--- The theorems of order 5, of the memory before and after a call.
+-- The theorems of the window, of the memory before and after a call.
 use mathlib.Core.Path.{_≡_, sym, ap, _∙_, subst}
 use mathlib.Core.List.{List, [], _∷_}
 use Prim.Native.Nat.{ℕ, zero, suc, _+_, _-_, _<_}
@@ -19,47 +19,47 @@ use Rattle.model.specs.Effects.{begin, fork}
 use Rattle.model.specs.Actions.{doS, Asks, done, vacant}
 use Rattle.model.specs.State.{State}
 use Rattle.model.specs.Calls.{slot, newSlot, windowOf, closes, freedClosing, acted, conditions, written}
-use Rattle.model.specs.Window.{steps, victims, actedAll, WindowTakes}
+use Rattle.model.specs.Window.{steps, victims, actedAll, WindowStops, WindowTakes}
 use Rattle.model.specs.Layout.{stateOf}
 use Rattle.model.specs.Memory.{Memory, allConditions, reply, after}
 use Rattle.model.specs.WindowMeans.{was, now, sealedView, StopsThere, Took, TakesOldest, Takes, FreesThem}
 use Rattle.model.specs.WindowMeans.{Seal14, RetainOnly, BeginBare, ForkBare, SealPasses}
-use Rattle.model.specs.declared.Call.the-variants.{Begin, Seal, Fork, Retain}
+use Rattle.model.specs.Command.{Begin, Seal, Fork, Retain}
 use Rattle.model.proofs.TabFacts.{put-same, put-other}
 use Rattle.model.proofs.DoneSound.{spare, done-sound}
 use Rattle.model.proofs.ListFacts.{in?}
-use Rattle.model.proofs.ByNumber.{none-at, true-at, at-true}
+use Rattle.model.proofs.ByNumber.{none-at, true-at, at-true, or-false}
 use Rattle.model.proofs.BookFacts.{grow-grown, seal-grown}
 use Rattle.model.proofs.WindowFacts.{window-orders}
 use Rattle.model.proofs.WindowSeal.{seal-stops, seal-takes, seal-num}
 use Rattle.model.proofs.Asked.{Fine, not-zero, named-slot}
-use Rattle.model.proofs.EachCall.{or-false}
 use Rattle.model.proofs.Refusals.{ordered}
 use Rattle.model.proofs.Closing.{closing-first, seals}
 use Rattle.model.proofs.Keeps.{Accepted, accepted-is, accepted-state, accepted-log, sound-fine}
 
 -- ── what the window takes, of the view after the seal and the view after the call ──
 
-module _ (K L : View) (n r : ℕ) (w : WindowTakes K L n r) where
+module _ (K L : View) (names : ℕ → ℕ) (n r : ℕ) (w : WindowTakes K L names n r) where
   -- what left the store are the victims
-  is-victim : (s : ℕ) → Took K L s → In s (victims K n r)
-  is-victim s (h, z) = cases (in? s (victims K n r)) (λ i. i) (λ m. absurd (let y : ⊥ = omega (arith, w .num s m) in y))
+  is-victim : (s : ℕ) → Took K L s → In s (victims K names n r)
+  is-victim s (h, z) = cases (in? s (victims K names n r)) (λ i. i) (λ m. absurd (let y : ⊥ = omega (arith, w .num s m) in y))
 
-  is-windowed : (m s : ℕ) → In s (victims K m r) → 0 < m
+  is-windowed : (m s : ℕ) → In s (victims K names m r) → 0 < m
   unfolding victims
   is-windowed zero s i = absurd i
   is-windowed (suc m) s i = omega arith
 
-  stays : (s : ℕ) → 0 < L .num s → In s (victims K n r) → ⊥
+  stays : (s : ℕ) → 0 < L .num s → In s (victims K names n r) → ⊥
   stays s h i = let z : ⊥ = omega (arith, w .gone s i) in z
 
-  pub takes-oldest : TakesOldest K L n r
+  pub takes-oldest : TakesOldest K L names n r
   takes-oldest = record {
     windowed = λ s t. is-windowed n s (is-victim s t);
     sealed = λ s t. w .sealed s (is-victim s t);
     notNewest = λ s t. w .notNewest s (is-victim s t);
     unforked = λ s t. w .unforked s (is-victim s t);
-    oldest = λ s t u i m f h. w .oldest s t (is-victim s u) i m f (stays t h);
+    nameless = λ s t. w .nameless s (is-victim s t);
+    oldest = λ s t u i m f c h. w .oldest s t (is-victim s u) i m f c (stays t h);
     needed = λ s t. w .needed s (is-victim s t);
     num = λ s h. w .num s (stays s h);
     isOpen = w .isOpen;
@@ -89,16 +89,19 @@ module _ (g : Geometry) (M : Memory) (r : ℕ) (l : List ℕ) (e : reply g M (Se
   sound : Sound (done (stateOf g (M .tables) .view) (doS (slot (stateOf g (M .tables)) r)))
   sound = done-sound (T .view) (doS (slot T r)) (F .sound) q
 
-  took : WindowTakes (sealedView g M r) (now g M (Seal r) .view) (windowOf (was g M) r) (slot (was g M) r)
-  took = subst (λ L. WindowTakes (sealedView g M r) L (windowOf T r) (slot T r)) (sym left) (seal-takes (T .view) (slot T r) (F .sound) q (windowOf T r))
+  took : WindowTakes (sealedView g M r) (now g M (Seal r) .view) (was g M .notes .names) (windowOf (was g M) r) (slot (was g M) r)
+  took =
+      subst (λ L. WindowTakes (sealedView g M r) L (T .notes .names) (windowOf T r) (slot T r)) (sym left)
+      (seal-takes (T .view) (slot T r) (F .sound) q (T .notes .names) (windowOf T r))
 
 pub window-stops : StopsThere
 window-stops g M r l e h =
-    subst (λ L. Rattle.model.specs.Window.WindowStops L (windowOf (was g M) r) (slot (was g M) r)) (sym (left g M r l e))
-    (seal-stops (was g M .view) (slot (was g M) r) (F g M r l e .sound) (q g M r l e) (windowOf (was g M) r) h)
+    subst (λ L. WindowStops L (was g M .notes .names) (windowOf (was g M) r) (slot (was g M) r)) (sym (left g M r l e))
+    (seal-stops (was g M .view) (slot (was g M) r) (F g M r l e .sound) (q g M r l e) (was g M .notes .names) (windowOf (was g M) r) h)
 
 pub window-takes : Takes
-window-takes g M r l e = takes-oldest (sealedView g M r) (now g M (Seal r) .view) (windowOf (was g M) r) (slot (was g M) r) (took g M r l e)
+window-takes g M r l e =
+    takes-oldest (sealedView g M r) (now g M (Seal r) .view) (was g M .notes .names) (windowOf (was g M) r) (slot (was g M) r) (took g M r l e)
 
 pub window-frees : FreesThem
 unfolding stateOf
@@ -109,7 +112,7 @@ window-frees g M r l e =
     record {
       result = sym (accepted-is g M (Seal r) l e .1);
       words = accepted-log g M (Seal r) l e;
-      order = window-orders (done (T .view) (doS (slot T r))) (windowOf T r) (slot T r) (sound g M r l e)
+      order = window-orders (done (T .view) (doS (slot T r))) (T .notes .names) (windowOf T r) (slot T r) (sound g M r l e)
           (omega (arith, seal-num (T .view) (slot T r) S a, a .0));
     }
 
@@ -171,6 +174,8 @@ retain-only g M r n l e =
       only = record {
         here = ap (λ U. U .notes .window (slot T r)) s ∙ put-same (T .notes .window) (slot T r) n;
         others = λ t d. ap (λ U. U .notes .window t) s ∙ put-other (T .notes .window) (slot T r) n t d;
+        names = ap (λ U. U .notes .names) s;
+        titles = ap (λ U. U .notes .titles) s;
         view = ap (λ U. U .view) s;
         mark = ap (λ U. U .mark) s;
         counter = ap (λ U. U .counter) s;

@@ -1,12 +1,13 @@
 -- USES OF THE WINDOW'S STATEMENTS (specs/WindowMeans.antt), on any memory: each follows from one of them, and would not follow from a weaker one.
 use mathlib.Core.Path.{_≡_, refl, sym, ap, _∙_}
+use mathlib.Core.Logic.{_⊎_, inl, inr}
 use mathlib.Core.List.{List, [], _∷_, map}
 use Prim.Native.Nat.{ℕ, suc, pred, _-_, _*_, _≤_, _<_}
 use native.Mathlib.Omega.{arith}
 use lib.ListN.{length, getD, length-append}
 use Rattle.answer.specs.Reply.{accepted, refused}
 use Rattle.answer.specs.Refusal.{NoneBefore}
-use Rattle.answer.proofs.Cases.{cases, same?}
+use Rattle.answer.proofs.Cases.{cases, same?, lt?}
 use Rattle.geometry.specs.declared.Geometry.{Geometry}
 use Rattle.log.specs.Word.{released, writeAt, bytesOf}
 use Rattle.log.proofs.Writing.{write-none}
@@ -20,7 +21,7 @@ use Rattle.model.specs.Calls.{slot, windowOf, freedClosing, conditions}
 use Rattle.model.specs.Window.{older, sealedOf}
 use Rattle.model.specs.Memory.{Memory, wordsUsed, allConditions, reply, after}
 use Rattle.model.specs.WindowMeans.{was, now, sealedView, Took, BareLine}
-use Rattle.model.specs.declared.Call.the-variants.{Begin, Seal, Fork, Retain}
+use Rattle.model.specs.Command.{Begin, Seal, Fork, Retain}
 use Rattle.model.proofs.ListFacts.{of-append}
 use Rattle.model.proofs.ByNumber.{none-at}
 use Rattle.model.proofs.Asked.{named-slot}
@@ -58,9 +59,17 @@ module _ (g : Geometry) (M : Memory) (r : ℕ) (l : List ℕ) (done : reply g M 
   pub none-taken : windowOf (was g M) r ≡ 0 → (t : ℕ) → Took K L t → ⊥
   none-taken z t w = let y : ⊥ = omega (arith, window-takes g M r l done .windowed t w) in y
 
-  -- `unforked`, `notNewest`, `sealed`: what has a fork on it stays, the record just sealed stays, and so does every record of another line
+  -- the counts of names before the call
+  abbrev names : ℕ → ℕ
+  names = was g M .notes .names
+
+  -- `unforked`, `nameless`, `notNewest`, `sealed`: what has a fork or a name on it stays, the record just sealed stays, and so does every record of
+  -- another line
   pub forked-stays : (t : ℕ) → Live K t → 0 < forked K t → Live L t
   forked-stays t h f = stays t h (λ w. let z : ⊥ = omega (arith, window-takes g M r l done .unforked t w) in z)
+
+  pub named-stays : (t : ℕ) → Live K t → 0 < names t → Live L t
+  named-stays t h m = stays t h (λ w. let z : ⊥ = omega (arith, window-takes g M r l done .nameless t w) in z)
 
   pub newest-stays : Live K s → Live L s
   newest-stays h = stays s h (λ w. let z : ⊥ = omega (arith, window-takes g M r l done .notNewest s w) in z)
@@ -68,12 +77,20 @@ module _ (g : Geometry) (M : Memory) (r : ℕ) (l : List ℕ) (done : reply g M 
   pub other-stays : (t : ℕ) → Live K t → (In t (sealedOf K s) → ⊥) → Live L t
   other-stays t h n = stays t h (λ w. n (window-takes g M r l done .sealed t w))
 
-  -- `oldest`: where one is taken, each older one that may go is taken too
-  pub older-taken : (t u : ℕ) → Took K L t → In u (sealedOf K s) → (u ≡ s → ⊥) → forked K u ≡ 0 → K .num u < K .num t → L .num u ≡ 0
-  older-taken t u w i n f h =
+  -- `oldest`: where one is taken, each older one without fork and name is taken too
+  pub older-taken : (t u : ℕ) → Took K L t → In u (sealedOf K s) → (u ≡ s → ⊥) → forked K u ≡ 0 → names u ≡ 0 → K .num u < K .num t → L .num u ≡ 0
+  older-taken t u w i n f m h =
       cases (same? (L .num u) 0)
       (λ z. z)
-      (λ m. absurd (let z : ⊥ = omega (arith, window-takes g M r l done .oldest t u w i n f (omega arith)) in z))
+      (λ d. absurd (let z : ⊥ = omega (arith, window-takes g M r l done .oldest t u w i n f m (omega arith)) in z))
+
+  -- so one that is left though it is older than one that was taken has a fork or a name on it
+  pub left-for-reason : (t u : ℕ) → Took K L t → In u (sealedOf K s) → (u ≡ s → ⊥) → K .num u < K .num t → Live L u →
+      (0 < forked K u) ⊎ (0 < names u)
+  left-for-reason t u w i n h k =
+      cases (lt? 0 (forked K u)) (λ f. inl f)
+      (λ f. cases (lt? 0 (names u)) (λ m. inr m)
+      (λ m. absurd (let z : ⊥ = omega (arith, older-taken t u w i n (omega arith) (omega arith) h) in z)))
 
   -- `needed`: with a window of 2, where one is taken two are left
   pub two-left : windowOf (was g M) r ≡ 2 → (t : ℕ) → Took K L t → 2 ≤ length (sealedOf L s)
@@ -83,16 +100,20 @@ module _ (g : Geometry) (M : Memory) (r : ℕ) (l : List ℕ) (done : reply g M 
   pub as-before : (t x : ℕ) → Live L t → (L .num t ≡ K .num t) × (L .page t x ≡ K .page t x)
   as-before t x h = (window-takes g M r l done .num t h, window-takes g M r l done .page t x)
 
-  -- `window-stops`: with a window of 1, each sealed record of the line that is left beside the newest has a fork on it
-  pub others-forked : windowOf (was g M) r ≡ 1 → (t : ℕ) → In t (sealedOf L s) → (t ≡ s → ⊥) → 0 < forked L t
+  -- `window-stops`: with a window of 1, each sealed record of the line that is left beside the newest has a fork or a name on it
+  pub others-held : windowOf (was g M) r ≡ 1 → (t : ℕ) → In t (sealedOf L s) → (t ≡ s → ⊥) → (0 < forked L t) ⊎ (0 < names t)
   unfolding sealedOf
-  others-forked e t i n =
+  others-held e t i n =
       cases (window-stops g M r l done (omega arith))
       (λ few.
       cases (of-append t (older L s) (s ∷ []) i)
       (λ j. absurd (let z : ⊥ = omega (arith, few, length-append (older L s) (s ∷ []), in-some t (older L s) j) in z))
       (λ j. absurd (cases j n (λ z. z))))
       (λ all. all t i n)
+
+  -- and where no record has a name, a fork
+  pub others-forked : windowOf (was g M) r ≡ 1 → ((t : ℕ) → names t ≡ 0) → (t : ℕ) → In t (sealedOf L s) → (t ≡ s → ⊥) → 0 < forked L t
+  others-forked e z t i n = cases (others-held e t i n) (λ f. f) (λ m. absurd (let y : ⊥ = omega (arith, z t) in y))
 
   -- `result`, `words`: an S that gave its number and nothing more wrote no word
   pub no-word : (n : ℕ) → l ≡ n ∷ [] → after g M (Seal r) .log ≡ M .log

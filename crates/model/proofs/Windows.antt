@@ -11,7 +11,7 @@ use Rattle.model.specs.View.{View}
 use Rattle.model.specs.Sound.{Sound}
 use Rattle.model.specs.Effects.{begin, seal, fork, erase, write}
 use Rattle.model.specs.Actions.{Action, doB, doW, doE, doS, doF, doD, Asks, done, follower, vacant, delete}
-use Rattle.model.specs.State.{Notes, withWindow, WindowsFit}
+use Rattle.model.specs.State.{Notes, withWindow, bareNotes, passedNotes, WindowsFit}
 use Rattle.model.specs.Book.{Rec, Line, Book, inRecs, inLine, setPage, sealRec, dropRec, keepLine, dropIn, openLine, pageSet, recSealed, recOut}
 use Rattle.model.specs.Book.{windowWith, setWindow, retained, takenOut, recsOut, trimmed}
 use Rattle.model.specs.Window.{steps, sealing, victims, trimming}
@@ -25,7 +25,7 @@ use Rattle.model.proofs.WindowDelete.{cut}
 use Rattle.model.proofs.WindowAlong.{MayGo, head-live, head-free, others-not, tail-may}
 use Rattle.model.proofs.WindowFacts.{victims-may}
 use Rattle.model.proofs.WindowSeal.{seal-sealed, seal-num}
-use Rattle.model.proofs.WindowBook.{OpenNext, just-live, book-takes, map-ext}
+use Rattle.model.proofs.WindowBook.{OpenNext, NamedAlike, older-named, just-live, book-takes, map-ext}
 
 -- ── the window that the book has, after each of its steps ──
 
@@ -124,13 +124,13 @@ window-unset m r n (l ∷ ls) e =
 abbrev pub WindowsAgree : View → Notes → Book → Type 0
 WindowsAgree K N B = (s : ℕ) → 0 < K .num s → 0 < K .isOpen s → windowWith (K .num s) (B .lines) ≡ N .window s
 
--- what an action leaves of the notes: a new line has no window, and S passes on that of its line
+-- what an action leaves of the notes: a new line has no window and its record no name, and S passes on the window of its line and the name
 abbrev pub noted : View → Notes → Action → Notes
-noted K N doB = withWindow N (pred (vacant K)) 0
+noted K N doB = bareNotes N (pred (vacant K))
 noted K N (doW s x b) = N
 noted K N (doE s x) = N
-noted K N (doS s) = withWindow N (pred (vacant K)) (N .window s)
-noted K N (doF s) = withWindow N (pred (vacant K)) 0
+noted K N (doS s) = passedNotes N s (pred (vacant K))
+noted K N (doF s) = bareNotes N (pred (vacant K))
 noted K N (doD s) = N
 
 -- a record of the book is one of the store
@@ -219,7 +219,7 @@ windows-paged K L N B r x v R W s h o =
 
 -- a new line
 windows-line : (K L : View) (f b : ℕ) (N : Notes) (B : Book) (g : ℕ → ℕ) → Sound K → Grown K L f f → Agree K B → WindowsAgree K N B →
-    WindowsAgree L (withWindow N f 0) (openLine B b g)
+    WindowsAgree L (bareNotes N f) (openLine B b g)
 unfolding openLine inRecs
 windows-line K L f b N B g S G A W s h o =
     cases (same? s f)
@@ -239,7 +239,7 @@ windows-line K L f b N B g S G A W s h o =
 -- r sealed, and an open record after it
 pub windows-sealed : (K : View) (r f : ℕ) (N : Notes) (B : Book) → Sound K → 0 < K .num r →
     0 < K .isOpen r → K .num f ≡ 0 → Agree K B → WindowsAgree K N B →
-    WindowsAgree (seal K r f) (withWindow N f (N .window r)) (recSealed B (K .num r))
+    WindowsAgree (seal K r f) (passedNotes N r f) (recSealed B (K .num r))
 unfolding recSealed
 windows-sealed K r f N B S hr or e A W s h o =
     let G = seal-grown K r f e in
@@ -305,19 +305,21 @@ windows-along (v ∷ ws) K r N B M A W =
 
 -- THE WINDOWS AGREE after the whole call S
 pub seal-windows : (K : View) (N : Notes) (B : Book) (n s : ℕ) → Sound K → Asks K (doS s) → Agree K B → WindowsAgree K N B →
-    WindowsAgree (steps K (sealing K n s)) (withWindow N (pred (vacant K)) (N .window s)) (trimmed (recSealed B (K .num s)) n (K .num s))
+    NamedAlike K (N .names) B →
+    WindowsAgree (steps K (sealing K (N .names) n s)) (passedNotes N s (pred (vacant K))) (trimmed (recSealed B (K .num s)) n (K .num s))
 unfolding sealing steps trimmed
-seal-windows K N B n s S a A W =
+seal-windows K N B n s S a A W alike =
     let L : View = done K (doS s) in
     let C : Book = recSealed B (K .num s) in
     let (d, hf, ef, of) = seal-sealed K s S a in
     let O : OpenNext L s = record { slot = pred (vacant K); live = hf; prev = ef; isOpen = of } in
     let G = done-sound K (doS s) S a in
     let AC = agree-sealed K s B S a A in
-    let N′ : Notes = withWindow N (pred (vacant K)) (N .window s) in
-    subst (λ l. WindowsAgree (steps L (trimming L n s)) N′ (recsOut C l))
-    (sym (ap (λ m. takenOut C n m) (sym (seal-num K s S a)) ∙ book-takes L G C n s AC O))
-    (windows-along (victims L n s) L s N′ C (victims-may L n s G (just-live L G s O)) AC
+    let N′ : Notes = passedNotes N s (pred (vacant K)) in
+    subst (λ l. WindowsAgree (steps L (trimming L (N .names) n s)) N′ (recsOut C l))
+    (sym (ap (λ m. takenOut C n m) (sym (seal-num K s S a)) ∙
+    book-takes L G (N .names) C n s AC O (older-named K (N .names) B s S a A alike)))
+    (windows-along (victims L (N .names) n s) L s N′ C (victims-may L (N .names) n s G (just-live L G s O)) AC
     (windows-sealed K s (pred (vacant K)) N B S (a .0) (a .1) (spare K (a .2) .1) A W))
 
 -- ── none that counts is above 62 ──
@@ -364,11 +366,12 @@ fit-along (v ∷ ws) K r N M W =
     fit-along ws (delete K v) r N (tail-may K r v ws M) (fit-done K (doD v) N (M .sound) (head-live K r v ws M, head-free K r v ws M) W)
 
 pub seal-fit : (K : View) (N : Notes) (n s : ℕ) → Sound K → Asks K (doS s) → WindowsFit K N →
-    WindowsFit (steps K (sealing K n s)) (withWindow N (pred (vacant K)) (N .window s))
+    WindowsFit (steps K (sealing K (N .names) n s)) (passedNotes N s (pred (vacant K)))
 unfolding sealing steps
 seal-fit K N n s S a W =
     let L : View = done K (doS s) in
     let (d, hf, ef, of) = seal-sealed K s S a in
     let O : OpenNext L s = record { slot = pred (vacant K); live = hf; prev = ef; isOpen = of } in
     let G = done-sound K (doS s) S a in
-    fit-along (victims L n s) L s _ (victims-may L n s G (just-live L G s O)) (fit-done K (doS s) N S a W)
+    fit-along (victims L (N .names) n s) L s (passedNotes N s (pred (vacant K))) (victims-may L (N .names) n s G (just-live L G s O))
+    (fit-done K (doS s) N S a W)

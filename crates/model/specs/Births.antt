@@ -17,10 +17,10 @@ use Rattle.model.specs.Calls.{block, writing, freedClosing, result, spel
 use Rattle.model.specs.Layout.{viewOf}
 use Rattle.model.specs.Memory.{Memory, wordsUsed, reply, after}
 use Rattle.model.specs.History.{Event, give, free, eventsOf}
-use Rattle.model.specs.declared.Call.{Call}
+use Rattle.model.specs.Command.{Command}
 use Rattle.model.specs.declared.Spelling.{Spelling}
 use Rattle.model.specs.declared.Spelling.the-variants.{Numbers, Blocks, NumberAndBlocks}
-use Rattle.model.specs.declared.Call.the-variants.{Compress}
+use Rattle.model.specs.Command.{Compress}
 
 -- ── the events read off a result are the blocks, not their births ──
 
@@ -34,11 +34,11 @@ movesBy g T (placing r x k) = give (block g T k) ∷ map free (frees (T .view) (
 movesBy g T marking = []
 movesBy g T renewing = []
 
-abbrev pub moves : Geometry → State → Call → List Event
+abbrev pub moves : Geometry → State → Command → List Event
 moves g T c = movesBy g T (account c)
 
 abbrev pub EventsAre : Type 0
-EventsAre = (g : Geometry) (T : State) (c : Call) → eventsOf c (accepted (result g T c)) ≡ moves g T c
+EventsAre = (g : Geometry) (T : State) (c : Command) → eventsOf c (accepted (result g T c)) ≡ moves g T c
 
 -- ── the numbers of a result that names blocks ──
 
@@ -86,11 +86,11 @@ NamedAs K L (placing r x k) l = GivesFirst K L r l
 NamedAs K L marking l = Unit {0}
 NamedAs K L renewing l = Unit {0}
 
-abbrev pub NamedBy : View → View → Call → List ℕ → Type 0
+abbrev pub NamedBy : View → View → Command → List ℕ → Type 0
 NamedBy K L c l = NamedAs K L (account c) l
 
 abbrev pub BirthsInResults : Type 0
-BirthsInResults = (g : Geometry) (M : Memory) (c : Call) (l : List ℕ) → reply g M c ≡ accepted l →
+BirthsInResults = (g : Geometry) (M : Memory) (c : Command) (l : List ℕ) → reply g M c ≡ accepted l →
     NamedBy (viewOf g (M .tables)) (viewOf g (after g M c .tables)) c l
 
 -- ── "log bytes keep their old form" ──
@@ -109,9 +109,9 @@ wordsAs (placing r x k) l = wordsOfW l
 wordsAs marking l = barrier ∷ []
 wordsAs renewing l = []
 
-abbrev pub wordsFor : Call → List ℕ → List ℕ
+abbrev pub wordsFor : Command → List ℕ → List ℕ
 wordsFor c l = wordsAs (account c) l
 
 abbrev pub LogAsBefore : Type 0
-LogAsBefore = (g : Geometry) (M : Memory) (c : Call) (l : List ℕ) → (c ≡ Compress → ⊥) → reply g M c ≡ accepted l →
+LogAsBefore = (g : Geometry) (M : Memory) (c : Command) (l : List ℕ) → (c ≡ Compress → ⊥) → reply g M c ≡ accepted l →
     after g M c .log ≡ writeAt (M .log) (8 * wordsUsed M) (bytesOf (wordsFor c (blocksOf (spelling c) l)))

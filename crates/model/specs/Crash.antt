@@ -20,11 +20,11 @@ use Rattle.model.specs.History.{Entry, entryOf, historyFrom, book, wasAc
 use Rattle.model.specs.HistoryFacts.{Synced, Gives}
 use Rattle.model.specs.UsedWords.{usedThen, usedBy}
 use Rattle.model.specs.Demand.{Own, ownStore, run}
-use Rattle.model.specs.declared.Call.{Call}
-use Rattle.model.specs.declared.Call.the-variants.{Barrier}
+use Rattle.model.specs.Command.{Command}
+use Rattle.model.specs.Command.{Barrier}
 
 -- an accepted C, and an accepted Y
-abbrev pub isC : Call → Bool
+abbrev pub isC : Command → Bool
 isC c = renews (account c)
 
 abbrev pub compacts? : Entry → Bool

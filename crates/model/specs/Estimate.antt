@@ -19,7 +19,7 @@ use Rattle.model.specs.RefusalMeans.{There}
 use Rattle.model.specs.Layout.{stateOf}
 use Rattle.model.specs.Memory.{Memory, wordsUsed, allConditions, reply, after}
 use Rattle.model.specs.Demand.{withOut}
-use Rattle.model.specs.declared.Call.the-variants.{Delete, Compress, Estimate}
+use Rattle.model.specs.Command.{Delete, Compress, Estimate}
 
 -- "changes nothing": the tables and the log are as they were, whatever Q answered
 abbrev pub EstimateStill : Type 0

@@ -7,6 +7,9 @@
 --   192, 256, 320, 384, 448    columns of 64 slots: number (0: empty slot), open (1) or sealed (0), record before it in its line (a link), base
 --                (a link), length of the deadlist
 --   576          a column of 64 slots: the window of the line, where the record is open (0: none)
+--   640          a column of 64 slots: the count of the record's names
+--   768          32 rows of 40 numbers, the names: the slot of the record (a link, 0: the row is empty), the length, and from the ninth number on the
+--                letters, one a number
 --   2048         pages, 256 a slot (block + 1, 0 for nothing)
 --   2048 + 256 R deadlists, 256 a slot: the first `length` numbers of a row are the blocks, in the order of joining
 --   2048 + 512 R births (0: on no page)
@@ -23,6 +26,7 @@ use Rattle.geometry.specs.Limits.{blocks}
 use Rattle.choice.specs.Words.{wordOf}
 use Rattle.model.specs.View.{View}
 use Rattle.model.specs.Held.{available}
+use Rattle.model.specs.Names.{Titles}
 use Rattle.model.specs.State.{State, Notes, fresh}
 
 -- ── where a number stands ──
@@ -50,6 +54,16 @@ lengthCell s = 448 + s
 
 abbrev pub windowCell : ℕ → ℕ
 windowCell s = 576 + s
+
+abbrev pub nameCell : ℕ → ℕ
+nameCell s = 640 + s
+
+-- row i of the names, and the letters in it
+abbrev pub titleCell : ℕ → ℕ
+titleCell i = 768 + 40 * i
+
+abbrev pub lettersCell : ℕ → ℕ
+lettersCell i = 776 + 40 * i
 
 abbrev pub pageCell : ℕ → ℕ → ℕ
 pageCell s x = 2048 + 256 * s + x
@@ -100,6 +114,22 @@ viewOf g t =
       birth = λ b. field t (ltb b (blocks g)) (birthCell (g .records) b);
     }
 
+-- the rows of the names; an empty row has no name, whatever stands in it
+unfoldable pub titlesOf : List ℕ → Titles
+titlesOf t =
+    record {
+      owner = λ i. field t (ltb i 32) (titleCell i);
+      text = λ i. cond (eqb (field t (ltb i 32) (titleCell i)) 0) [] (numbers t (lettersCell i) (getD t (titleCell i + 1) 0));
+    }
+
+unfoldable pub notesOf : Geometry → List ℕ → Notes
+notesOf g t =
+    record {
+      window = λ s. field t (ltb s (g .records)) (windowCell s);
+      names = λ s. field t (ltb s (g .records)) (nameCell s);
+      titles = titlesOf t;
+    }
+
 unfoldable pub stateOf : Geometry → List ℕ → State
 stateOf g t =
     record {
@@ -109,7 +139,7 @@ stateOf g t =
       writes = getD t 8 0;
       used = getD t 9 0;
       waiting = numbers t (waitCell (g .records) (blocks g) 0) (getD t 11 0);
-      notes = record { window = λ s. field t (ltb s (g .records)) (windowCell s) };
+      notes = notesOf g t;
     }
 
 -- ── tables that say something: every number that the layout names is written, every other stays ──
@@ -141,9 +171,20 @@ columnNumber K t f s =
     (cond (eqb f 3) (K .base s) (length (K .list s))))))
     (getD t (192 + 64 * f + s) 0)
 
--- number i of what is noted of R slots
+-- number k of row i of the names: in an empty row nothing but the link is written
+unfoldable pub titleNumber : Titles → List ℕ → ℕ → ℕ → ℕ
+titleNumber X t i k =
+    cond (eqb k 0) (X .owner i)
+    (cond (eqb (X .owner i) 0) (getD t (titleCell i + k) 0)
+    (cond (eqb k 1) (length (X .text i))
+    (cond (leb 8 k && ltb (k - 8) (length (X .text i))) (getD (X .text i) (k - 8) 0) (getD t (titleCell i + k) 0))))
+
+-- number i of what is noted, of R slots
 unfoldable pub noteNumber : ℕ → Notes → List ℕ → ℕ → ℕ
-noteNumber R N t i = cond (leb 576 i && ltb (i - 576) R) (N .window (i - 576)) (getD t i 0)
+noteNumber R N t i =
+    cond (leb 576 i && ltb (i - 576) R) (N .window (i - 576))
+    (cond (leb 640 i && ltb (i - 640) R) (N .names (i - 640))
+    (cond (leb 768 i) (titleNumber (N .titles) t ((i - 768) / 40) ((i - 768) % 40)) (getD t i 0)))
 
 -- number x of the pages and of the deadlist of s
 unfoldable pub pageNumber : View → List ℕ → ℕ → ℕ → ℕ

@@ -11,8 +11,8 @@ use Rattle.geometry.specs.declared.Geometry.{Geometry}
 use Rattle.model.specs.Memory.{Memory}
 use Rattle.model.specs.History.{Machine, wasAccepted, stateFrom}
 use Rattle.model.specs.Demand.{machine, ownStore}
-use Rattle.model.specs.declared.Call.{Call}
-use Rattle.model.specs.declared.Call.the-variants.{Begin, Write, Erase, Seal, Fork, Delete, Read}
+use Rattle.model.specs.Command.{Command}
+use Rattle.model.specs.Command.{Begin, Write, Erase, Seal, Fork, Delete, Read}
 
 -- ── page x of record r reads l ──
 
@@ -22,7 +22,7 @@ pub record Shows (M : Machine) (U : M .Tables) (r x : ℕ) (l : List ℕ) : Type
   pub there : (v : M .Asked) (n : ℕ) → M .call v ≡ Read r x → M .answer U v ≡ refused n → n < 5
 
 -- a W or E of the page, or a D of its record
-abbrev pub Changes : ℕ → ℕ → Call → Type 0
+abbrev pub Changes : ℕ → ℕ → Command → Type 0
 Changes r x c = ((k : ℕ) × (c ≡ Write r x k)) ⊎ (c ≡ Erase r x) ⊎ (c ≡ Delete r)
 
 -- R r x is refused with 8: there is no record r any more
@@ -31,7 +31,7 @@ pub record Lost (M : Machine) (U : M .Tables) (r x : ℕ) : Type 0 where
   pub eight : (v : M .Asked) (n : ℕ) → M .call v ≡ Read r x → M .answer U v ≡ refused n → (n < 5) ⊎ (n ≡ 8)
 
 -- an S, of some record
-abbrev pub Seals : Call → Type 0
+abbrev pub Seals : Command → Type 0
 Seals c = (q : ℕ) × (c ≡ Seal q)
 
 -- the call i touches the page where it is an accepted W, E or D that changes it, or an accepted S whose window took r
@@ -50,7 +50,7 @@ ShowsFrom M U r x l = (more : List (M .Asked)) → (Touched M U r x more → ⊥
 -- ── the laws ──
 
 -- B, S r and F r open a record
-abbrev pub Opens : Call → Type 0
+abbrev pub Opens : Command → Type 0
 Opens c = (c ≡ Begin) ⊎ ((r : ℕ) × (c ≡ Seal r)) ⊎ ((r : ℕ) × (c ≡ Fork r))
 
 -- of a store with P pages

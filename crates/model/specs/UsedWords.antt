@@ -7,7 +7,7 @@ use Rattle.model.specs.Lists.{afterFirst}
 use Rattle.model.specs.Results.{blocksIn}
 use Rattle.model.specs.Calls.{Account, looking, opening, freeing, closing, placing, marking, renewing, account}
 use Rattle.model.specs.History.{Entry}
-use Rattle.model.specs.declared.Call.{Call}
+use Rattle.model.specs.Command.{Command}
 
 -- the words used after an accepted call, where n were used before: a word for each block that a W, E, D or S names (6.3), one for Y, and C says
 -- how many there are
@@ -20,7 +20,7 @@ usedAs n (placing r x k) l = n + length (blocksIn l)
 usedAs n marking l = n + 1
 usedAs n renewing l = getD l 0 0
 
-abbrev pub usedThen : ℕ → Call → Reply → ℕ
+abbrev pub usedThen : ℕ → Command → Reply → ℕ
 usedThen n c (refused k) = n
 usedThen n c (accepted l) = usedAs n (account c) l
 

@@ -1,5 +1,6 @@
 -- THE WINDOW OF A LINE, told by slots: "After each S there, the oldest sealed records without a fork are deleted, one after another, until at most n sealed
--- ones are left or only forked ones and the newest sealed one remain." Throughout r is the slot of the record just sealed, so the newest sealed one.
+-- ones are left or only forked ones and the newest sealed one remain"; "a window passes over" a named record "as over a forked one" (1.9). Throughout r is the
+-- slot of the record just sealed, so the newest sealed one, and `names` has the count of names of each slot before the call: the seal moves those of r alone.
 use mathlib.Core.Path.{_≡_}
 use mathlib.Core.Logic.{_↔_, _⊎_}
 use mathlib.Core.Bool.{Bool, cond, not, _&&_}
@@ -66,24 +67,28 @@ pub record SealedOf (K : View) (r : ℕ) : Type 0 where
 
 -- ── which of them go ──
 
+-- no fork is on it, and no name
+unfoldable pub bare : View → (ℕ → ℕ) → ℕ → Bool
+bare K names s = eqb (forked K s) 0 && eqb (names s) 0
+
 -- the records that go when the window is n (0: the line has none)
-unfoldable pub victims : View → ℕ → ℕ → List ℕ
-victims K zero r = []
-victims K (suc n) r = trim (λ s. eqb (forked K s) 0) (length (sealedOf K r) - suc n) (sealedOf K r)
+unfoldable pub victims : View → (ℕ → ℕ) → ℕ → ℕ → List ℕ
+victims K names zero r = []
+victims K names (suc n) r = trim (bare K names) (length (sealedOf K r) - suc n) (sealedOf K r)
 
 -- as actions
-abbrev pub trimming : View → ℕ → ℕ → List Action
-trimming K n r = map doD (victims K n r)
+abbrev pub trimming : View → (ℕ → ℕ) → ℕ → ℕ → List Action
+trimming K names n r = map doD (victims K names n r)
 
 -- the call S on the open record s of a line whose window is n: the seal, then the window's deletes in the store after it
-unfoldable pub sealing : View → ℕ → ℕ → List Action
-sealing K n s = doS s ∷ trimming (done K (doS s)) n s
+unfoldable pub sealing : View → (ℕ → ℕ) → ℕ → ℕ → List Action
+sealing K names n s = doS s ∷ trimming (done K (doS s)) names n s
 
 -- ── the same, by the paper's loop ──
 
--- a record of the line that may go: not the newest sealed one, and no fork is on it
-unfoldable pub mayGo : View → ℕ → ℕ → Bool
-mayGo K r s = not (eqb s r) && eqb (forked K s) 0
+-- a record of the line that may go: not the newest sealed one, and neither a fork nor a name is on it
+unfoldable pub mayGo : View → (ℕ → ℕ) → ℕ → ℕ → Bool
+mayGo K names r s = not (eqb s r) && bare K names s
 
 -- what the loop leaves: the store, the records deleted and the blocks freed, in this order
 pub record Trimmed : Type 0 where
@@ -99,11 +104,11 @@ abbrev pub deleteFirst : View → ℕ → Trimmed → Trimmed
 deleteFirst K s T = record { store = T .store; gone = s ∷ T .gone; freed = frees K (doD s) ++ T .freed }
 
 -- while more than n sealed records are left and one of them may go, the oldest that may go is deleted from the store as it then is; k: so many turns at most
-unfoldable pub trimLoop : ℕ → View → ℕ → ℕ → Trimmed
-trimLoop zero K n r = untrimmed K
-trimLoop (suc k) K n r =
+unfoldable pub trimLoop : ℕ → View → (ℕ → ℕ) → ℕ → ℕ → Trimmed
+trimLoop zero K names n r = untrimmed K
+trimLoop (suc k) K names n r =
     cond (ltb n (length (sealedOf K r)))
-    (onFirst (keepIf (mayGo K r) (sealedOf K r)) (untrimmed K) (λ s. deleteFirst K s (trimLoop k (delete K s) n r)))
+    (onFirst (keepIf (mayGo K names r) (sealedOf K r)) (untrimmed K) (λ s. deleteFirst K s (trimLoop k (delete K s) names n r)))
     (untrimmed K)
 
 -- ── what the deletes free, counted in the store as it stands before them ──
@@ -128,13 +133,13 @@ freesOf K vs (v ∷ ws) = bornAbove K (floorOf K vs v) (pred (follower K v)) + f
 
 -- the same by one walk along the line, oldest first: p is the number of the last one that stays, k says how many may still go; what follows a record in the
 -- line is the next of the list
-unfoldable pub freesWalked : View → ℕ → ℕ → List ℕ → ℕ
-freesWalked K k p [] = 0
-freesWalked K k p (s ∷ []) = 0
-freesWalked K k p (s ∷ t ∷ l) =
-    cond (ltb 0 k && eqb (forked K s) 0)
-    (bornAbove K p t + freesWalked K (pred k) p (t ∷ l))
-    (freesWalked K k (K .num s) (t ∷ l))
+unfoldable pub freesWalked : View → (ℕ → ℕ) → ℕ → ℕ → List ℕ → ℕ
+freesWalked K names k p [] = 0
+freesWalked K names k p (s ∷ []) = 0
+freesWalked K names k p (s ∷ t ∷ l) =
+    cond (ltb 0 k && bare K names s)
+    (bornAbove K p t + freesWalked K names (pred k) p (t ∷ l))
+    (freesWalked K names k (K .num s) (t ∷ l))
 
 -- ── of the state ──
 
@@ -149,30 +154,32 @@ abbrev pub OrderAlong : View → List ℕ → Type 0
 OrderAlong K [] = Unit {0}
 OrderAlong K (v ∷ vs) = DeleteOrder K v × OrderAlong (delete K v) vs
 
--- "until at most n sealed ones are left or only forked ones and the newest sealed one remain": L is the store afterwards
-abbrev pub WindowStops : View → ℕ → ℕ → Type 0
-WindowStops L n r = (length (sealedOf L r) ≤ n) ⊎ ((s : ℕ) → In s (sealedOf L r) → (s ≡ r → ⊥) → 0 < forked L s)
+-- "until at most n sealed ones are left or only forked ones and the newest sealed one remain", where a named one is passed over as a forked one is: L is
+-- the store afterwards
+abbrev pub WindowStops : View → (ℕ → ℕ) → ℕ → ℕ → Type 0
+WindowStops L names n r = (length (sealedOf L r) ≤ n) ⊎ ((s : ℕ) → In s (sealedOf L r) → (s ≡ r → ⊥) → (0 < forked L s) ⊎ (0 < names s))
 
--- "the oldest sealed records without a fork": of the store K before the deletes and the store L after them
-pub record WindowTakes (K L : View) (n r : ℕ) : Type 0 where
-  -- sealed records of the line, never the newest, none with a fork on it, by rising number
-  pub sealed : (s : ℕ) → In s (victims K n r) → In s (sealedOf K r)
-  pub notNewest : (s : ℕ) → In s (victims K n r) → K .num s < K .num r
-  pub unforked : (s : ℕ) → In s (victims K n r) → forked K s ≡ 0
-  pub rising : Pairwise (λ s t. K .num s < K .num t) (victims K n r)
+-- "the oldest sealed records without a fork", and without a name: of the store K before the deletes and the store L after them
+pub record WindowTakes (K L : View) (names : ℕ → ℕ) (n r : ℕ) : Type 0 where
+  -- sealed records of the line, never the newest, none with a fork or a name on it, by rising number
+  pub sealed : (s : ℕ) → In s (victims K names n r) → In s (sealedOf K r)
+  pub notNewest : (s : ℕ) → In s (victims K names n r) → K .num s < K .num r
+  pub unforked : (s : ℕ) → In s (victims K names n r) → forked K s ≡ 0
+  pub nameless : (s : ℕ) → In s (victims K names n r) → names s ≡ 0
+  pub rising : Pairwise (λ s t. K .num s < K .num t) (victims K names n r)
   -- none newer than one that stays and might have gone
-  pub oldest : (s t : ℕ) → In s (victims K n r) → In t (sealedOf K r) → (t ≡ r → ⊥) → forked K t ≡ 0 →
-      (In t (victims K n r) → ⊥) → K .num s < K .num t
+  pub oldest : (s t : ℕ) → In s (victims K names n r) → In t (sealedOf K r) → (t ≡ r → ⊥) → forked K t ≡ 0 → names t ≡ 0 →
+      (In t (victims K names n r) → ⊥) → K .num s < K .num t
   -- not one more than needed: where one goes, n are left
-  pub needed : (s : ℕ) → In s (victims K n r) → n ≤ length (sealedOf L r)
+  pub needed : (s : ℕ) → In s (victims K names n r) → n ≤ length (sealedOf L r)
   -- they leave the store, and no other record does; of the others number, state, base and pages are as before
-  pub gone : (s : ℕ) → In s (victims K n r) → L .num s ≡ 0
-  pub num : (s : ℕ) → (In s (victims K n r) → ⊥) → L .num s ≡ K .num s
+  pub gone : (s : ℕ) → In s (victims K names n r) → L .num s ≡ 0
+  pub num : (s : ℕ) → (In s (victims K names n r) → ⊥) → L .num s ≡ K .num s
   pub isOpen : (s : ℕ) → L .isOpen s ≡ K .isOpen s
   pub base : (s : ℕ) → L .base s ≡ K .base s
   pub page : (s x : ℕ) → L .page s x ≡ K .page s x
   pub last : L .last ≡ K .last
   -- the sealed records left are those that did not go, in the order they had
-  pub left : sealedOf L r ≡ keepIf (λ s. not (elem s (victims K n r))) (sealedOf K r)
+  pub left : sealedOf L r ≡ keepIf (λ s. not (elem s (victims K names n r))) (sealedOf K r)
   -- who has a fork on it has one still, and no other
   pub forks : (s : ℕ) → (forked L s ≡ 0) ↔ (forked K s ≡ 0)

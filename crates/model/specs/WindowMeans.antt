@@ -1,7 +1,8 @@
 -- THE WINDOW OF A LINE (order 5), told of the memory before a call and the memory that it left: "K r n sets a window on the line of open r. After each S
 -- there, the oldest sealed records without a fork are deleted, one after another, until at most n sealed ones are left or only forked ones and the newest
 -- sealed one remain. S then gives the new number and the freed blocks. If the log can't hold all the frees, S as a whole meets 14. K prints `+`, deletes
--- nothing itself, and meets 9 on a sealed r. Every new line starts without a window."
+-- nothing itself, and meets 9 on a sealed r. Every new line starts without a window." And order 6: "A named record is not deleted, and a window passes over it
+-- as over a forked one."
 use mathlib.Core.Path.{_≡_}
 use mathlib.Core.Logic.{_↔_}
 use mathlib.Core.List.{List, [], _∷_, map}
@@ -21,14 +22,14 @@ use Rattle.model.specs.Calls.{slot, windowOf, freedClosing}
 use Rattle.model.specs.Window.{sealedOf, victims, OrderAlong, WindowStops}
 use Rattle.model.specs.Layout.{stateOf}
 use Rattle.model.specs.Memory.{Memory, wordsUsed, allConditions, reply, after}
-use Rattle.model.specs.declared.Call.{Call}
-use Rattle.model.specs.declared.Call.the-variants.{Begin, Seal, Fork, Retain}
+use Rattle.model.specs.Command.{Command}
+use Rattle.model.specs.Command.{Begin, Seal, Fork, Retain}
 
 -- the state before a call, and the state after it
 abbrev pub was : Geometry → Memory → State
 was g M = stateOf g (M .tables)
 
-abbrev pub now : Geometry → Memory → Call → State
+abbrev pub now : Geometry → Memory → Command → State
 now g M c = stateOf g (after g M c .tables)
 
 -- the view right after the seal, before the window's deletes
@@ -39,7 +40,7 @@ sealedView g M r = done (was g M .view) (doS (slot (was g M) r))
 
 abbrev pub StopsThere : Type 0
 StopsThere = (g : Geometry) (M : Memory) (r : ℕ) (l : List ℕ) → reply g M (Seal r) ≡ accepted l → 0 < windowOf (was g M) r →
-    WindowStops (now g M (Seal r) .view) (windowOf (was g M) r) (slot (was g M) r)
+    WindowStops (now g M (Seal r) .view) (was g M .notes .names) (windowOf (was g M) r) (slot (was g M) r)
 
 -- ── what it takes ──
 
@@ -48,15 +49,17 @@ abbrev pub Took : View → View → ℕ → Type 0
 Took K L s = Live K s × (L .num s ≡ 0)
 
 -- n is the line's window, 0 for none, and r the slot of the record just sealed
-pub record TakesOldest (K L : View) (n r : ℕ) : Type 0 where
+pub record TakesOldest (K L : View) (names : ℕ → ℕ) (n r : ℕ) : Type 0 where
   -- nothing where there is no window
   pub windowed : (s : ℕ) → Took K L s → 0 < n
-  -- sealed records of the line, never the newest, none with a fork on it
+  -- sealed records of the line, never the newest, none with a fork or a name on it
   pub sealed : (s : ℕ) → Took K L s → In s (sealedOf K r)
   pub notNewest : (s : ℕ) → Took K L s → K .num s < K .num r
   pub unforked : (s : ℕ) → Took K L s → forked K s ≡ 0
+  pub nameless : (s : ℕ) → Took K L s → names s ≡ 0
   -- none newer than one that stays and might have gone
-  pub oldest : (s t : ℕ) → Took K L s → In t (sealedOf K r) → (t ≡ r → ⊥) → forked K t ≡ 0 → Live L t → K .num s < K .num t
+  pub oldest : (s t : ℕ) → Took K L s → In t (sealedOf K r) → (t ≡ r → ⊥) → forked K t ≡ 0 → names t ≡ 0 → Live L t →
+      K .num s < K .num t
   -- not one more than needed: where one goes, n are left
   pub needed : (s : ℕ) → Took K L s → n ≤ length (sealedOf L r)
   -- of a record that stays, number, state, base and pages are as before; no record joins
@@ -67,7 +70,7 @@ pub record TakesOldest (K L : View) (n r : ℕ) : Type 0 where
 
 abbrev pub Takes : Type 0
 Takes = (g : Geometry) (M : Memory) (r : ℕ) (l : List ℕ) → reply g M (Seal r) ≡ accepted l →
-    TakesOldest (sealedView g M r) (now g M (Seal r) .view) (windowOf (was g M) r) (slot (was g M) r)
+    TakesOldest (sealedView g M r) (now g M (Seal r) .view) (was g M .notes .names) (windowOf (was g M) r) (slot (was g M) r)
 
 -- ── what it frees ──
 
@@ -77,7 +80,7 @@ pub record FreesAlong (g : Geometry) (M : Memory) (r : ℕ) (l : List ℕ) : Typ
   -- each is a log word of its own
   pub words : after g M (Seal r) .log ≡ writeAt (M .log) (8 * wordsUsed M) (bytesOf (map released (freedClosing (was g M) r)))
   -- each delete frees and joins in the order of rule 4.2, of the store that it meets
-  pub order : OrderAlong (sealedView g M r) (victims (sealedView g M r) (windowOf (was g M) r) (slot (was g M) r))
+  pub order : OrderAlong (sealedView g M r) (victims (sealedView g M r) (was g M .notes .names) (windowOf (was g M) r) (slot (was g M) r))
 
 abbrev pub FreesThem : Type 0
 FreesThem = (g : Geometry) (M : Memory) (r : ℕ) (l : List ℕ) → reply g M (Seal r) ≡ accepted l → FreesAlong g M r l
@@ -99,6 +102,8 @@ Seal14 = (g : Geometry) (M : Memory) (r : ℕ) → Fourteen g M r
 pub record SetsWindow (T U : State) (s n : ℕ) : Type 0 where
   pub here : U .notes .window s ≡ n
   pub others : (t : ℕ) → (t ≡ s → ⊥) → U .notes .window t ≡ T .notes .window t
+  pub names : U .notes .names ≡ T .notes .names
+  pub titles : U .notes .titles ≡ T .notes .titles
   pub view : U .view ≡ T .view
   pub mark : U .mark ≡ T .mark
   pub counter : U .counter ≡ T .counter

@@ -11,7 +11,7 @@ use Rattle.answer.specs.declared.Answer.the-variants.{Done, Refused}
 use Rattle.answer.proofs.Decided.{decide-accepts}
 use Rattle.geometry.specs.declared.Geometry.{Geometry}
 use Rattle.log.specs.Word.{writeAt, bytesOf}
-use Rattle.model.specs.declared.Call.{Call}
+use Rattle.model.specs.Command.{Command}
 use Rattle.model.specs.Calls.{conditions, result, written}
 use Rattle.model.specs.Layout.{stateOf}
 use Rattle.model.specs.Memory.{writtenAt, storedBy}
@@ -22,7 +22,7 @@ pub take-sets : (l out : List ℕ) (n : ℕ) → length l ≡ n → n ≤ length
 take-sets l out n e h =
     ap (take n) (sets-eq l out 0 (omega arith)) ∙ take-at l (drop (Prim.Native.Nat._+_ 0 (length l)) out) n e
 
-module _ (g : Geometry) (t : List ℕ) (c : Call) where
+module _ (g : Geometry) (t : List ℕ) (c : Command) where
   -- ── a refusal ──
 
   module _ (k : ℕ) (e : replied g t c ≡ refused k) where

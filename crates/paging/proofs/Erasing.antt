@@ -12,7 +12,7 @@ use Rattle.answer.specs.declared.Answer.the-variants.{Done}
 use Rattle.geometry.specs.declared.Geometry.{Geometry}
 use Rattle.log.specs.Word.{writeAt, bytesOf, released}
 use Rattle.log.proofs.Writing.{write-none}
-use Rattle.model.specs.declared.Call.the-variants.{Erase}
+use Rattle.model.specs.Command.{Erase}
 use Rattle.model.specs.View.{View, predNum, baseNum}
 use Rattle.model.specs.State.{withUsed}
 use Rattle.model.specs.Effects.{Fate, freed, marked, kept, fate}

@@ -15,7 +15,7 @@ use Rattle.geometry.specs.declared.Geometry.{Geometry}
 use Rattle.choice.specs.declared.Found.{Found}
 use Rattle.choice.specs.declared.Found.the-variants.{At}
 use Rattle.log.specs.Word.{writeAt, bytesOf, allocated, released}
-use Rattle.model.specs.declared.Call.the-variants.{Write}
+use Rattle.model.specs.Command.{Write}
 use Rattle.model.specs.State.{withUsed}
 use Rattle.model.specs.Held.{erased}
 use Rattle.model.specs.Actions.{doW, slotOf}

@@ -108,7 +108,7 @@ module _ {g : Geometry} {t : List ℕ} {s x : ℕ} (A : Target g t s x) where
         pages = z .pages ∙ S .pages;
         blocks = z .blocks ∙ S .blocks;
         mark = S .mark;
-        window = λ r h. S .window r (omega (arith, z .slots));
+        notes = S .notes;
         few = omega (arith, emptied-few, z .blocks ∙ S .blocks);
       }
 

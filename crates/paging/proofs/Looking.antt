@@ -13,7 +13,7 @@ use Rattle.answer.specs.Refusal.{NoneHolds}
 use Rattle.answer.specs.declared.Answer.the-variants.{Done}
 use Rattle.geometry.specs.declared.Geometry.{Geometry}
 use Rattle.geometry.specs.Limits.{blocks}
-use Rattle.model.specs.declared.Call.the-variants.{Read}
+use Rattle.model.specs.Command.{Read}
 use Rattle.model.specs.Lists.{onPage}
 use Rattle.model.specs.Actions.{slotOf}
 use Rattle.model.specs.Calls.{slot, conditions, result}
@@ -30,7 +30,16 @@ use Rattle.paging.proofs.Answers
 
 pub ready-fine : {g : Geometry} {t : List ℕ} → Ready g t → Fine g (stateOf g t)
 unfolding stateOf viewOf
-ready-fine R = record { sound = R .sound; slots = refl; pages = refl; blocks = refl; range = R .range; waits = R .waiting; windows = R .windows }
+ready-fine R = record {
+  sound = R .sound;
+  slots = refl;
+  pages = refl;
+  blocks = refl;
+  range = R .range;
+  waits = R .waiting;
+  windows = R .windows;
+  names = R .names;
+}
 
 -- no more log words are used than there are
 pub used-le : {g : Geometry} {t : List ℕ} → Ready g t → getD t 9 0 ≤ g .words

@@ -14,7 +14,7 @@ use Rattle.model.specs.State.{State, withView, freeAll}
 use Rattle.model.specs.Effects.{place, erase, write}
 use Rattle.model.specs.Actions.{doW, Asks}
 use Rattle.model.specs.Calls.{marksAfter, given}
-use Rattle.model.specs.Layout.{numCell, pageCell, viewOf, stateOf, stored}
+use Rattle.model.specs.Layout.{numCell, pageCell, viewOf, notesOf, stateOf, stored}
 use Rattle.model.proofs.BookFacts.{erase-paged}
 use Rattle.model.proofs.Shape.{Shaped}
 use Rattle.model.proofs.Sizes.{done-sized}
@@ -35,17 +35,18 @@ use Rattle.paging.proofs.Killing
 
 -- tables that hold a state can be stored into
 kept : (g : Geometry) (t : List ℕ) (T : State) (u : List ℕ) → Roomy g t → Holds g t T u → Storable g u
-unfolding stateOf
+unfolding stateOf notesOf
 kept g t T u roomy H = record {
   roomy = holds-roomy g t roomy H;
   made = holds-made g t roomy H;
   free = holds-free g t roomy H;
   short = λ s. omega (arith, H .shaped .view .short s, H .shaped .pages, ap (λ U. length (U .view .list s)) (holds-says g t roomy H));
+  names = λ i. omega (arith, H .shaped .notes .short i, ap (λ U. length (U .notes .titles .text i)) (holds-says g t roomy H));
   few = omega (arith, H .shaped .few, H .shaped .blocks, ap (λ U. length (U .waiting)) (holds-says g t roomy H));
 }
 
 kept-holds : {g : Geometry} {t : List ℕ} → Storable g t → Holds g t (stateOf g t) t
-kept-holds {g} {t} k = holds-from g t (k .roomy) (k .made) (k .free) (k .short) (k .few)
+kept-holds {g} {t} k = holds-from g t (k .roomy) (k .made) (k .free) (k .short) (k .names) (k .few)
 
 -- ── the block's page and birth ──
 
@@ -125,7 +126,7 @@ module _ {g : Geometry} {t : List ℕ} {s x a o : ℕ} (A : Target g t s x) (P :
         pages = z .pages ∙ S .pages;
         blocks = z .blocks ∙ S .blocks;
         mark = S .mark;
-        window = λ r h. S .window r (omega (arith, z .slots));
+        notes = S .notes;
         few = omega (arith, Killing.emptied-few A, z .blocks ∙ S .blocks);
       }
 
@@ -151,7 +152,7 @@ module _ {g : Geometry} {t : List ℕ} {s x a o : ℕ} (A : Target g t s x) (P :
       unfolding emptied placed write place
       block-holds =
           step-to g t (A .ready .roomy) (Killing.emptied-holds A u eu) (λ U. placed U s x b) v ev written-shaped
-          (λ r h. tail-longer g t (emptied g t s x) W r (omega arith)) (omega arith)
+          (λ r h. tail-longer g t (emptied g t s x) W r (omega arith)) (omega arith) refl
 
       pub block-kept : Storable g v
       block-kept = kept g t W v (A .ready .roomy) block-holds
@@ -166,7 +167,7 @@ module _ {g : Geometry} {t : List ℕ} {s x a o : ℕ} (A : Target g t s x) (P :
       unfolding filled given
       page-filled w ew =
           step-to g t (A .ready .roomy) block-holds (λ U. given g U (At a o)) w ew (given-shaped g W a o written-shaped (P .arena))
-          (λ r h. tail-longer g t W (given g W (At a o)) r (omega arith)) (omega arith) .is
+          (λ r h. tail-longer g t W (given g W (At a o)) r (omega arith)) (omega arith) refl .is
 
   -- the tables with the page filled hold that state
   pub filled-shaped : Shaped g (filled g t s x a o)

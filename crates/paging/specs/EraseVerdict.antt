@@ -5,7 +5,7 @@ use Prim.Native.Nat.{ℕ}
 use Rattle.answer.specs.Reply.{refused}
 use Rattle.answer.specs.Refusal.{NoneHolds}
 use Rattle.geometry.specs.declared.Geometry.{Geometry}
-use Rattle.model.specs.declared.Call.the-variants.{Erase}
+use Rattle.model.specs.Command.{Erase}
 use Rattle.model.specs.Calls.{slot, conditions}
 use Rattle.model.specs.Layout.{stateOf}
 use Rattle.tables.specs.Outcome.{replied}

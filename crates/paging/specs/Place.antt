@@ -11,19 +11,20 @@ use Rattle.model.specs.State.{State, withView, freeAll}
 use Rattle.model.specs.SoundStore.{MadeFor}
 use Rattle.model.specs.Effects.{place, write}
 use Rattle.model.specs.Calls.{given}
-use Rattle.model.specs.Layout.{viewOf, stateOf}
+use Rattle.model.specs.Layout.{viewOf, titlesOf, stateOf}
 use Rattle.tables.specs.Ready.{Roomy, FreeWords}
 use Rattle.paging.specs.Target.{freesOf}
 use Rattle.paging.specs.declared.place.Spot.{Spot}
 use Rattle.paging.specs.declared.place.Spot.the-variants as spot
 
--- tables with room, made for g, that say which blocks are free, no deadlist longer than there are pages and not more blocks that wait than there are:
--- what single stores ask
+-- tables with room, made for g, that say which blocks are free, no deadlist longer than there are pages, no name longer than its row has room for, and
+-- not more blocks that wait than there are: what single stores ask
 pub record Storable (g : Geometry) (t : List ℕ) : Type 0 where
   pub roomy : Roomy g t
   pub made : MadeFor g t
   pub free : FreeWords g t
   pub short : (s : ℕ) → length (viewOf g t .list s) ≤ g .pages
+  pub names : (i : ℕ) → length (titlesOf t .text i) ≤ 32
   pub few : length (stateOf g t .waiting) ≤ blocks g
 
 -- the block at offset o of arena a is free

@@ -6,7 +6,7 @@ use Rattle.answer.specs.Reply.{refused}
 use Rattle.answer.specs.Refusal.{NoneHolds}
 use Rattle.geometry.specs.declared.Geometry.{Geometry}
 use Rattle.choice.specs.declared.Found.the-variants.{At}
-use Rattle.model.specs.declared.Call.the-variants.{Write}
+use Rattle.model.specs.Command.{Write}
 use Rattle.model.specs.Calls.{slot, found, conditions}
 use Rattle.model.specs.Layout.{stateOf}
 use Rattle.tables.specs.Outcome.{replied}

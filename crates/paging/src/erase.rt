@@ -6,7 +6,7 @@ ghost use lib.ListN.{length, getD};
 ghost use lib.Seq.{sets};
 ghost use Rattle.answer.specs.Reply.{replyOf};
 ghost use Rattle.log.specs.Word.{writeAt, bytesOf, released};
-ghost use Rattle.model.specs.declared.Call.the-variants.{Erase};
+ghost use Rattle.model.specs.Command.{Erase};
 ghost use Rattle.model.specs.Actions.{doE};
 ghost use Rattle.model.specs.Calls.{acted};
 ghost use Rattle.model.specs.Layout.{viewOf, stateOf, stored};

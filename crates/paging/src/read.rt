@@ -1,7 +1,7 @@
 // R: the block on a page, with its birth.
 ghost use mathlib.Core.Path.{_≡_};
 ghost use Rattle.answer.specs.Reply.{replyOf};
-ghost use Rattle.model.specs.declared.Call.the-variants.{Read};
+ghost use Rattle.model.specs.Command.{Read};
 ghost use Rattle.tables.specs.Ready.{Ready, OutLong, LinkOf};
 ghost use Rattle.tables.specs.Outcome.{replied, outLeft};
 use answer::Answer;

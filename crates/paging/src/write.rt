@@ -7,7 +7,7 @@ ghost use lib.Seq.{sets};
 ghost use Rattle.answer.specs.Reply.{replyOf};
 ghost use Rattle.choice.specs.declared.Found.the-variants.{At};
 ghost use Rattle.log.specs.Word.{writeAt, bytesOf, allocated, released};
-ghost use Rattle.model.specs.declared.Call.the-variants.{Write};
+ghost use Rattle.model.specs.Command.{Write};
 ghost use Rattle.model.specs.Actions.{doW};
 ghost use Rattle.model.specs.Calls.{acted, given};
 ghost use Rattle.model.specs.Layout.{viewOf, stateOf, stored};

@@ -1,12 +1,15 @@
 -- One action on the tables of a store: the tables that it is stored in say what it leaves, and are ready for the next.
 use mathlib.Core.Path.{_≡_, refl, sym, ap, _∙_, subst}
+use mathlib.Core.Logic.{inl, inr}
 use mathlib.Core.List.{List, [], _∷_, map}
 use Prim.Native.Nat.{ℕ, pred, _+_, _≤_, _<_}
 use native.Mathlib.Omega.{arith}
 use Rattle.geometry.specs.declared.Geometry.{Geometry}
 use Rattle.geometry.specs.Limits.{blocks}
 use Rattle.model.specs.Sound.{Sound}
-use Rattle.model.specs.State.{State, Notes, withView, withUsed, withWindow, withNotes, freeAll, InRange, WaitingFits, WindowsFit}
+use Rattle.model.specs.Lists.{In}
+use Rattle.model.specs.NamesAgree.{NamesAgree}
+use Rattle.model.specs.State.{State, Notes, withView, withUsed, passedNotes, withNotes, freeAll, InRange, WaitingFits, WindowsFit}
 use Rattle.model.specs.Effects.{seal, grow, close}
 use Rattle.model.specs.Actions.{Action, doS, doD, Asks, done, vacant, follower, deleteAt, delete}
 use Rattle.model.specs.Held.{deleted, frees}
@@ -14,16 +17,17 @@ use Rattle.model.specs.Window.{AsksAlong, actedAll}
 use Rattle.model.specs.Calls.{acted}
 use Rattle.model.specs.Layout.{viewOf, stateOf, stored}
 use Rattle.model.specs.Memory.{storedAlong}
-use Rattle.model.proofs.TabFacts.{put-other}
 use Rattle.model.proofs.DoneSound.{spare, done-sound}
 use Rattle.model.proofs.DoneShaped.{done-shaped}
 use Rattle.model.proofs.Sizes.{done-sized}
 use Rattle.model.proofs.BirthStays.{Gives}
 use Rattle.model.proofs.Waiting.{once-short, acted-waits}
 use Rattle.model.proofs.Windows.{fit-done}
+use Rattle.model.proofs.NameActions.{NamesFit, names-kept-done}
+use Rattle.model.proofs.NameShape.{passed-shaped}
 use Rattle.model.proofs.WindowDelete.{cut}
 use Rattle.model.proofs.WindowMoves.{acted-none, acted-next}
-use Rattle.model.proofs.Shape.{Shaped}
+use Rattle.model.proofs.Shape.{ShapedNotes, Shaped}
 use Rattle.tables.specs.Ready.{Ready}
 use Rattle.tables.proofs.Fields
 use Rattle.tables.proofs.Ranges
@@ -31,7 +35,8 @@ use Rattle.tables.proofs.Steps.{Holds, holds-first, holds-roomy, holds-made, ho
 
 -- an action that gives no block, with the notes N after it
 module _ {g : Geometry} {t : List ℕ} (R : Ready g t) (a : Action) (asks : Asks (viewOf g t) a) (giveless : (c : ℕ) → Gives a c → ⊥) (N : Notes)
-    (fit : WindowsFit (done (viewOf g t) a) N) (out : (s : ℕ) → g .records ≤ s → N .window s ≡ 0) (low : done (viewOf g t) a .last ≤ 999999) where
+    (fit : WindowsFit (done (viewOf g t) a) N) (agree : NamesFit (done (viewOf g t) a) N) (shape : ShapedNotes (g .records) N)
+    (low : done (viewOf g t) a .last ≤ 999999) where
   abbrev T : State
   T = stateOf g t
 
@@ -61,7 +66,7 @@ module _ {g : Geometry} {t : List ℕ} (R : Ready g t) (a : Action) (asks : Asks
         pages = z .pages ∙ S .pages;
         blocks = b;
         mark = S .mark;
-        window = λ s h. out s (omega (arith, z .slots, S .slots));
+        notes = shape;
         few = once-short (after .waiting) (done (viewOf g t) a .blocks) (waits .once) (waits .below);
       }
 
@@ -79,6 +84,10 @@ module _ {g : Geometry} {t : List ℕ} (R : Ready g t) (a : Action) (asks : Asks
   after-fit : WindowsFit (after .view) (after .notes)
   unfolding acted stateOf
   after-fit = fit
+
+  after-names : NamesAgree (after .view) (after .notes .titles) (after .notes .names)
+  unfolding acted stateOf
+  after-names = agree
 
   -- the tables u are those in which it is stored
   module _ (u : List ℕ) (e : u ≡ stored g (withNotes (acted (stateOf g t) a 0) N) t) where
@@ -98,12 +107,13 @@ module _ {g : Geometry} {t : List ℕ} (R : Ready g t) (a : Action) (asks : Asks
           range = subst (InRange g) d after-range;
           waiting = subst WaitingFits d after-waits;
           windows = subst (λ U. WindowsFit (U .view) (U .notes)) d after-fit;
+          names = subst (λ U. NamesAgree (U .view) (U .notes .titles) (U .notes .names)) d after-names;
           free = holds-free g t (R .roomy) held;
         }
 
--- ── a delete ──
+-- ── a delete, of a record without a name ──
 
-module _ {g : Geometry} {t : List ℕ} (R : Ready g t) (s : ℕ) (asks : Asks (viewOf g t) (doD s)) where
+module _ {g : Geometry} {t : List ℕ} (R : Ready g t) (s : ℕ) (asks : Asks (viewOf g t) (doD s)) (nameless : stateOf g t .notes .names s ≡ 0) where
   gone-fit : WindowsFit (delete (viewOf g t) s) (stateOf g t .notes)
   unfolding stateOf
   gone-fit = fit-done (viewOf g t) (doD s) (stateOf g t .notes) (Ranges.sound R) asks (R .windows)
@@ -112,23 +122,32 @@ module _ {g : Geometry} {t : List ℕ} (R : Ready g t) (s : ℕ) (asks : Asks (v
   unfolding stateOf
   gone-last = omega (arith, cut (viewOf g t) (Ranges.sound R) s (asks .0) (asks .1) .last, R .range .last)
 
-  window-ends : (x : ℕ) → g .records ≤ x → stateOf g t .notes .window x ≡ 0
-  window-ends x h = Fields.window-out g t x h
+  gone-names : NamesFit (delete (viewOf g t) s) (stateOf g t .notes)
+  unfolding stateOf
+  gone-names = names-kept-done (viewOf g t) (doD s) (stateOf g t .notes) (Ranges.sound R) asks nameless (R .names)
+
+  same-shape : ShapedNotes (g .records) (stateOf g t .notes)
+  same-shape = holds-first R .shaped .notes
 
   module _ (u : List ℕ) (e : u ≡ stored g (acted (stateOf g t) (doD s) 0) t) where
     pub gone-says : stateOf g u ≡ acted (stateOf g t) (doD s) 0
     unfolding acted
-    gone-says = after-says R (doD s) asks (λ c i. i) (stateOf g t .notes) gone-fit window-ends gone-last u e
+    gone-says = after-says R (doD s) asks (λ c i. i) (stateOf g t .notes) gone-fit gone-names same-shape gone-last u e
 
     pub gone-view : viewOf g u ≡ delete (viewOf g t) s
     unfolding acted stateOf
     gone-view = ap (λ B. B .view) gone-says
 
+    pub gone-notes : stateOf g u .notes ≡ stateOf g t .notes
+    unfolding acted
+    gone-notes = ap (λ (B : State). B .notes) gone-says
+
     pub gone-ready : Ready g u
     unfolding acted
-    gone-ready = after-ready R (doD s) asks (λ c i. i) (stateOf g t .notes) gone-fit window-ends gone-last u e
+    gone-ready = after-ready R (doD s) asks (λ c i. i) (stateOf g t .notes) gone-fit gone-names same-shape gone-last u e
 
-  -- as `delete_record` says it, with the link of the record that follows
+-- as `delete_record` says it, with the link of the record that follows
+module _ (g : Geometry) (t : List ℕ) (s : ℕ) where
   pub gone-is : (l : ℕ) → follower (viewOf g t) s ≡ l →
       freeAll (deleted (viewOf g t) s l) (withView (stateOf g t) (deleteAt (viewOf g t) s l)) ≡ acted (stateOf g t) (doD s) 0
   unfolding acted stateOf delete
@@ -142,18 +161,21 @@ module _ {g : Geometry} {t : List ℕ} (R : Ready g t) (s : ℕ) (asks : Asks (v
 pub acted-nothing : (T : State) → actedAll T [] 0 ≡ T
 acted-nothing T = acted-none T 0 ∙ ap (λ n. withUsed T n) (let z : T .used + 0 ≡ T .used = omega arith in z)
 
--- where each is one that the store it meets allows, the tables are ready after them, and say what all of them leave
+-- where each is one that the store it meets allows, and none has a name, the tables are ready after them, and say what all of them leave
 pub gone-along : {g : Geometry} (vs : List ℕ) (t : List ℕ) → Ready g t → AsksAlong (viewOf g t) (map doD vs) →
+    ((v : ℕ) → In v vs → stateOf g t .notes .names v ≡ 0) →
     Ready g (storedAlong g (stateOf g t) (map doD vs) t) ×
     (stateOf g (storedAlong g (stateOf g t) (map doD vs) t) ≡ actedAll (stateOf g t) (map doD vs) 0)
 unfolding storedAlong
-gone-along [] t R q = (R, sym (acted-nothing (stateOf _ t)))
-gone-along {g} (v ∷ vs) t R (q, qs) =
+gone-along [] t R q z = (R, sym (acted-nothing (stateOf _ t)))
+gone-along {g} (v ∷ vs) t R (q, qs) z =
     let T : State = stateOf g t in
     let U : State = acted T (doD v) 0 in
     let u : List ℕ = stored g U t in
-    let d : stateOf g u ≡ U = gone-says R v q u refl in
-    let w = gone-along vs u (gone-ready R v q u refl) (subst (λ K. AsksAlong K (map doD vs)) (sym (gone-view R v q u refl)) qs) in
+    let n : T .notes .names v ≡ 0 = z v (inl refl) in
+    let d : stateOf g u ≡ U = gone-says R v q n u refl in
+    let w = gone-along vs u (gone-ready R v q n u refl) (subst (λ K. AsksAlong K (map doD vs)) (sym (gone-view R v q n u refl)) qs)
+    (λ x i. ap (λ (N : Notes). N .names x) (gone-notes R v q n u refl) ∙ z x (inr i)) in
     let e : storedAlong g (stateOf g u) (map doD vs) u ≡ storedAlong g U (map doD vs) u = ap (λ B. storedAlong g B (map doD vs) u) d in (
       subst (Ready g) e (w .0),
       ap (stateOf g) (sym e) ∙ w .1 ∙ ap (λ B. actedAll B (map doD vs) 0) d ∙ sym (acted-next T (doD v) (map doD vs) 0 0),
@@ -162,26 +184,30 @@ gone-along {g} (v ∷ vs) t R (q, qs) =
 -- ── the seal ──
 
 module _ {g : Geometry} {t : List ℕ} (R : Ready g t) (s : ℕ) (asks : Asks (viewOf g t) (doS s)) (low : viewOf g t .last < 999999)
-    (f w : ℕ) (ef : f ≡ pred (vacant (viewOf g t))) (ew : w ≡ stateOf g t .notes .window s) where
+    (f : ℕ) (ef : f ≡ pred (vacant (viewOf g t))) where
   abbrev N : Notes
-  N = withWindow (stateOf g t .notes) f w
+  N = passedNotes (stateOf g t .notes) s f
 
   sealed-fit : WindowsFit (done (viewOf g t) (doS s)) N
   unfolding stateOf
-  sealed-fit = rw (ef, ew) (fit-done (viewOf g t) (doS s) (stateOf g t .notes) (Ranges.sound R) asks (R .windows))
+  sealed-fit = rw ef (fit-done (viewOf g t) (doS s) (stateOf g t .notes) (Ranges.sound R) asks (R .windows))
 
-  sealed-ends : (x : ℕ) → g .records ≤ x → N .window x ≡ 0
-  sealed-ends x h =
+  sealed-names : NamesFit (done (viewOf g t) (doS s)) N
+  unfolding stateOf
+  sealed-names = rw ef (names-kept-done (viewOf g t) (doS s) (stateOf g t .notes) (Ranges.sound R) asks tt (R .names))
+
+  sealed-shape : ShapedNotes (g .records) N
+  sealed-shape =
       let k = spare (viewOf g t) (asks .2) .0 in
-      put-other (stateOf g t .notes .window) f w x (λ e. let z : ⊥ = omega (arith, Fields.slots-is g t) in z) ∙ Fields.window-out g t x h
+      passed-shaped (g .records) (stateOf g t .notes) s f (Ranges.slot-in R s (asks .0)) (omega (arith, Fields.slots-is g t)) (holds-first R .shaped .notes)
 
   sealed-last : done (viewOf g t) (doS s) .last ≤ 999999
   unfolding seal grow close
   sealed-last = omega arith
 
-  module _ (u : List ℕ) (e : u ≡ stored g (withNotes (acted (stateOf g t) (doS s) 0) (withWindow (stateOf g t .notes) f w)) t) where
-    pub sealed-says : stateOf g u ≡ withNotes (acted (stateOf g t) (doS s) 0) (withWindow (stateOf g t .notes) f w)
-    sealed-says = after-says R (doS s) asks (λ c i. i) N sealed-fit sealed-ends sealed-last u e
+  module _ (u : List ℕ) (e : u ≡ stored g (withNotes (acted (stateOf g t) (doS s) 0) (passedNotes (stateOf g t .notes) s f)) t) where
+    pub sealed-says : stateOf g u ≡ withNotes (acted (stateOf g t) (doS s) 0) (passedNotes (stateOf g t .notes) s f)
+    sealed-says = after-says R (doS s) asks (λ c i. i) N sealed-fit sealed-names sealed-shape sealed-last u e
 
     pub sealed-ready : Ready g u
-    sealed-ready = after-ready R (doS s) asks (λ c i. i) N sealed-fit sealed-ends sealed-last u e
+    sealed-ready = after-ready R (doS s) asks (λ c i. i) N sealed-fit sealed-names sealed-shape sealed-last u e

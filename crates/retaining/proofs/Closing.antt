@@ -1,8 +1,9 @@
 -- An S that none of 8, 9, 11 and 12 refuses: the seal, then, in a line with a window, the deletes and their words in the log.
 use mathlib.Core.Path.{_≡_, refl, sym, ap, ap₂, _∙_, subst}
-use mathlib.Core.Bool.{Bool, true, false}
-use mathlib.Core.List.{List, [], _∷_, map}
-use Prim.Native.Nat.{ℕ, zero, suc, _+_, _-_, _*_, _≤_, _<_}
+use mathlib.Core.Logic.{inl, inr}
+use mathlib.Core.Bool.{Bool, true, false, cond, _&&_}
+use mathlib.Core.List.{List, [], _∷_, _++_, map}
+use Prim.Native.Nat.{ℕ, zero, suc, pred, _+_, _-_, _*_, _≤_, _<_}
 use native.Mathlib.Nat.{zero-add}
 use native.Mathlib.Omega.{arith}
 use lib.Dec.{eqb, ltb}
@@ -18,22 +19,24 @@ use Rattle.geometry.specs.Limits.{blocks}
 use Rattle.log.specs.Word.{writeAt, bytesOf, released}
 use Rattle.log.proofs.Writing.{write-none}
 use Rattle.model.specs.View.{View}
-use Rattle.model.specs.Lists.{trim}
+use Rattle.model.specs.Lists.{In, trim, trimWalk}
 use Rattle.model.specs.Sound.{Sound}
-use Rattle.model.specs.State.{State, withView, withUsed, withNotes, withWindow}
+use Rattle.model.specs.State.{State, withView, withUsed, withNotes, passedNotes}
 use Rattle.model.specs.Effects.{seal, grow, close}
 use Rattle.model.specs.Actions.{Action, doS, doD, done, forked}
-use Rattle.model.specs.Window.{freesAlong, AsksAlong, sealedOf, victims, trimming, sealing, actedAll}
+use Rattle.model.specs.Window.{freesAlong, AsksAlong, older, sealedOf, bare, victims, trimming, sealing, actedAll}
 use Rattle.model.specs.Results.{paired, blocksIn}
 use Rattle.model.specs.Calls.{acted}
 use Rattle.model.specs.Layout.{viewOf, stateOf, stored}
 use Rattle.model.specs.Memory.{storedAlong}
-use Rattle.model.proofs.DoneSound.{spare}
+use Rattle.model.proofs.DoneSound.{spare, done-sound}
 use Rattle.model.proofs.Few.{held-le}
 use Rattle.model.proofs.ResultFacts.{blocks-in-paired, paired-length}
 use Rattle.model.proofs.WindowLists.{trim-walked}
 use Rattle.model.proofs.WindowMoves.{acted-next}
-use Rattle.model.proofs.WindowSeal.{seal-line, seal-num, seal-asks, seal-held}
+use Rattle.model.proofs.WindowLine.{older-less}
+use Rattle.model.proofs.WindowSeal.{seal-line, seal-num, seal-asks, seal-takes, seal-held}
+use Rattle.model.proofs.NameActions.{NamesFit, count-stays}
 use Rattle.tables.specs.Ready.{Ready, OutLong, LogLong}
 use Rattle.tables.proofs.Fields
 use Rattle.tables.proofs.Ranges
@@ -42,24 +45,41 @@ use Rattle.lines.specs.Growing.{viewed}
 use Rattle.lines.proofs.Answers.{acted-is}
 use Rattle.deleting.proofs.Buffers.{take-sets}
 use Rattle.retaining.specs.Lines.{Lined}
-use Rattle.retaining.specs.Deletes.{oldest, oldestGone, oldestGiven, oldestLeft}
+use Rattle.retaining.specs.Deletes.{oldest, oldestIn, oldestGone, oldestGiven, oldestLeft}
 use Rattle.retaining.specs.Closing.{Closes, gone, tooFew, given, sealedAs, closedState, deletedTables, closedReply, closedTables, closedLog, closedOut}
 use Rattle.retaining.proofs.Lining.{lined-count, lined-newest}
 use Rattle.retaining.proofs.Parts.{part-length, part-sets, rest-length, rest-begins}
 use Rattle.retaining.proofs.Acting
 
 -- the window's deletes by a walk along the line
-window-walked : (L : View) (r w k : ℕ) → 0 < w → k ≡ length (sealedOf L r) - w → oldest L k (sealedOf L r) ≡ trimming L w r
+window-walked : (L : View) (names : ℕ → ℕ) (r w k : ℕ) → 0 < w → k ≡ length (sealedOf L r) - w →
+    oldest L names k (sealedOf L r) ≡ trimming L names w r
 unfolding oldest victims
-window-walked L r zero k h e = absurd (let z : ⊥ = omega arith in z)
-window-walked L r (suc n) k h e =
-    let bare : ℕ → Bool = λ s. eqb (forked L s) 0 in
-    ap (map doD) (sym (trim-walked bare k (sealedOf L r)) ∙ ap (λ j. trim bare j (sealedOf L r)) e)
+window-walked L names r zero k h e = absurd (let z : ⊥ = omega arith in z)
+window-walked L names r (suc n) k h e =
+    ap (map doD) (sym (trim-walked (bare L names) k (sealedOf L r)) ∙ ap (λ j. trim (bare L names) j (sealedOf L r)) e)
+
+-- the last of the line is not looked at: tests that agree on the others take the same
+walk-agree : (p q : ℕ → Bool) (r : ℕ) (a : List ℕ) (k : ℕ) → ((x : ℕ) → In x a → p x ≡ q x) → trimWalk p k (a ++ (r ∷ [])) ≡ trimWalk q k (a ++ (r ∷ []))
+unfolding trimWalk
+walk-agree p q r [] k h = refl
+walk-agree p q r (s ∷ []) k h =
+    ap (λ (b : Bool). cond {A = List ℕ} (ltb 0 k && b) (s ∷ []) []) (h s (inl refl))
+walk-agree p q r (s ∷ t ∷ a) k h =
+    ap₂ (λ (b : Bool) (l : List ℕ). cond (ltb 0 k && b) (s ∷ l) (trimWalk p k (t ∷ (a ++ (r ∷ []))))) (h s (inl refl))
+    (walk-agree p q r (t ∷ a) (pred k) (λ x i. h x (inr i))) ∙
+    ap (cond (ltb 0 k && q s) (s ∷ trimWalk q (pred k) (t ∷ (a ++ (r ∷ []))))) (walk-agree p q r (t ∷ a) k (λ x i. h x (inr i)))
+
+oldest-agree : (L : View) (names counts : ℕ → ℕ) (r k : ℕ) → ((x : ℕ) → In x (older L r) → names x ≡ counts x) →
+    oldest L names k (sealedOf L r) ≡ oldest L counts k (sealedOf L r)
+unfolding oldest sealedOf bare
+oldest-agree L names counts r k h =
+    ap (map doD) (walk-agree (bare L names) (bare L counts) r (older L r) k (λ x i. ap (λ n. eqb (forked L x) 0 && eqb n 0) (h x i)))
 
 -- without a window there are none
-sealing-none : (K : View) (s : ℕ) → sealing K 0 s ≡ doS s ∷ []
+sealing-none : (K : View) (names : ℕ → ℕ) (s : ℕ) → sealing K names 0 s ≡ doS s ∷ []
 unfolding sealing victims
-sealing-none K s = refl
+sealing-none K names s = refl
 
 gone-none : (T : State) (s : ℕ) → gone T s 0 ≡ []
 unfolding gone sealing victims freesAlong
@@ -81,20 +101,29 @@ module _ {g : Geometry} {t : List ℕ} (R : Ready g t) (s f w : ℕ) (C : Closes
   abbrev L : View
   L = done (viewOf g t) (doS s)
 
+  abbrev names : ℕ → ℕ
+  names = stateOf g t .notes .names
+
   S : Sound K
   S = Ranges.sound R
 
-  pub seal-needs : (f < g .records) × (getD t 6 0 < 999999) × (s < g .records) × (s ≡ f → ⊥)
+  names-fit : NamesFit K (T .notes)
+  unfolding stateOf
+  names-fit = R .names
+
+  pub seal-needs : (f < g .records) × (getD t 6 0 < 999999) × (s < g .records) × (s ≡ f → ⊥) × (0 < viewOf g t .num s) × (0 < viewOf g t .isOpen s)
   seal-needs =
       let h = spare K (C .asks .2) in (
         omega (arith, C .empty, h .0, Fields.slots-is g t),
         omega (arith, C .last, Fields.last-is g t),
         Ranges.slot-in R s (C .asks .0),
         λ e. let z : ⊥ = omega (arith, C .asks .0, h .1, ap (K .num) (e ∙ C .empty)) in z,
+        C .asks .0,
+        C .asks .1,
       )
 
   -- what `log_is_short` says
-  pub short-is : (b : Bool) → b ≡ ltb (g .words - getD t 9 0) (length (freesAlong (viewOf g t) (sealing (viewOf g t) w s))) →
+  pub short-is : (b : Bool) → b ≡ ltb (g .words - getD t 9 0) (length (freesAlong (viewOf g t) (sealing (viewOf g t) (stateOf g t .notes .names) w s))) →
       tooFew g (stateOf g t) s w ≡ b
   unfolding tooFew gone stateOf
   short-is b e = sym e
@@ -118,23 +147,22 @@ module _ {g : Geometry} {t : List ℕ} (R : Ready g t) (s f w : ℕ) (C : Closes
 
   gone-few : length (gone T s w) ≤ blocks g
   unfolding gone stateOf
-  gone-few = omega (arith, seal-held K s S (C .asks) w, held-le K, Fields.blocks-is g t)
+  gone-few = omega (arith, seal-held K s S (C .asks) names w, held-le K, Fields.blocks-is g t)
 
   -- ── the tables t₁ after the seal ──
 
-  module _ (t₁ : List ℕ) (e₁ : t₁ ≡ viewed g t (seal (stateOf g t .view) s f) f (stateOf g t .notes .window s)) where
-    sealed-is : t₁ ≡ stored g (sealedAs T s f w) t
+  module _ (t₁ : List ℕ) (e₁ : t₁ ≡ viewed g t (seal (stateOf g t .view) s f) (passedNotes (stateOf g t .notes) s f)) where
+    sealed-is : t₁ ≡ stored g (sealedAs T s f) t
     unfolding viewed stateOf
     sealed-is =
-        e₁ ∙ ap (λ v. stored g (withNotes (withView T (seal K s f)) (withWindow (T .notes) f v)) t) (sym (C .window)) ∙
-        ap (λ h. stored g (withNotes (withView T (seal K s h)) (withWindow (T .notes) f w)) t) (C .empty) ∙
-        ap (λ U. stored g (withNotes U (withWindow (T .notes) f w)) t) (acted-is T (doS s) refl)
+        e₁ ∙ ap (λ h. stored g (withNotes (withView T (seal K s h)) (passedNotes (T .notes) s f)) t) (C .empty) ∙
+        ap (λ U. stored g (withNotes U (passedNotes (T .notes) s f)) t) (acted-is T (doS s) refl)
 
     pub ready₁ : Ready g t₁
-    ready₁ = Acting.sealed-ready R s (C .asks) (C .last) f w (C .empty) (C .window) t₁ sealed-is
+    ready₁ = Acting.sealed-ready R s (C .asks) (C .last) f (C .empty) t₁ sealed-is
 
-    says₁ : stateOf g t₁ ≡ sealedAs T s f w
-    says₁ = Acting.sealed-says R s (C .asks) (C .last) f w (C .empty) (C .window) t₁ sealed-is
+    says₁ : stateOf g t₁ ≡ sealedAs T s f
+    says₁ = Acting.sealed-says R s (C .asks) (C .last) f (C .empty) t₁ sealed-is
 
     view₁ : viewOf g t₁ ≡ L
     unfolding acted stateOf
@@ -150,17 +178,17 @@ module _ {g : Geometry} {t : List ℕ} (R : Ready g t) (s f w : ℕ) (C : Closes
       unfolding tooFew
       not-short = ap (λ l. ltb (g .words - T .used) (length l)) none ∙ le-ltb (g .words - T .used) 0 (omega arith)
 
-      bare-is : closedState T s f w ≡ sealedAs T s f w
+      bare-is : closedState T s f w ≡ sealedAs T s f
       unfolding closedState
       bare-is =
-          ap₂ (λ (l : List Action) (n : ℕ). withNotes (actedAll T l n) (withWindow (T .notes) f w))
-          (ap (λ k. sealing (T .view) k s) z ∙ sealing-none (T .view) s) (ap length none) ∙
-          ap (λ U. withNotes U (withWindow (T .notes) f w)) (acted-next T (doS s) [] 0 0 ∙ Acting.acted-nothing (acted T (doS s) 0))
+          ap₂ (λ (l : List Action) (n : ℕ). withNotes (actedAll T l n) (passedNotes (T .notes) s f))
+          (ap (λ k. sealing (T .view) names k s) z ∙ sealing-none (T .view) names s) (ap length none) ∙
+          ap (λ U. withNotes U (passedNotes (T .notes) s f)) (acted-next T (doS s) [] 0 0 ∙ Acting.acted-nothing (acted T (doS s) 0))
 
       deleted-is : deletedTables g t s f w ≡ t₁
       unfolding deletedTables victims storedAlong
       deleted-is =
-          ap (λ k. storedAlong g (sealedAs T s f w) (trimming (sealedAs T s f w .view) k s) (stored g (sealedAs T s f w) t)) z ∙ sym sealed-is
+          ap (λ k. storedAlong g (sealedAs T s f) (trimming (sealedAs T s f .view) names k s) (stored g (sealedAs T s f) t)) z ∙ sym sealed-is
 
       bare-tables : t₁ ≡ closedTables g t s f w
       unfolding closedTables
@@ -211,10 +239,19 @@ module _ {g : Geometry} {t : List ℕ} (R : Ready g t) (s f w : ℕ) (C : Closes
       -- ── the deletes ──
 
       module _ (some : 0 < w) (most : ℕ) (em : most ≡ count - w) where
-        deletes-are : oldest (viewOf g t₁) most (sealedOf (viewOf g t₁) r) ≡ trimming L w s
+        -- the seal moved no count of an older record
+        counts : (x : ℕ) → In x (older L s) → passedNotes (T .notes) s f .names x ≡ names x
+        counts x i =
+            ap (λ h. passedNotes (T .notes) s h .names x) (C .empty) ∙
+            count-stays K (T .notes) s S (C .asks) names-fit x
+            (older-less L (done-sound K (doS s) S (C .asks)) s (omega (arith, C .asks .0, seal-num K s S (C .asks))) x i)
+
+        deletes-are : oldestIn g t₁ most r ≡ trimming L names w s
         deletes-are =
-            ap₂ (λ (B : View) (n : ℕ). oldest B most (sealedOf B n)) view₁ (lined-newest D) ∙
-            window-walked L s w most some
+            ap₂ (λ (B : View) (n : ℕ). oldest B (stateOf g t₁ .notes .names) most (sealedOf B n)) view₁ (lined-newest D) ∙
+            ap (λ (U : State). oldest L (U .notes .names) most (sealedOf L s)) says₁ ∙
+            oldest-agree L (passedNotes (T .notes) s f .names) names s most counts ∙
+            window-walked L names s w most some
             (em ∙ ap (λ n. n - w) (lined-count D ∙ sym (ap length (seal-line K s S (C .asks)))))
 
         gone-is : oldestGone g t₁ most r ≡ gone T s w
@@ -229,7 +266,7 @@ module _ {g : Geometry} {t : List ℕ} (R : Ready g t) (s f w : ℕ) (C : Closes
         unfolding oldestLeft deletedTables acted stateOf
         left-is =
             ap₂ (λ (U : State) (l : List Action). storedAlong g U l t₁) says₁ deletes-are ∙
-            ap (storedAlong g (sealedAs T s f w) (trimming L w s)) sealed-is
+            ap (storedAlong g (sealedAs T s f) (trimming L names w s)) sealed-is
 
         pub delete-few : length (oldestGone g t₁ most (getD line 0 0)) ≤ 2048
         delete-few = omega (arith, gone-few, ap length gone-is, R .roomy .inside .blocks-most)
@@ -247,21 +284,28 @@ module _ {g : Geometry} {t : List ℕ} (R : Ready g t) (s f w : ℕ) (C : Closes
           many : n ≡ length (gone T s w)
           many = en ∙ ap length gone-is
 
-          asks-along : AsksAlong (viewOf g t₁) (trimming L w s)
+          asks-along : AsksAlong (viewOf g t₁) (trimming L names w s)
           unfolding sealing
-          asks-along = subst (λ B. AsksAlong B (trimming L w s)) (sym view₁) (seal-asks K s S (C .asks) w .1)
+          asks-along = subst (λ B. AsksAlong B (trimming L names w s)) (sym view₁) (seal-asks K s S (C .asks) names w .1)
 
-          along-is : t₂ ≡ storedAlong g (stateOf g t₁) (trimming L w s) t₁
+          along-is : t₂ ≡ storedAlong g (stateOf g t₁) (trimming L names w s) t₁
           unfolding oldestLeft
           along-is = e₂ ∙ ap (λ l. storedAlong g (stateOf g t₁) l t₁) deletes-are
 
-          ready₂ : Ready g t₂
-          ready₂ = subst (Ready g) (sym along-is) (Acting.gone-along (victims L w s) t₁ ready₁ asks-along .0)
+          -- what goes has no name
+          nameless : (v : ℕ) → In v (victims L names w s) → stateOf g t₁ .notes .names v ≡ 0
+          nameless v i =
+              let W = seal-takes K s S (C .asks) names w in
+              ap (λ (U : State). U .notes .names v) says₁ ∙ ap (λ h. passedNotes (T .notes) s h .names v) (C .empty) ∙
+              count-stays K (T .notes) s S (C .asks) names-fit v (W .notNewest v i) ∙ W .nameless v i
 
-          says₂ : stateOf g t₂ ≡ actedAll (sealedAs T s f w) (trimming L w s) 0
+          ready₂ : Ready g t₂
+          ready₂ = subst (Ready g) (sym along-is) (Acting.gone-along (victims L names w s) t₁ ready₁ asks-along nameless .0)
+
+          says₂ : stateOf g t₂ ≡ actedAll (sealedAs T s f) (trimming L names w s) 0
           says₂ =
-              ap (stateOf g) along-is ∙ Acting.gone-along (victims L w s) t₁ ready₁ asks-along .1 ∙
-              ap (λ U. actedAll U (trimming L w s) 0) says₁
+              ap (stateOf g) along-is ∙ Acting.gone-along (victims L names w s) t₁ ready₁ asks-along nameless .1 ∙
+              ap (λ U. actedAll U (trimming L names w s) 0) says₁
 
           used₂ : getD t₂ 9 0 ≡ T .used
           unfolding actedAll acted
@@ -272,9 +316,9 @@ module _ {g : Geometry} {t : List ℕ} (R : Ready g t) (s f w : ℕ) (C : Closes
           closed-is =
               ap₂ (λ (U : State) (m : ℕ). withUsed U m) says₂
               (let z : getD t₂ 9 0 + n ≡ T .used + 0 + length (gone T s w) = omega (arith, used₂, many) in z) ∙
-              sym (ap (λ U. withNotes U (withWindow (T .notes) f w))
-              (ap (actedAll T (doS s ∷ trimming L w s)) (sym (zero-add (length (gone T s w)))) ∙
-              acted-next T (doS s) (trimming L w s) 0 (length (gone T s w))))
+              sym (ap (λ U. withNotes U (passedNotes (T .notes) s f))
+              (ap (actedAll T (doS s ∷ trimming L names w s)) (sym (zero-add (length (gone T s w)))) ∙
+              acted-next T (doS s) (trimming L names w s) 0 (length (gone T s w))))
 
           logged-is : set t₂ 9 (getD t₂ 9 0 + n) ≡ stored g (closedState T s f w) (deletedTables g t s f w)
           logged-is =

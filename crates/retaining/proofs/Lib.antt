@@ -2,6 +2,7 @@
 pub mod Verdicts
 pub mod Retaining
 pub mod Lining
+pub mod Bare
 pub mod Counting
 pub mod Parts
 pub mod Acting

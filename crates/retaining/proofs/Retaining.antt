@@ -16,7 +16,7 @@ use Rattle.model.specs.Actions.{slotOf}
 use Rattle.model.specs.State.{State}
 use Rattle.model.specs.Calls.{slot, effect}
 use Rattle.model.specs.Layout.{openCell, windowCell, viewOf, stateOf, stored}
-use Rattle.model.specs.declared.Call.the-variants.{Retain}
+use Rattle.model.specs.Command.{Retain}
 use Rattle.tables.specs.Ready.{Ready}
 use Rattle.tables.specs.Puts.{withWindowAt}
 use Rattle.tables.specs.Outcome.{replied, tablesLeft}

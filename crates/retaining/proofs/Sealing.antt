@@ -17,10 +17,10 @@ use Rattle.log.specs.Word.{writeAt, bytesOf, released}
 use Rattle.model.specs.State.{State, withNotes}
 use Rattle.model.specs.Actions.{doS, Asks}
 use Rattle.model.specs.Window.{actedAll}
-use Rattle.model.specs.Calls.{account, slot, newSlot, windowOf, windowPassed, closes, freedClosing, result, written, short, effect}
+use Rattle.model.specs.Calls.{account, slot, newSlot, windowOf, sealedNotes, closes, freedClosing, result, written, short, effect}
 use Rattle.model.specs.Layout.{windowCell, viewOf, stateOf, stored}
 use Rattle.model.specs.Memory.{writtenAt, midway, storedBy}
-use Rattle.model.specs.declared.Call.the-variants.{Seal}
+use Rattle.model.specs.Command.{Seal}
 use Rattle.model.proofs.ByNumber.{none-at}
 use Rattle.model.proofs.Fine.{asks-S}
 use Rattle.tables.specs.Ready.{Ready}
@@ -116,7 +116,7 @@ module _ {g : Geometry} {t : List ℕ} (R : Ready g t) (n : ℕ) (v : Verdict) (
 
       state-is : closedState T (slot T n) (newSlot T) (windowOf T n) ≡ effect g T (Seal n)
       unfolding closedState gone
-      state-is = ap (λ k. withNotes (actedAll T (closes T n) k) (windowPassed T n)) many
+      state-is = ap (λ k. withNotes (actedAll T (closes T n) k) (sealedNotes T n)) many
 
       tables-are : closedTables g t (slot T n) (newSlot T) (windowOf T n) ≡ tablesLeft g t (Seal n)
       unfolding closedTables deletedTables tablesLeft

@@ -5,7 +5,7 @@ use Prim.Native.Nat.{ℕ, _-_, _≤_}
 use lib.ListN.{getD}
 use borrow.Author.Tests.{eq-eqb, ne-eqb}
 use Rattle.geometry.specs.declared.Geometry.{Geometry}
-use Rattle.model.specs.declared.Call.the-variants.{Begin}
+use Rattle.model.specs.Command.{Begin}
 use Rattle.model.specs.Actions.{slotOf}
 use Rattle.model.specs.Layout.{openCell, viewOf, stateOf}
 use Rattle.lines.specs.declared.verdict.Verdict.{Verdict}

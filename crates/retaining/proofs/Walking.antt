@@ -1,51 +1,51 @@
 -- A walk along the records of a line, oldest first, that deletes some of them.
 use mathlib.Core.Path.{_≡_, refl, sym, ap, _∙_, subst, fun-ext}
 use mathlib.Core.Logic.{inl, inr}
-use mathlib.Core.Bool.{Bool}
+use mathlib.Core.Bool.{Bool, true, false}
 use mathlib.Core.List.{List, [], _∷_, map}
-use Prim.Native.Nat.{ℕ, suc, pred, _-_, _≤_, _<_}
+use Prim.Native.Nat.{ℕ, suc, pred, _-_, _<_}
 use native.Mathlib.Omega.{arith}
-use lib.Dec.{eqb}
-use borrow.Author.Tests.{eq-eqb, ne-eqb, lt-ltb}
-use Rattle.answer.proofs.Cases.{cases, same?, lt?}
+use borrow.Author.Tests.{lt-ltb}
+use Rattle.answer.proofs.Cases.{cases, either, lt?}
 use Rattle.model.specs.View.{View}
 use Rattle.model.specs.Lists.{In, trimWalk}
 use Rattle.model.specs.Sound.{Sound}
 use Rattle.model.specs.Effects.{leave, unlink}
 use Rattle.model.specs.Actions.{doD, follower, forked, deleteAt, delete}
-use Rattle.model.specs.Window.{AsksAlong, sealedOf}
+use Rattle.model.specs.Window.{AsksAlong, sealedOf, bare}
 use Rattle.model.proofs.TabFacts.{put-same}
 use Rattle.model.proofs.WindowLine.{Chain, sealed-chain}
+use Rattle.model.proofs.WindowFacts.{bare-is, bare-same}
 use Rattle.model.proofs.WindowDelete.{follower-is, cut-sound, cut-live, prev-stays, fork-cut}
 use Rattle.retaining.specs.Deletes.{oldest}
 
 -- ── the deletes, record by record ──
 
-module _ (K : View) where
-  pub oldest-none : (l : List ℕ) → oldest K 0 l ≡ []
+module _ (K : View) (names : ℕ → ℕ) where
+  pub oldest-none : (l : List ℕ) → oldest K names 0 l ≡ []
   unfolding oldest trimWalk
   oldest-none [] = refl
   oldest-none (s ∷ []) = refl
   oldest-none (s ∷ t ∷ l) = oldest-none (t ∷ l)
 
-  pub oldest-last : (k s : ℕ) → oldest K k (s ∷ []) ≡ []
+  pub oldest-last : (k s : ℕ) → oldest K names k (s ∷ []) ≡ []
   unfolding oldest trimWalk
   oldest-last k s = refl
 
   module _ (k s u : ℕ) (m : List ℕ) (some : 0 < k) where
-    pub oldest-goes : forked K s ≤ 0 → oldest K k (s ∷ u ∷ m) ≡ doD s ∷ oldest K (k - 1) (u ∷ m)
+    pub oldest-goes : bare K names s ≡ true → oldest K names k (s ∷ u ∷ m) ≡ doD s ∷ oldest K names (k - 1) (u ∷ m)
     unfolding oldest trimWalk
-    oldest-goes f =
-        rw (lt-ltb 0 k some, eq-eqb (forked K s) 0 (omega arith)) (ap (λ j. doD s ∷ oldest K j (u ∷ m)) (let z : pred k ≡ k - 1 = omega arith in z))
+    oldest-goes b =
+        rw (lt-ltb 0 k some, b) (ap (λ j. doD s ∷ oldest K names j (u ∷ m)) (let z : pred k ≡ k - 1 = omega arith in z))
 
-    pub oldest-stays : 0 < forked K s → oldest K k (s ∷ u ∷ m) ≡ oldest K k (u ∷ m)
+    pub oldest-stays : bare K names s ≡ false → oldest K names k (s ∷ u ∷ m) ≡ oldest K names k (u ∷ m)
     unfolding oldest trimWalk
-    oldest-stays f = rw (lt-ltb 0 k some, ne-eqb (forked K s) 0 (λ e. let z : ⊥ = omega arith in z))
+    oldest-stays b = rw (lt-ltb 0 k some, b)
 
--- where the same records have a fork
-oldest-same : (K L : View) → ((t : ℕ) → eqb (forked L t) 0 ≡ eqb (forked K t) 0) → (k : ℕ) (l : List ℕ) → oldest L k l ≡ oldest K k l
+-- where the same records may go
+oldest-same : (K L : View) (names : ℕ → ℕ) → ((t : ℕ) → bare L names t ≡ bare K names t) → (k : ℕ) (l : List ℕ) → oldest L names k l ≡ oldest K names k l
 unfolding oldest
-oldest-same K L e k l = ap (λ (p : ℕ → Bool). map doD (trimWalk p k l)) (fun-ext e)
+oldest-same K L names e k l = ap (λ (p : ℕ → Bool). map doD (trimWalk p k l)) (fun-ext e)
 
 -- ── what is left of the line ──
 
@@ -105,10 +105,7 @@ module _ (K : View) (S : Sound K) where
     first-apart x i e = let z : ⊥ = omega (arith, above (u ∷ m) s (suc r) x (A .chain .2) i, ap (K .num) e) in z
 
     -- s is deleted
-    module _ (f : forked K s ≤ 0) where
-      none : forked K s ≡ 0
-      none = omega arith
-
+    module _ (none : forked K s ≡ 0) where
       goes-sound : Sound (delete K s)
       goes-sound = cut-sound K S s first-live none
 
@@ -135,27 +132,25 @@ module _ (K : View) (S : Sound K) where
         );
       }
 
-      same-bare : (t : ℕ) → eqb (forked (delete K s) t) 0 ≡ eqb (forked K t) 0
-      same-bare t =
-          let w = fork-cut K S s first-live none r last-live (first-apart r (last-in .0)) (based (u ∷ m) s (suc r) r (A .chain .2) (last-in .0)) t in
-          cases (same? (forked K t) 0)
-          (λ z. rw (eq-eqb (forked K t) 0 z, eq-eqb (forked (delete K s) t) 0 (w .1 z)))
-          (λ n. rw (ne-eqb (forked K t) 0 n, ne-eqb (forked (delete K s) t) 0 (λ z. n (w .0 z))))
-
-      pub oldest-then : (k : ℕ) (l : List ℕ) → oldest (delete K s) k l ≡ oldest K k l
-      oldest-then = oldest-same K (delete K s) same-bare
+      pub oldest-then : (names : ℕ → ℕ) (k : ℕ) (l : List ℕ) → oldest (delete K s) names k l ≡ oldest K names k l
+      oldest-then names =
+          oldest-same K (delete K s) names (λ t. bare-same K (delete K s) names t
+          (fork-cut K S s first-live none r last-live (first-apart r (last-in .0)) (based (u ∷ m) s (suc r) r (A .chain .2) (last-in .0)) t))
 
 -- each of the deletes is one that the store it meets allows
-pub oldest-asks : (l : List ℕ) (K : View) → Sound K → (r k : ℕ) → Ahead K r l → AsksAlong K (oldest K k l)
-oldest-asks [] K S r k A = unfold oldest in unfold trimWalk in tt
-oldest-asks (s ∷ []) K S r k A = rw (oldest-last K k s) tt
-oldest-asks (s ∷ u ∷ m) K S r k A =
+pub oldest-asks : (l : List ℕ) (K : View) (names : ℕ → ℕ) → Sound K → (r k : ℕ) → Ahead K r l → AsksAlong K (oldest K names k l)
+oldest-asks [] K names S r k A = unfold oldest in unfold trimWalk in tt
+oldest-asks (s ∷ []) K names S r k A = rw (oldest-last K names k s) tt
+oldest-asks (s ∷ u ∷ m) K names S r k A =
     cases (lt? 0 k)
-    (λ some. cases (lt? 0 (forked K s))
-    (λ f. rw (oldest-stays K k s u m some f) (oldest-asks (u ∷ m) K S r k (ahead-stays K S r s u m A)))
-    (λ f. rw (oldest-goes K k s u m some f) (
-      (first-live K S r s u m A, (let z : forked K s ≡ 0 = omega arith in z)),
-      subst (AsksAlong (delete K s)) (oldest-then K S r s u m A f (k - 1) (u ∷ m))
-          (oldest-asks (u ∷ m) (delete K s) (goes-sound K S r s u m A f) r (k - 1) (ahead-goes K S r s u m A f)),
-    )))
-    (λ none. subst (AsksAlong K) (sym (ap (λ j. oldest K j (s ∷ u ∷ m)) (let z : k ≡ 0 = omega arith in z) ∙ oldest-none K (s ∷ u ∷ m))) tt)
+    (λ some. cases (either (bare K names s))
+    (λ b.
+    let f : forked K s ≡ 0 = bare-is K names s b .0 in
+    rw (oldest-goes K names k s u m some b) (
+      (first-live K S r s u m A, f),
+      subst (AsksAlong (delete K s)) (oldest-then K S r s u m A f names (k - 1) (u ∷ m))
+          (oldest-asks (u ∷ m) (delete K s) names (goes-sound K S r s u m A f) r (k - 1) (ahead-goes K S r s u m A f)),
+    ))
+    (λ b. rw (oldest-stays K names k s u m some b) (oldest-asks (u ∷ m) K names S r k (ahead-stays K S r s u m A))))
+    (λ none. subst (AsksAlong K)
+    (sym (ap (λ j. oldest K names j (s ∷ u ∷ m)) (let z : k ≡ 0 = omega arith in z) ∙ oldest-none K names (s ∷ u ∷ m))) tt)

@@ -10,7 +10,7 @@ use Rattle.answer.specs.Reply.{Reply}
 use Rattle.answer.specs.Refusal.{decide, leaves}
 use Rattle.geometry.specs.declared.Geometry.{Geometry}
 use Rattle.log.specs.Word.{writeAt, bytesOf, released}
-use Rattle.model.specs.State.{State, withNotes, withWindow}
+use Rattle.model.specs.State.{State, withNotes, passedNotes}
 use Rattle.model.specs.Actions.{doS, Asks, vacant}
 use Rattle.model.specs.Window.{freesAlong, trimming, sealing, actedAll}
 use Rattle.model.specs.Results.{paired}
@@ -27,7 +27,7 @@ pub record Closes (g : Geometry) (t : List ℕ) (s f w : ℕ) : Type 0 where
 
 -- the blocks that are freed
 unfoldable pub gone : State → ℕ → ℕ → List ℕ
-gone T s w = freesAlong (T .view) (sealing (T .view) w s)
+gone T s w = freesAlong (T .view) (sealing (T .view) (T .notes .names) w s)
 
 -- fewer words of the log are unused than are written
 unfoldable pub tooFew : Geometry → State → ℕ → ℕ → Bool
@@ -38,17 +38,19 @@ unfoldable pub given : State → ℕ → ℕ → List ℕ
 given T s w = suc (T .view .last) ∷ paired (T .view .birth) (gone T s w)
 
 -- the state between the seal and the deletes, and the one that is left
-abbrev pub sealedAs : State → ℕ → ℕ → ℕ → State
-sealedAs T s f w = withNotes (acted T (doS s) 0) (withWindow (T .notes) f w)
+abbrev pub sealedAs : State → ℕ → ℕ → State
+sealedAs T s f = withNotes (acted T (doS s) 0) (passedNotes (T .notes) s f)
 
 unfoldable pub closedState : State → ℕ → ℕ → ℕ → State
-closedState T s f w = withNotes (actedAll T (sealing (T .view) w s) (length (gone T s w))) (withWindow (T .notes) f w)
+closedState T s f w =
+    withNotes (actedAll T (sealing (T .view) (T .notes .names) w s) (length (gone T s w))) (passedNotes (T .notes) s f)
 
 -- ── on the tables t ──
 
 -- with the seal stored in them, then each delete
 unfoldable pub deletedTables : Geometry → List ℕ → ℕ → ℕ → ℕ → List ℕ
-deletedTables g t s f w = let U = sealedAs (stateOf g t) s f w in storedAlong g U (trimming (U .view) w s) (stored g U t)
+deletedTables g t s f w =
+    let U = sealedAs (stateOf g t) s f in storedAlong g U (trimming (U .view) (stateOf g t .notes .names) w s) (stored g U t)
 
 unfoldable pub closedReply : Geometry → List ℕ → ℕ → ℕ → Reply
 closedReply g t s w = decide ((14, tooFew g (stateOf g t) s w) ∷ []) (given (stateOf g t) s w)

@@ -6,14 +6,14 @@ ghost use lib.ListN.{length, getD};
 ghost use Rattle.model.specs.View.{baseNum};
 ghost use Rattle.model.specs.Actions.{doS, Asks};
 ghost use Rattle.model.specs.Window.{freesAlong, sealedOf, sealing, freesWalked};
-ghost use Rattle.model.specs.Layout.{viewOf};
+ghost use Rattle.model.specs.Layout.{viewOf, stateOf};
 ghost use Rattle.tables.specs.Ready.{Ready};
 ghost use Rattle.retaining.specs.Lines.{Lined};
+use crate::line::is_bare;
 use deleting::next::count_gone;
 use geometry::Geometry;
 use tables::cells::NUMBER;
 use tables::cells::USED;
-use tables::find::is_forked;
 use tables::find::wide;
 use tables::links::base_number;
 
@@ -25,7 +25,7 @@ pub fn surplus(count: usize, window: usize) -> usize
 }
 
 // The sum over the records that go, from the oldest on, of the blocks in their follower's deadlist born after the nearest older record that stays:
-// `floor` is its number. The line is that of slot s, and the first `most` of its records without a fork go, never the newest.
+// `floor` is its number. The line is that of slot s, and the first `most` of its records without a fork and without a name go, never the newest.
 fn frees_walked(
     t: &[u32],
     g: Geometry,
@@ -35,7 +35,7 @@ fn frees_walked(
     most: usize,
 ) -> usize
     requires { ⌜ Ready g (now t) × Lined (viewOf g (now t)) s (now line) count ⌝ }
-    ensures { λ r. ⌜ r ≡ freesWalked (viewOf g (now (t .entry))) most
+    ensures { λ r. ⌜ r ≡ freesWalked (viewOf g (now (t .entry))) (stateOf g (now (t .entry)) .notes .names) most
         (baseNum (viewOf g (now (t .entry))) s) (sealedOf (viewOf g (now (t .entry))) s) ⌝ }
 {
     let mut total: usize = 0;
@@ -47,12 +47,12 @@ fn frees_walked(
         if left == 0 {
             return total;
         }
-        if is_forked(t, g, v) {
-            floor = t[NUMBER + v];
-            i -= 1;
-        } else {
+        if is_bare(t, g, v) {
             total += count_gone(t, g, wide(line[i - 1]), floor);
             left -= 1;
+            i -= 1;
+        } else {
+            floor = t[NUMBER + v];
             i -= 1;
         }
     }
@@ -71,7 +71,7 @@ pub fn log_is_short(
 ) -> bool
     requires { ⌜ Ready g (now t) × Lined (viewOf g (now t)) s (now line) count × Asks (viewOf g (now t)) (doS s) × (0 < window) ⌝ }
     ensures { λ r. ⌜ r ≡ ltb (g .words - getD (now (t .entry)) 9 0)
-        (length (freesAlong (viewOf g (now (t .entry))) (sealing (viewOf g (now (t .entry))) window s))) ⌝ }
+        (length (freesAlong (viewOf g (now (t .entry))) (sealing (viewOf g (now (t .entry))) (stateOf g (now (t .entry)) .notes .names) window s))) ⌝ }
 {
     let unused = g.words - wide(t[USED]);
     if g.arenas * g.per <= unused {

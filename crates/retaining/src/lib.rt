@@ -8,7 +8,7 @@ ghost use mathlib.Core.Path.{_≡_};
 ghost use mathlib.Core.List.{List};
 ghost use Prim.Native.Nat.{ℕ, _<_};
 ghost use Rattle.answer.specs.Reply.{replyOf};
-ghost use Rattle.model.specs.declared.Call.the-variants.{Seal, Retain};
+ghost use Rattle.model.specs.Command.{Seal, Retain};
 ghost use Rattle.tables.specs.Ready.{Ready, LogLong, OutLong, LinkOf};
 ghost use Rattle.tables.specs.Outcome.{replied, tablesLeft, logLeft, outLeft};
 ghost use Rattle.retaining.specs.Closing.{Closes, closedReply, closedTables, closedLog, closedOut};
@@ -76,7 +76,8 @@ fn close(
 }
 
 // S on the record of that number, with its link: it is sealed, and an open record with its pages follows; then, in a line with a window, the oldest sealed
-// records without a fork are deleted. The numbers of the result are the new record's number and the freed blocks, each with its birth after it.
+// records without a fork and without a name are deleted. The numbers of the result are the new record's number and the freed blocks, each with its birth
+// after it.
 pub fn seal(
     g: Geometry,
     t: &mut [u32],

@@ -7,13 +7,13 @@ ghost use Rattle.model.specs.Layout.{viewOf};
 ghost use Rattle.tables.specs.Ready.{Ready};
 ghost use Rattle.retaining.specs.Lines.{Lined};
 ghost use Rattle.retaining.specs.Deletes.{oldestGone, oldestGiven, oldestLeft};
+use crate::line::is_bare;
 use deleting::delete::delete_record;
 use geometry::Geometry;
-use tables::find::is_forked;
 use tables::find::wide;
 
-// Deletes of the line, from its oldest record on, the first `most` without a fork, and never its newest. The freed blocks are written to `out`, each with
-// its birth after it. Returns how many they are.
+// Deletes of the line, from its oldest record on, the first `most` without a fork and without a name, and never its newest. The freed blocks are written to
+// `out`, each with its birth after it. Returns how many they are.
 pub fn delete_oldest(
     g: Geometry,
     t: &mut [u32],
@@ -36,12 +36,12 @@ pub fn delete_oldest(
         if left == 0 {
             return done;
         }
-        if is_forked(t, g, s) {
-            i -= 1;
-        } else {
+        if is_bare(t, g, s) {
             let at = 2 * done;
             done += delete_record(g, t, &mut out[at..], s, wide(line[i - 1]) + 1);
             left -= 1;
+            i -= 1;
+        } else {
             i -= 1;
         }
     }

@@ -1,4 +1,4 @@
--- The table of letters: what holds of all its rows; and what the numbers read after `store` or a letter make of a line.
+-- The tables of letters: what holds of all their rows; and what the numbers read after `store` or a letter make of a line.
 use mathlib.Core.Path.{_≡_, refl, sym, ap, _∙_}
 use Prim.Native.Nat.{ℕ, zero, suc, _<_, _≤_}
 use mathlib.Core.Bool.{Bool, true, false, cond, not, _&&_, true≢false}
@@ -7,25 +7,26 @@ use mathlib.Core.Option.{Option, none, some}
 use native.Mathlib.Omega.{arith}
 use lib.ListN.{length, getD, take, length-take}
 use lib.Seq.{take-all}
-use lib.Dec.{eqb}
-use borrow.Author.Tests.{eqb-false, ne-eqb, lt-ltb, le-ltb}
+use lib.Dec.{eqb, leb}
+use borrow.Author.Tests.{eqb-true, eqb-false, ne-eqb, lt-ltb, le-ltb, leb-true}
 use Rattle.answer.proofs.Cases.{cases, either, lt?}
 use Rattle.model.specs.declared.Call.{Call}
+use Rattle.model.specs.declared.Naming.{Naming}
 use Rattle.script.specs.declared.parse.Parsed.{Parsed}
 use Rattle.script.specs.declared.parse.Parsed.the-variants.{Store}
-use Rattle.script.specs.Letters.{Form, bare, one, two, three, table, made, callIn, callOf}
-use Rattle.script.specs.Parse.{numbersFrom, counted, sixOf, storeOf, saysOf, saysBy, asksOf, callLine}
+use Rattle.script.specs.Letters.{FormOf, bare, one, two, three, table, names, made, callIn, listed, callOf, namingOf}
+use Rattle.script.specs.Parse.{numbersFrom, counted, sixOf, storeOf, saysOf, saysBy, asksOf, callLine, namedOf}
 
 -- ── how many numbers a form takes ──
 
-abbrev pub takes : Form → ℕ
+abbrev pub takes : {A : Type 0} → FormOf A → ℕ
 takes (bare c) = 0
 takes (one f) = 1
 takes (two f) = 2
 takes (three f) = 3
 
 -- none of more or fewer
-pub made-other : (f : Form) (ns : List ℕ) → (length ns ≡ takes f → ⊥) → made f ns ≡ none
+pub made-other : {A : Type 0} (f : FormOf A) (ns : List ℕ) → (length ns ≡ takes f → ⊥) → made f ns ≡ none
 unfolding made
 made-other (bare c) [] h = absurd (h refl)
 made-other (bare c) (x ∷ ns) h = refl
@@ -36,25 +37,28 @@ made-other (two f) (x ∷ ns) h = made-other (one (f x)) ns (λ e. h (ap suc e))
 made-other (three f) [] h = refl
 made-other (three f) (x ∷ ns) h = made-other (two (f x)) ns (λ e. h (ap suc e))
 
-takes-few : (f : Form) → takes f ≤ 3
-takes-few (bare c) = omega arith
-takes-few (one f) = omega arith
-takes-few (two f) = omega arith
-takes-few (three f) = omega arith
+-- whether no row takes more
+abbrev pub most? : {A : Type 0} → List (ℕ × FormOf A) → ℕ → Bool
+most? [] n = true
+most? (r ∷ rs) n = leb (takes (r .1)) n && most? rs n
 
--- no call has more than three numbers
-pub call-long : (rs : List (ℕ × Form)) (b : ℕ) (ns : List ℕ) → 3 < length ns → callIn rs b ns ≡ none
+-- no call has more numbers than the rows take
+pub call-long : {A : Type 0} (rs : List (ℕ × FormOf A)) (n b : ℕ) (ns : List ℕ) → most? rs n ≡ true → n < length ns → callIn rs b ns ≡ none
 unfolding callIn
-call-long [] b ns h = refl
-call-long (r ∷ rs) b ns h =
+call-long [] n b ns m h = refl
+call-long (r ∷ rs) n b ns m h =
+    cases (either (leb (takes (r .1)) n))
+    (λ k.
+    let few = leb-true (takes (r .1)) n k in
     cases (either (eqb b (r .0)))
-    (λ t. rw t (made-other (r .1) ns (λ e. let z : ⊥ = omega (arith, takes-few (r .1)) in z)))
-    (λ f. rw f (call-long rs b ns h))
+    (λ t. rw t (made-other (r .1) ns (λ e. let z : ⊥ = omega arith in z)))
+    (λ f. rw f (call-long rs n b ns (rw k at m) h)))
+    (λ k. absurd (true≢false (sym (rw k at m))))
 
 -- ── a letter that is no call of so many numbers ──
 
 -- the letters of the rows that take n numbers, last first, after others
-abbrev pub lettersOf : List (ℕ × Form) → ℕ → List ℕ → List ℕ
+abbrev pub lettersOf : {A : Type 0} → List (ℕ × FormOf A) → ℕ → List ℕ → List ℕ
 lettersOf [] n bs = bs
 lettersOf (r ∷ rs) n bs = lettersOf rs n (cond (eqb (takes (r .1)) n) (r .0 ∷ bs) bs)
 
@@ -64,14 +68,14 @@ Apart [] b = Unit {0}
 Apart (k ∷ ks) b = Apart ks b × (b ≡ k → ⊥)
 
 -- those that were there before
-apart-before : (rs : List (ℕ × Form)) (n b : ℕ) (bs : List ℕ) → Apart (lettersOf rs n bs) b → Apart bs b
+apart-before : {A : Type 0} (rs : List (ℕ × FormOf A)) (n b : ℕ) (bs : List ℕ) → Apart (lettersOf rs n bs) b → Apart bs b
 apart-before [] n b bs h = h
 apart-before (r ∷ rs) n b bs h =
     cases (either (eqb (takes (r .1)) n))
     (λ t. let k : Apart (lettersOf rs n (r .0 ∷ bs)) b = rw t at h in apart-before rs n b (r .0 ∷ bs) k .0)
     (λ f. let k : Apart (lettersOf rs n bs) b = rw f at h in apart-before rs n b bs k)
 
-apart-none : (rs : List (ℕ × Form)) (n b : ℕ) (bs ns : List ℕ) → length ns ≡ n → Apart (lettersOf rs n bs) b → callIn rs b ns ≡ none
+apart-none : {A : Type 0} (rs : List (ℕ × FormOf A)) (n b : ℕ) (bs ns : List ℕ) → length ns ≡ n → Apart (lettersOf rs n bs) b → callIn rs b ns ≡ none
 unfolding callIn
 apart-none [] n b bs ns e h = refl
 apart-none (r ∷ rs) n b bs ns e h =
@@ -90,37 +94,87 @@ pub no-call : (b : ℕ) (ns : List ℕ) → Apart (lettersOf table (length ns) [
 unfolding callOf
 no-call b ns h = rw (apart-none table (length ns) b [] ns refl h)
 
+pub no-naming : (b end : ℕ) (ns : List ℕ) → Apart (lettersOf names (length ns) []) b → Parsed.No ≡ namedOf (namingOf b ns) end
+unfolding namingOf
+no-naming b end ns h = rw (apart-none names (length ns) b [] ns refl h)
+
 -- ── what is no letter ──
 
--- no row has this byte
-abbrev without : List (ℕ × Form) → ℕ → Bool
-without [] b = true
-without (r ∷ rs) b = not (eqb b (r .0)) && without rs b
+-- the letters of the rows, last first, after others
+abbrev pub allLetters : {A : Type 0} → List (ℕ × FormOf A) → List ℕ → List ℕ
+allLetters [] bs = bs
+allLetters (r ∷ rs) bs = allLetters rs (r .0 ∷ bs)
 
-none-not : {c : Call} → none ≡ some c → ⊥
+apart-those : {A : Type 0} (rs : List (ℕ × FormOf A)) (b : ℕ) (bs : List ℕ) → Apart (allLetters rs bs) b → Apart bs b
+apart-those [] b bs h = h
+apart-those (r ∷ rs) b bs h = apart-those rs b (r .0 ∷ bs) h .0
+
+-- a byte that no row has is not listed
+pub not-listed : {A : Type 0} (rs : List (ℕ × FormOf A)) (b : ℕ) (bs : List ℕ) → Apart (allLetters rs bs) b → false ≡ listed rs b
+unfolding listed
+not-listed [] b bs h = refl
+not-listed (r ∷ rs) b bs h = rw (ne-eqb b (r .0) (apart-those rs b (r .0 ∷ bs) h .1)) (not-listed rs b (r .0 ∷ bs) h)
+
+none-not : {A : Type 0} {c : A} → none ≡ some c → ⊥
 none-not p = let z : _≡_ {A = ℕ} 0 1 = cc in omega arith
 
-without-none : (rs : List (ℕ × Form)) (b : ℕ) (ns : List ℕ) → without rs b ≡ true → callIn rs b ns ≡ none
-unfolding callIn
-without-none [] b ns h = refl
-without-none (r ∷ rs) b ns h =
+-- and is no call
+unlisted-none : {A : Type 0} (rs : List (ℕ × FormOf A)) (b : ℕ) (ns : List ℕ) → listed rs b ≡ false → callIn rs b ns ≡ none
+unfolding callIn listed
+unlisted-none [] b ns h = refl
+unlisted-none (r ∷ rs) b ns h =
     cases (either (eqb b (r .0)))
+    (λ t. absurd (true≢false (rw t at h)))
+    (λ f. rw f (unlisted-none rs b ns (rw f at h)))
+
+-- whether no row of a table has the letter of a row of another
+abbrev apart? : {A B : Type 0} → List (ℕ × FormOf A) → List (ℕ × FormOf B) → Bool
+apart? rs [] = true
+apart? rs (q ∷ qs) = not (listed rs (q .0)) && apart? rs qs
+
+apart-listed : {A B : Type 0} (rs : List (ℕ × FormOf A)) (qs : List (ℕ × FormOf B)) (b : ℕ) → apart? rs qs ≡ true → listed qs b ≡ true → listed rs b ≡ false
+unfolding listed
+apart-listed rs [] b h k = absurd (true≢false (sym k))
+apart-listed rs (q ∷ qs) b h k =
+    cases (either (listed rs (q .0)))
     (λ t. absurd (true≢false (sym (rw t at h))))
-    (λ f. rw f (without-none rs b ns (rw f at h)))
+    (λ f.
+    cases (either (eqb b (q .0)))
+    (λ e. rw (eqb-true b (q .0) e) f)
+    (λ e. apart-listed rs qs b (rw f at h) (rw e at k)))
 
 module _ (b : ℕ) (ns : List ℕ) (c : Call) (is : callOf b ns ≡ some c) where
-  -- a call's letter is not the first of `store`, and no line feed
+  -- a call's letter is not the first of `store`, no line feed, and not that of a call with a name
   pub letter-not-s : b ≡ 115 → ⊥
-  unfolding callOf
-  letter-not-s e = none-not (sym (rw e (without-none table 115 ns refl)) ∙ is)
+  unfolding listed callOf
+  letter-not-s e = none-not (sym (rw e (unlisted-none table 115 ns refl)) ∙ is)
 
   pub letter-not-feed : b ≡ 10 → ⊥
-  unfolding callOf
-  letter-not-feed e = none-not (sym (rw e (without-none table 10 ns refl)) ∙ is)
+  unfolding listed callOf
+  letter-not-feed e = none-not (sym (rw e (unlisted-none table 10 ns refl)) ∙ is)
+
+  pub letter-not-name : listed names b ≡ false
+  unfolding listed callOf
+  letter-not-name =
+      cases (either (listed names b)) (λ t. absurd (none-not (sym (unlisted-none table b ns (apart-listed table names b refl t)) ∙ is))) (λ f. f)
 
   pub numbers-few : length ns ≤ 3
   unfolding callOf
-  numbers-few = cases (lt? 3 (length ns)) (λ h. absurd (none-not (sym (call-long table b ns h) ∙ is))) (λ h. h)
+  numbers-few = cases (lt? 3 (length ns)) (λ h. absurd (none-not (sym (call-long table 3 b ns refl h) ∙ is))) (λ h. h)
+
+module _ (b : ℕ) (ns : List ℕ) (n : Naming) (is : namingOf b ns ≡ some n) where
+  -- the letter of a call with a name is not the first of `store`, and has its row
+  pub naming-not-s : b ≡ 115 → ⊥
+  unfolding listed namingOf
+  naming-not-s e = none-not (sym (rw e (unlisted-none names 115 ns refl)) ∙ is)
+
+  pub naming-listed : listed names b ≡ true
+  unfolding namingOf
+  naming-listed = cases (either (listed names b)) (λ t. t) (λ f. absurd (none-not (sym (unlisted-none names b ns f) ∙ is)))
+
+  pub naming-few : length ns ≤ 3
+  unfolding namingOf
+  naming-few = cases (lt? 3 (length ns)) (λ h. absurd (none-not (sym (call-long names 3 b ns refl h) ∙ is))) (λ h. h)
 
 -- ── lines by the numbers that were read into a buffer ──
 
@@ -160,7 +214,7 @@ says-counted b r o long =
     (λ h.
     cases (lt? 6 r)
     (λ k. rw (lt-ltb 3 r h, lt-ltb 6 r k))
-    (λ k. rw (lt-ltb 3 r h, le-ltb 6 r k, call-long table b (take r o) (omega (arith, length-take r o)))))
+    (λ k. rw (lt-ltb 3 r h, le-ltb 6 r k, call-long table 3 b (take r o) refl (omega (arith, length-take r o)))))
     (λ h. let k : r ≤ 6 = omega arith in rw (le-ltb 3 r h, le-ltb 6 r k, take-three o r h long))
 
 pub call-says : (l : List ℕ) (r : ℕ) (o : List ℕ) → (length l ≡ 0 → ⊥) → length o ≡ 6 → counted r o ≡ numbersFrom l 1 3 []

@@ -9,14 +9,14 @@ use native.Mathlib.Omega.{arith}
 use borrow.Author.Tests.{ne-eqb, lt-ltb, le-ltb}
 use lib.ListN.{length, getD, take, drop, length-append, length-drop}
 use lib.Seq.{slice, drop-cons, take-at, slice-empty}
-use mathlib.Core.Logic.{_⊎_}
+use types.Run.{OneOf, miss}
 use denote.Enum.Declared.{tagOf}
 use Rattle.script.proofs.parse.Parsed.{the-type}
 use Rattle.answer.proofs.Cases.{cases, lt?}
 use Rattle.model.specs.declared.Call.{Call}
 use Rattle.script.specs.declared.number.Number.{Number}
 use Rattle.script.specs.declared.parse.Parsed.{Parsed}
-use Rattle.script.specs.declared.parse.Parsed.the-variants.{Store, Asks}
+use Rattle.script.specs.declared.parse.Parsed.the-variants.{Store, Asks, Named}
 use Rattle.script.specs.declared.reader.Line.the-variants.{Part, Done}
 use Rattle.script.specs.declared.said.Said.{Said}
 use Rattle.script.specs.declared.said.Near.{Near}
@@ -124,9 +124,10 @@ module _ (text : List ℕ) (at b : ℕ) (ms : List ℕ) (end : ℕ) (h : at < le
 -- ── what is found in one pass ──
 
 -- a letter and numbers that are no call
-pub near-none : (p : Parsed) (e : ℕ) → (tagOf the-type p ≡ 0) ⊎ (tagOf the-type p ≡ 2) → Near.No ≡ nearOf p e
+pub near-none : (p : Parsed) (e : ℕ) → OneOf (0 ∷ 2 ∷ 3 ∷ []) (tagOf the-type p) → Near.No ≡ nearOf p e
 near-none (Store x) e h = refl
-near-none (Asks c) e h = cases h (λ q. absurd (let z : ⊥ = omega arith in z)) (λ q. absurd (let z : ⊥ = omega arith in z))
+near-none (Asks c) e h = absurd (miss (0 ∷ 2 ∷ 3 ∷ []) 1 tt h)
+near-none (Named n k) e h = refl
 near-none Parsed.No e h = refl
 
 -- what was read in a short way, taken apart

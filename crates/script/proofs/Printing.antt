@@ -1,7 +1,6 @@
 -- Laws of printing: a byte, a digit more, a number, many of them and a whole reply behind what was written before.
 use Prim.Native.Nat.{ℕ, zero, suc, _+_, _-_, _*_, _/_, _%_, _^_, _<_, _≤_}
 use mathlib.Core.Path.{_≡_, refl, sym, ap, _∙_}
-use mathlib.Core.Logic.{_⊎_}
 use mathlib.Core.Bool.{true, cond, true≢false}
 use mathlib.Core.List.{List, [], _∷_, _++_, map, append-assoc}
 use native.Mathlib.Numerals.{add-one}
@@ -21,10 +20,11 @@ use Rattle.model.specs.declared.Call.the-variants.{Begin, Write, Erase, Seal, F
 use Rattle.model.specs.declared.Spelling.{Spelling}
 use Rattle.model.specs.declared.Spelling.the-variants.{Numbers, Blocks, NumberAndBlocks}
 use Rattle.model.specs.Calls.{spelling}
+use Rattle.model.specs.Command.{command}
 use Rattle.model.specs.Results.{plain, bornIn, oneThenBorn, itemsOf}
 use Rattle.model.proofs.Call.{the-type as call-type}
 use Rattle.script.specs.declared.parse.Parsed.{Parsed}
-use Rattle.script.specs.declared.parse.Parsed.the-variants.{Store, Asks, No}
+use Rattle.script.specs.declared.parse.Parsed.the-variants.{Store, Asks, Named, No}
 use Rattle.script.specs.Decimal.{decimal, led, spaced}
 use Rattle.script.specs.ReplyText.{itemText, itemsText, isBlocks, isNumbered, spellingOf, Room}
 use Rattle.script.proofs.parse.Parsed.{the-type}
@@ -238,17 +238,18 @@ pub room-any : {text out : List ℕ} {at : ℕ} {answer : Answer} → Room text 
 room-any room = let h = room .fits in omega arith
 
 -- a line that asks no call is answered in numbers
-pub spelling-none : (p : Parsed) → (tagOf the-type p ≡ 0) ⊎ (tagOf the-type p ≡ 2) → Numbers ≡ spellingOf p
+pub spelling-none : (p : Parsed) → OneOf (0 ∷ 2 ∷ 3 ∷ []) (tagOf the-type p) → Numbers ≡ spellingOf p
 unfolding spellingOf
 spelling-none (Store x) h = refl
-spelling-none (Asks c) h = cases h (λ e. absurd (let z : ⊥ = omega arith in z)) (λ e. absurd (let z : ⊥ = omega arith in z))
+spelling-none (Asks c) h = absurd (miss (0 ∷ 2 ∷ 3 ∷ []) 1 tt h)
+spelling-none (Named n e) h = refl
 spelling-none No h = refl
 
 -- the places of the calls that name no block, in the order of `Call`
 abbrev others : List ℕ
 others = 0 ∷ 4 ∷ 7 ∷ 8 ∷ 9 ∷ 10 ∷ 11 ∷ []
 
-spelling-plain : (c : Call) → OneOf others (tagOf call-type c) → Numbers ≡ spelling c
+spelling-plain : (c : Call) → OneOf others (tagOf call-type c) → Numbers ≡ spelling (command c)
 spelling-plain Begin h = refl
 spelling-plain (Write r x k) h = absurd (miss others 1 tt h)
 spelling-plain (Erase r x) h = absurd (miss others 2 tt h)

@@ -1,26 +1,30 @@
--- A LINE IS A CALL EXACTLY WHEN IT IS SPELLED AS THE GRAMMAR SAYS, and it says one thing.
-use Prim.Native.Nat.{ℕ, zero, suc, _+_, _≤_}
+-- A LINE ASKS FOR SOMETHING EXACTLY WHEN IT IS SPELLED AS THE GRAMMAR SAYS, and it asks for one thing.
+use Prim.Native.Nat.{ℕ, zero, suc, _+_, _<_, _≤_}
 use mathlib.Core.Path.{_≡_, refl, sym, ap, subst, _∙_}
 use mathlib.Core.Bool.{true, false, true≢false}
-use mathlib.Core.Logic.{_↔_}
+use mathlib.Core.Logic.{_↔_, _⊎_, inl, inr}
 use mathlib.Core.Option.{Option, none, some}
 use mathlib.Core.List.{List, [], _∷_, _++_, append-assoc, append-nil}
 use native.Mathlib.Omega.{arith}
-use borrow.Author.Tests.{eq-eqb, ne-eqb, eqb-true, ltb-false, le-ltb}
-use lib.ListN.{length, drop, length-append, length-drop}
-use lib.Seq.{drop-drop, drop-append-seam, drop-length}
+use borrow.Author.Tests.{eq-eqb, ne-eqb, eqb-true, eqb-false, ltb-true, ltb-false, lt-ltb, le-ltb}
+use lib.ListN.{length, take, drop, length-append, length-drop, take-append-drop}
+use lib.Seq.{slice, take-at, length-take-le, drop-drop, drop-append-seam, drop-length}
 use lib.Dec.{eqb, ltb}
 use Rattle.answer.proofs.Cases.{cases, either}
 use Rattle.model.specs.declared.Call.{Call}
+use Rattle.model.specs.declared.Naming.{Naming}
+use Rattle.model.specs.Command.{Command, command, commandOn}
 use Rattle.script.specs.declared.number.Number.{Number}
 use Rattle.script.specs.declared.parse.Six.{Six}
 use Rattle.script.specs.declared.parse.Parsed.{Parsed}
-use Rattle.script.specs.declared.parse.Parsed.the-variants.{Store, Asks}
+use Rattle.script.specs.declared.parse.Parsed.the-variants.{Store, Asks, Named}
 use Rattle.script.specs.Decimal.{decimal, spaced}
-use Rattle.script.specs.Letters.{callOf}
+use Rattle.script.specs.Letters.{callOf, namingOf}
 use Rattle.script.specs.Parse.{onNumber, numberFrom, numbersFrom, opens, store, sixOf, storeOf, saysOf, asksOf, callLine, parsed}
-use Rattle.script.specs.Grammar.{sixNumbers, AllSmall, Signs, Spelled}
-use Rattle.script.proofs.Letters.{letter-not-s, numbers-few}
+use Rattle.script.specs.Parse.{opensName, nameRun, namedOf, namesOf, nameLine}
+use Rattle.script.specs.Spoken.{Spoken, makes, asks, nothing, spokenAt, spoken}
+use Rattle.script.specs.Grammar.{sixNumbers, AllSmall, NoSpace, IsName, Signs, NameSigns, ByNumbers, ByName, Spelled}
+use Rattle.script.proofs.Letters.{letter-not-s, letter-not-name, numbers-few, naming-not-s, naming-listed, naming-few}
 use Rattle.script.proofs.Reading.{numbers-end, numbers-more}
 use Rattle.script.proofs.Digits.{Ends, number-spelt, number-read}
 
@@ -120,11 +124,39 @@ six-is (a ∷ b ∷ c ∷ d ∷ e ∷ []) h = absurd (let z : ⊥ = omega arith 
 six-is (a ∷ b ∷ c ∷ d ∷ e ∷ f ∷ []) h = refl
 six-is (a ∷ b ∷ c ∷ d ∷ e ∷ f ∷ g ∷ ms) h = absurd (let z : ⊥ = omega arith in z)
 
+-- ── names ──
+
+-- up to the first space stands no space
+run-no-space : (l : List ℕ) → NoSpace (take (nameRun l) l)
+unfolding nameRun
+run-no-space [] = tt
+run-no-space (b ∷ l) = cases (either (eqb b 32)) (λ t. rw t tt) (λ f. rw f (eqb-false b 32 f, run-no-space l))
+
+pub run-few : (l : List ℕ) → nameRun l ≤ length l
+unfolding nameRun
+run-few [] = omega arith
+run-few (b ∷ l) = let h = run-few l in cases (either (eqb b 32)) (λ t. rw t (omega arith)) (λ f. rw f (omega arith))
+
+-- bytes without a space stand before the space of the numbers, or the end
+run-name : (l ns : List ℕ) → NoSpace l → nameRun (l ++ spaced ns) ≡ length l
+unfolding nameRun spaced
+run-name [] [] h = refl
+run-name [] (n ∷ ns) h = refl
+run-name (b ∷ l) ns h = rw (ne-eqb b 32 (h .0)) (ap suc (run-name l ns (h .1)))
+
+-- what stands after a letter and a space
+after-two : (b s n : ℕ) (l : List ℕ) → drop (2 + n) (b ∷ s ∷ l) ≡ drop n l
+after-two b s n l = let e : 2 + n ≡ suc (suc n) = omega arith in rw e
+
+two-on : (b s n : ℕ) (l : List ℕ) → slice (0 + 2) (0 + (2 + n)) (b ∷ s ∷ l) ≡ take n l
+two-on b s n l = let e : 0 + (2 + n) ≡ suc (suc n) = omega arith in rw e
+
 -- ── what a line says is its spelling ──
 
 abbrev Says : List ℕ → Parsed → Type 0
-Says line (Store s) = Spelled line (Store s)
-Says line (Asks c) = Spelled line (Asks c)
+Says line (Store s) = Spelled line (makes s)
+Says line (Asks c) = ByNumbers line (command c)
+Says line (Named n e) = ByName line (commandOn n (slice (0 + 2) (0 + e) line))
 Says line Parsed.No = Unit {0}
 
 store-says : (line : List ℕ) → opens store line ≡ true → (x : Option (List ℕ)) → numbersFrom line 5 6 [] ≡ x → Says line (storeOf x)
@@ -138,7 +170,7 @@ store-says line o (some ns) e =
     rw t (opens-yes store line o ∙ ap (λ (x : List ℕ). store ++ x) (w .2 ∙ ap spaced (sym six)), subst AllSmall (sym six) (w .3)))
     (λ f. rw f tt)
 
-call-says : (line : List ℕ) (x : Option Call) (s : (c : Call) → x ≡ some c → Spelled line (Asks c)) → Says line (saysOf x)
+call-says : (line : List ℕ) (x : Option Call) (s : (c : Call) → x ≡ some c → ByNumbers line (command c)) → Says line (saysOf x)
 call-says line none s = tt
 call-says line (some c) s = s c refl
 
@@ -148,20 +180,71 @@ asks-says b l none e = tt
 asks-says b l (some ns) e =
     let w = told (b ∷ l) 1 3 [] ns e in
     call-says (b ∷ l) (callOf b ns)
-    (λ c is. (record { letter = b; numbers = ns; is = is }, ap (λ (x : List ℕ). b ∷ x) (w .2 ∙ ap spaced (sym (w .1))), subst AllSmall (sym (w .1)) (w .3)))
+    (λ c is.
+    record {
+      call = c;
+      is = refl;
+      signs = record { letter = b; numbers = ns; is = is };
+      spells = ap (λ (x : List ℕ). b ∷ x) (w .2 ∙ ap spaced (sym (w .1)));
+      small = subst AllSmall (sym (w .1)) (w .3);
+    })
 
 line-says : (line : List ℕ) → Says line (callLine line)
 unfolding callLine
 line-says [] = tt
 line-says (b ∷ l) = asks-says b l (numbersFrom (b ∷ l) 1 3 []) refl
 
+naming-says : (line : List ℕ) (end : ℕ) (x : Option Naming) (s : (n : Naming) → x ≡ some n → ByName line (commandOn n (slice (0 + 2) (0 + end) line)))
+    → Says line (namedOf x end)
+naming-says line end none s = tt
+naming-says line end (some n) s = s n refl
+
+-- a letter, a space, a name and numbers
+module _ (b : ℕ) (l : List ℕ) (h : 2 < 2 + nameRun l) where
+  abbrev line-of : List ℕ
+  line-of = b ∷ 32 ∷ l
+
+  abbrev name-of : List ℕ
+  name-of = take (nameRun l) l
+
+  names-says : (x : Option (List ℕ)) → numbersFrom line-of (2 + nameRun l) 3 [] ≡ x → Says line-of (namesOf b (2 + nameRun l) x)
+  unfolding Told
+  names-says none e = tt
+  names-says (some ns) e =
+      let w = told line-of (2 + nameRun l) 3 [] ns e in
+      let rest : drop (nameRun l) l ≡ spaced ns = sym (after-two b 32 (nameRun l) l) ∙ w .2 ∙ ap spaced (sym (w .1)) in
+      naming-says line-of (2 + nameRun l) (namingOf b ns)
+      (λ n is.
+      record {
+        naming = n;
+        name = name-of;
+        is = ap (commandOn n) (sym (two-on b 32 (nameRun l) l));
+        signs = record { letter = b; numbers = ns; is = is };
+        spells = ap (λ (x : List ℕ). b ∷ 32 ∷ x) (sym (take-append-drop (nameRun l) l) ∙ ap (λ (x : List ℕ). name-of ++ x) rest);
+        is-name = record { bytes = omega (arith, length-take-le (nameRun l) l (run-few l)); no-space = run-no-space l };
+        small = subst AllSmall (sym (w .1)) (w .3);
+      })
+
+name-says : (line : List ℕ) → Says line (nameLine line)
+unfolding nameLine
+name-says [] = tt
+name-says (b ∷ []) = tt
+name-says (b ∷ s ∷ l) =
+    cases (either (eqb s 32))
+    (λ t.
+    cases (either (ltb 2 (2 + nameRun l)))
+    (λ k. rw (eqb-true s 32 t, k) (names-says b l (ltb-true 2 (2 + nameRun l) k) (numbersFrom (b ∷ 32 ∷ l) (2 + nameRun l) 3 []) refl))
+    (λ k. rw (t, k) tt))
+    (λ f. rw f tt)
+
 -- a line that says something is not long, and is spelled so
-whole : (line : List ℕ) → length line ≤ 80 → (p : Parsed) → Says line p → (p ≡ Parsed.No → ⊥) → Spelled line p × (length line ≤ 80)
+whole : (line : List ℕ) → length line ≤ 80 → (p : Parsed) → Says line p → (p ≡ Parsed.No → ⊥) → Spelled line (spokenAt line 0 p) × (length line ≤ 80)
 whole line h (Store s) w n = (w, h)
-whole line h (Asks c) w n = (w, h)
+whole line h (Asks c) w n = (inl w, h)
+whole line h (Named k e) w n = (inr w, h)
 whole line h Parsed.No w n = absurd (n refl)
 
-parsed-whole : (line : List ℕ) → (parsed line ≡ Parsed.No → ⊥) → Spelled line (parsed line) × (length line ≤ 80)
+parsed-whole : (line : List ℕ) → (parsed line ≡ Parsed.No → ⊥) → Spelled line (spokenAt line 0 (parsed line)) × (length line ≤ 80)
 unfolding parsed
 parsed-whole line n =
     cases (either (ltb 80 (length line)))
@@ -170,14 +253,23 @@ parsed-whole line n =
     let h = ltb-false 80 (length line) f in
     cases (either (opens store line))
     (λ o. rw (f, o) (whole line h (storeOf (numbersFrom line 5 6 [])) (store-says line o (numbersFrom line 5 6 []) refl) (rw (f, o) at n)))
-    (λ o. rw (f, o) (whole line h (callLine line) (line-says line) (rw (f, o) at n))))
+    (λ o.
+    cases (either (opensName line))
+    (λ k. rw (f, o, k) (whole line h (nameLine line) (name-says line) (rw (f, o, k) at n)))
+    (λ k. rw (f, o, k) (whole line h (callLine line) (line-says line) (rw (f, o, k) at n)))))
 
 -- ── what is spelled is said ──
 
--- a call's letter opens no `store` line
-letter-apart : (c : Call) (s : Signs c) (l : List ℕ) → opens store (s .letter ∷ l) ≡ false
+-- a letter that is not the first of `store` opens no `store` line
+letter-apart : (b : ℕ) (l : List ℕ) → (b ≡ 115 → ⊥) → opens store (b ∷ l) ≡ false
 unfolding opens
-letter-apart c s l = rw (ne-eqb (s .letter) 115 (letter-not-s (s .letter) (s .numbers) c (s .is)))
+letter-apart b l h = rw (ne-eqb b 115 h)
+
+signs-apart : (c : Call) (s : Signs c) (l : List ℕ) → opens store (s .letter ∷ l) ≡ false
+signs-apart c s l = letter-apart (s .letter) l (letter-not-s (s .letter) (s .numbers) c (s .is))
+
+naming-apart : (n : Naming) (s : NameSigns n) (l : List ℕ) → opens store (s .letter ∷ l) ≡ false
+naming-apart n s l = letter-apart (s .letter) l (naming-not-s (s .letter) (s .numbers) n (s .is))
 
 -- a call's letter and numbers are said
 pub said : (c : Call) (s : Signs c) → suc (length (spaced (s .numbers))) ≤ 80 → AllSmall (s .numbers) → parsed (s .letter ∷ spaced (s .numbers)) ≡ Asks c
@@ -185,27 +277,79 @@ unfolding parsed callLine
 said c s h k =
     let line : List ℕ = s .letter ∷ spaced (s .numbers) in
     let few = numbers-few (s .letter) (s .numbers) c (s .is) in
-    rw (le-ltb 80 (length line) h, letter-apart c s (spaced (s .numbers)), numbers-read line 1 3 [] (s .numbers) few (omega arith) refl k, s .is)
+    rw (
+      le-ltb 80 (length line) h,
+      signs-apart c s (spaced (s .numbers)),
+      letter-not-name (s .letter) (s .numbers) c (s .is),
+      numbers-read line 1 3 [] (s .numbers) few (omega arith) refl k,
+      s .is,
+    )
 
-spelled-said : (line : List ℕ) (p : Parsed) → length line ≤ 80 → Spelled line p → parsed line ≡ p
-unfolding parsed
-spelled-said line (Store s) h w =
+-- a letter, a name and numbers are said
+named-said : (n : Naming) (s : NameSigns n) (l : List ℕ) → suc (suc (length (l ++ spaced (s .numbers)))) ≤ 80 → IsName l → AllSmall (s .numbers)
+    → parsed (s .letter ∷ 32 ∷ (l ++ spaced (s .numbers))) ≡ Named n (2 + length l)
+unfolding parsed nameLine
+named-said n s l h i k =
+    let line : List ℕ = s .letter ∷ 32 ∷ (l ++ spaced (s .numbers)) in
+    let few = naming-few (s .letter) (s .numbers) n (s .is) in
+    let long = length-append l (spaced (s .numbers)) in
+    let rest : drop (2 + length l) line ≡ spaced (s .numbers) =
+    after-two (s .letter) 32 (length l) (l ++ spaced (s .numbers)) ∙ drop-append-seam l (spaced (s .numbers)) in
+    rw (
+      le-ltb 80 (length line) h,
+      naming-apart n s (32 ∷ (l ++ spaced (s .numbers))),
+      naming-listed (s .letter) (s .numbers) n (s .is),
+      run-name l (s .numbers) (i .no-space),
+      lt-ltb 2 (2 + length l) (omega (arith, i .bytes)),
+      numbers-read line (2 + length l) 3 [] (s .numbers) few (omega arith) rest k,
+      s .is,
+    )
+
+by-numbers-said : (line : List ℕ) (c : Command) → length line ≤ 80 → ByNumbers line c → spoken line ≡ asks c
+unfolding spoken
+by-numbers-said line c h w =
+    let k : suc (length (spaced (w .signs .numbers))) ≤ 80 = rw (w .spells) at h in
+    ap (spokenAt line 0) (ap parsed (w .spells) ∙ said (w .call) (w .signs) k (w .small)) ∙ ap asks (w .is)
+
+by-name-said : (line : List ℕ) (c : Command) → length line ≤ 80 → ByName line c → spoken line ≡ asks c
+unfolding spoken
+by-name-said line c h w =
+    let ns = w .signs .numbers in
+    let k : suc (suc (length (w .name ++ spaced ns))) ≤ 80 = rw (w .spells) at h in
+    let n : ℕ = length (w .name) in
+    let is : slice (0 + 2) (0 + (2 + n)) line ≡ w .name =
+    ap (slice (0 + 2) (0 + (2 + n))) (w .spells) ∙ two-on (w .signs .letter) 32 n (w .name ++ spaced ns) ∙ take-at (w .name) (spaced ns) n refl in
+    ap (spokenAt line 0) (ap parsed (w .spells) ∙ named-said (w .naming) (w .signs) (w .name) k (w .is-name) (w .small))
+    ∙ ap (λ (l : List ℕ). asks (commandOn (w .naming) l)) is
+    ∙ ap asks (w .is)
+
+spelled-said : (line : List ℕ) (s : Spoken) → length line ≤ 80 → Spelled line s → spoken line ≡ s
+unfolding spoken parsed
+spelled-said line (makes s) h w =
     let text : List ℕ = store ++ spaced (sixNumbers s) in
     let long = length-append store (spaced (sixNumbers s)) in
     let k : length text ≤ 80 = rw (w .0) at h in
     let read = numbers-read text 5 6 [] (sixNumbers s) (omega arith) (omega arith) refl (w .1) in
     rw (w .0, le-ltb 80 (length text) k, opens-word store (spaced (sixNumbers s)), read)
-spelled-said line (Asks c) h w =
-    let k : suc (length (spaced (w .0 .numbers))) ≤ 80 = rw (w .1) at h in
-    ap parsed (w .1) ∙ said c (w .0) k (w .2)
-spelled-said line Parsed.No h w = absurd w
+spelled-said line (asks c) h (inl w) = by-numbers-said line c h w
+spelled-said line (asks c) h (inr w) = by-name-said line c h w
+spelled-said line nothing h w = absurd w
 
--- A LINE SAYS p EXACTLY WHEN IT IS SPELLED SO, has at most 80 bytes, and its numbers 1 to 7 digits
-pub parsed-iff : (line : List ℕ) → (p : Parsed) → (p ≡ Parsed.No → ⊥) → (parsed line ≡ p) ↔ (Spelled line p × (length line ≤ 80))
-parsed-iff line p n =
-    (λ e. let w = parsed-whole line (λ q. n (sym e ∙ q)) in rw e at w, λ w. spelled-said line p (w .1) (w .0))
+-- A LINE ASKS FOR s EXACTLY WHEN IT IS SPELLED SO, has at most 80 bytes, and its numbers 1 to 7 digits
+pub parsed-iff : (line : List ℕ) → (s : Spoken) → (s ≡ nothing → ⊥) → (spoken line ≡ s) ↔ (Spelled line s × (length line ≤ 80))
+unfolding spoken
+parsed-iff line s n =
+    (λ e. let w = parsed-whole line (λ q. n (sym e ∙ ap (spokenAt line 0) q)) in rw e at w, λ w. spelled-said line s (w .1) (w .0))
 
--- the two kinds of lines are never spelled alike
-pub spelled-apart : (line : List ℕ) (s : Six) (c : Call) → Spelled line (Store s) → Spelled line (Asks c) → ⊥
+-- one spelling asks for one thing
+pub asks-one : (line : List ℕ) (s t : Spoken) → length line ≤ 80 → Spelled line s → Spelled line t → s ≡ t
+asks-one line s t h w v = sym (spelled-said line s h w) ∙ spelled-said line t h v
+
+-- the two kinds of lines are never spelled alike, however long
+pub spelled-apart : (line : List ℕ) (s : Six) (c : Command) → Spelled line (makes s) → Spelled line (asks c) → ⊥
 spelled-apart line s c w v =
-    true≢false (sym (opens-word store (spaced (sixNumbers s))) ∙ ap (opens store) (sym (w .0) ∙ v .1) ∙ letter-apart c (v .0) (spaced (v .0 .numbers)))
+    true≢false (sym (opens-word store (spaced (sixNumbers s))) ∙ ap (opens store) (sym (w .0)) ∙ apart v)
+  where
+    apart : ByNumbers line c ⊎ ByName line c → opens store line ≡ false
+    apart (inl u) = ap (opens store) (u .spells) ∙ signs-apart (u .call) (u .signs) (spaced (u .signs .numbers))
+    apart (inr u) = ap (opens store) (u .spells) ∙ naming-apart (u .naming) (u .signs) (32 ∷ (u .name ++ spaced (u .signs .numbers)))

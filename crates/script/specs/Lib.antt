@@ -4,5 +4,6 @@ pub mod Lines
 pub mod Letters
 pub mod Parse
 pub mod Said
+pub mod Spoken
 pub mod Grammar
 pub mod ReplyText

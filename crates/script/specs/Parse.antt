@@ -1,5 +1,6 @@
 -- What a line says, by reading it from its start: "An empty or longer line is no call" (10.2); the five letters `store` and six numbers,
--- or a call's letter and its numbers, to the line's end.
+-- or a call's letter and its numbers, to the line's end; or a letter, a name and its numbers: "In a script a name is any run of one or more bytes without
+-- a space." (order 6)
 use Prim.Native.Nat.{ℕ, zero, suc, _+_, _-_, _*_}
 use mathlib.Core.Bool.{Bool, true, false, cond, _&&_}
 use mathlib.Core.List.{List, [], _∷_, _++_}
@@ -7,11 +8,12 @@ use mathlib.Core.Option.{Option, none, some}
 use lib.ListN.{length, getD, take, drop}
 use lib.Dec.{eqb, leb, ltb}
 use Rattle.model.specs.declared.Call.{Call}
+use Rattle.model.specs.declared.Naming.{Naming}
 use Rattle.script.specs.declared.number.Number.{Number}
 use Rattle.script.specs.declared.parse.Six.{Six}
 use Rattle.script.specs.declared.parse.Parsed.{Parsed}
-use Rattle.script.specs.declared.parse.Parsed.the-variants.{Store, Asks}
-use Rattle.script.specs.Letters.{callOf}
+use Rattle.script.specs.declared.parse.Parsed.the-variants.{Store, Asks, Named}
+use Rattle.script.specs.Letters.{names, listed, callOf, namingOf}
 
 abbrev pub isDigit : ℕ → Bool
 isDigit b = leb 48 b && leb b 57
@@ -87,12 +89,44 @@ abbrev pub asksOf : ℕ → Option (List ℕ) → Parsed
 asksOf b none = Parsed.No
 asksOf b (some ns) = saysOf (callOf b ns)
 
--- a line that does not open with `store`
+-- a line of a letter and numbers
 unfoldable pub callLine : List ℕ → Parsed
 callLine [] = Parsed.No
 callLine (b ∷ l) = asksOf b (numbersFrom (b ∷ l) 1 3 [])
 
+-- whether a line opens with the letter of a call that has a name
+abbrev pub opensName : List ℕ → Bool
+opensName [] = false
+opensName (b ∷ l) = listed names b
+
+-- how many bytes stand before the first space, or the end
+unfoldable pub nameRun : List ℕ → ℕ
+nameRun [] = 0
+nameRun (b ∷ l) = cond (eqb b 32) 0 (suc (nameRun l))
+
+-- a call on the name that ends at a position of its line
+abbrev pub namedOf : Option Naming → ℕ → Parsed
+namedOf none end = Parsed.No
+namedOf (some n) end = Named n end
+
+-- what a letter, a name that ends there and n numbers say, of which the first is x
+unfoldable pub namedBy : ℕ → ℕ → ℕ → ℕ → Parsed
+namedBy b end n x = cond (ltb 1 n) Parsed.No (namedOf (namingOf b (take n (x ∷ []))) end)
+
+abbrev pub namesOf : ℕ → ℕ → Option (List ℕ) → Parsed
+namesOf b end none = Parsed.No
+namesOf b end (some ns) = namedOf (namingOf b ns) end
+
+-- a line of a letter, a space, a name and numbers: the name begins at position 2, and has a byte
+unfoldable pub nameLine : List ℕ → Parsed
+nameLine [] = Parsed.No
+nameLine (b ∷ []) = Parsed.No
+nameLine (b ∷ s ∷ l) =
+    let end = 2 + nameRun l in
+    cond (eqb s 32 && ltb 2 end) (namesOf b end (numbersFrom (b ∷ s ∷ l) end 3 [])) Parsed.No
+
 -- what a line says
 unfoldable pub parsed : List ℕ → Parsed
 parsed line =
-    cond (ltb 80 (length line)) Parsed.No (cond (opens store line) (storeOf (numbersFrom line 5 6 [])) (callLine line))
+    cond (ltb 80 (length line)) Parsed.No
+    (cond (opens store line) (storeOf (numbersFrom line 5 6 [])) (cond (opensName line) (nameLine line) (callLine line)))

@@ -13,8 +13,9 @@ use Rattle.model.specs.declared.Spelling.{Spelling}
 use Rattle.model.specs.declared.Spelling.the-variants.{Numbers, Blocks, NumberAndBlocks}
 use Rattle.model.specs.Results.{Item, plain, born, itemsOf, numbersOf}
 use Rattle.model.specs.Calls.{spelling}
+use Rattle.model.specs.Command.{command}
 use Rattle.script.specs.declared.parse.Parsed.{Parsed}
-use Rattle.script.specs.declared.parse.Parsed.the-variants.{Store, Asks, No}
+use Rattle.script.specs.declared.parse.Parsed.the-variants.{Store, Asks, Named, No}
 use Rattle.script.specs.Decimal.{led}
 use Rattle.script.specs.Parse.{isDigit}
 
@@ -49,7 +50,8 @@ isNumbered NumberAndBlocks n = ltb 1 n
 -- how the numbers of the reply to a line are spelled
 unfoldable pub spellingOf : Parsed → Spelling
 spellingOf (Store x) = Numbers
-spellingOf (Asks c) = spelling c
+spellingOf (Asks c) = spelling (command c)
+spellingOf (Named n e) = Numbers
 spellingOf No = Numbers
 
 -- how many numbers an answer gives

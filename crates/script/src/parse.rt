@@ -1,13 +1,15 @@
 // What a line says.
 ghost use mathlib.Core.Path.{_≡_};
-ghost use Prim.Native.Nat.{_≤_, _<_};
+ghost use Prim.Native.Nat.{_+_, _≤_, _<_};
 ghost use mathlib.Core.List.{[], _∷_};
-ghost use lib.ListN.{length};
-ghost use Rattle.script.specs.Letters.{callOf};
+ghost use lib.ListN.{length, drop};
+ghost use Rattle.script.specs.Letters.{names, listed, callOf, namingOf};
 ghost use Rattle.script.specs.Parse.{numbersFrom, counted, opens, store, storeOf, saysOf, saysBy, callLine, parsed};
+ghost use Rattle.script.specs.Parse.{opensName, nameRun, namedOf, namedBy, nameLine};
 use crate::number::Number;
 use crate::number::number_at;
 use model::Call;
+use model::Naming;
 
 // The six numbers of a store line.
 pub struct Six {
@@ -22,6 +24,8 @@ pub struct Six {
 pub enum Parsed {
     Store(Six),
     Asks(Call),
+    // A call on a name, and the position in the line where the name ends; it begins at position 2.
+    Named(Naming, u32),
     No,
 }
 
@@ -145,7 +149,7 @@ pub fn call_of(letter: u8, count: usize, x: u32, y: u32, z: u32) -> Parsed
     }
 }
 
-// What a line says that does not open with the five letters.
+// What a line of a letter and numbers says.
 fn call_line(line: &[u8]) -> Parsed
     ensures { λ r. ⌜ r ≡ callLine (now (line .entry)) ⌝ }
 {
@@ -157,7 +161,97 @@ fn call_line(line: &[u8]) -> Parsed
     call_of(line[0], count, n[0], n[1], n[2])
 }
 
-// What a line says: the six numbers of a store, a call, or neither.
+// Whether a letter is that of a call with a name.
+fn has_name(letter: u8) -> bool
+    ensures { λ r. ⌜ r ≡ listed names letter ⌝ }
+{
+    match letter {
+        b'N' => true,
+        b'U' => true,
+        b'M' => true,
+        _ => false,
+    }
+}
+
+// Whether the line begins with such a letter.
+fn opens_name(line: &[u8]) -> bool
+    ensures { λ r. ⌜ r ≡ opensName (now (line .entry)) ⌝ }
+{
+    if line.len() == 0 {
+        return false;
+    }
+    has_name(line[0])
+}
+
+// The end of the name at a position: the next space, or the line's end.
+fn name_end(line: &[u8], at: usize) -> usize
+    requires { ⌜ at ≤ length (now line) ⌝ }
+    ensures is { λ r. ⌜ r ≡ at + nameRun (drop at (now (line .entry))) ⌝ }
+    ensures range { λ r. ⌜ (at ≤ r) × (r ≤ length (now (line .entry))) ⌝ }
+{
+    let mut i = at;
+    while i < line.len() {
+        if line[i] == 32 {
+            return i;
+        }
+        i += 1;
+    }
+    i
+}
+
+// The calls of a letter and a name. Each call of the table has its arm in one of two functions, the one that its numbers choose.
+fn name_of(letter: u8, end: u32) -> Parsed
+    ensures { λ r. ⌜ r ≡ namedOf (namingOf letter []) end ⌝ }
+{
+    match letter {
+        b'U' => Parsed::Named(Naming::Detach, end),
+        b'M' => Parsed::Named(Naming::Resolve, end),
+        _ => Parsed::No,
+    }
+}
+
+// The calls of a letter, a name and one number.
+fn name_and_one(letter: u8, end: u32, x: u32) -> Parsed
+    ensures { λ r. ⌜ r ≡ namedOf (namingOf letter (x ∷ [])) end ⌝ }
+{
+    match letter {
+        b'N' => Parsed::Named(Naming::Attach(x), end),
+        _ => Parsed::No,
+    }
+}
+
+// What a letter, a name and as many numbers say.
+fn naming_of(letter: u8, end: u32, count: usize, x: u32) -> Parsed
+    ensures { λ r. ⌜ r ≡ namedBy letter end count x ⌝ }
+{
+    match count {
+        0 => name_of(letter, end),
+        1 => name_and_one(letter, end, x),
+        _ => Parsed::No,
+    }
+}
+
+// What a line of a letter, a name and numbers says.
+fn name_line(line: &[u8]) -> Parsed
+    requires { ⌜ length (now line) ≤ 80 ⌝ }
+    ensures { λ r. ⌜ r ≡ nameLine (now (line .entry)) ⌝ }
+{
+    if line.len() < 3 {
+        return Parsed::No;
+    }
+    if line[1] != 32 {
+        return Parsed::No;
+    }
+    let end = name_end(line, 2);
+    if end == 2 {
+        return Parsed::No;
+    }
+    let mut n = [0u32; 6];
+    let count = numbers_at(line, end, 3, &mut n);
+    naming_of(line[0], end as u32, count, n[0])
+}
+
+// What a line says: the six numbers of a store, a call, a call on a name, or none of these.
 pub fn parse(line: &[u8]) -> Parsed
     ensures { λ r. ⌜ r ≡ parsed (now (line .entry)) ⌝ }
 {
@@ -166,6 +260,9 @@ pub fn parse(line: &[u8]) -> Parsed
     }
     if opens_store(line) {
         return store_line(line);
+    }
+    if opens_name(line) {
+        return name_line(line);
     }
     call_line(line)
 }

@@ -3,7 +3,7 @@ ghost use mathlib.Core.Path.{_≡_};
 ghost use Prim.Native.Nat.{_+_, _-_, _≤_};
 ghost use lib.ListN.{length, drop};
 ghost use Rattle.script.specs.Parse.{numberFrom};
-ghost use Rattle.script.specs.Said.{saidAt, behindFirst, Agrees, Tells, Begun, Next, nearOf};
+ghost use Rattle.script.specs.Said.{saidAt, NameIn, behindFirst, Agrees, Tells, Begun, Next, nearOf};
 use crate::number::Number;
 use crate::parse::Parsed;
 use crate::parse::bare_of;
@@ -163,6 +163,7 @@ fn near_at(text: &[u8], at: usize) -> Near
 pub fn said_at(text: &[u8], at: usize) -> Said
     ensures is { λ r. ⌜ r ≡ saidAt (now (text .entry)) at ⌝ }
     ensures range { λ r. ⌜ (at ≤ r .end) × (r .end ≤ at + (length (now (text .entry)) - at)) ⌝ }
+    ensures name { λ r. ⌜ NameIn (now (text .entry)) at (r .says) (r .end) ⌝ }
 {
     let near = near_at(text, at);
     let Near::Asks(c, end) = near else {

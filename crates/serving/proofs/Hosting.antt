@@ -24,8 +24,7 @@ use Rattle.model.specs.Memory.{Memory, lent, sound?, makeReply}
 use Rattle.model.specs.SoundStore.{SoundStore}
 use Rattle.model.proofs.SoundTest.{sound-iff}
 use Rattle.script.specs.Said.{saidAt}
-use Rattle.script.specs.declared.parse.Parsed.{Parsed}
-use Rattle.script.specs.declared.parse.Parsed.the-variants.{Store, Asks, No}
+use Rattle.script.specs.Spoken.{Spoken, makes, asks, nothing, spokenAt}
 use Rattle.session.specs.declared.Session.{Session}
 use Rattle.session.specs.Step.{geometryIn, startedBy, stepSession, Kept}
 use Rattle.serving.specs.declared.Served.{Served}
@@ -48,18 +47,18 @@ module _ (s₀ : Session) where
   started (accepted l) s g o = inr refl
   started (refused n) s g o = o
 
-  stepped : (s : Session) (M : Memory) (p : Parsed) → One s → One (stepSession s M p)
+  stepped : (s : Session) (M : Memory) (p : Spoken) → One s → One (stepSession s M p)
   unfolding stepSession
-  stepped s M (Store x) o = started (makeReply (geometryIn x) M) s (geometryIn x) o
-  stepped s M (Asks c) o = o
-  stepped s M No o = o
+  stepped s M (makes x) o = started (makeReply (geometryIn x) M) s (geometryIn x) o
+  stepped s M (asks c) o = o
+  stepped s M nothing o = o
 
   one-of : (n : ℕ) (text : List ℕ) (room : ℕ) (p : Part) → One (p .session) → One (servedMost n text room p .session)
   unfolding servedMost servedLine
   one-of zero text room p o = o
   one-of (suc n) text room p o =
       either-way (goesOn text room p) (servedMost n text room (servedLine text p)) p
-      (one-of n text room (servedLine text p) (stepped (p .session) (p .memory) (saidAt text (p .at) .says) o))
+      (one-of n text room (servedLine text p) (stepped (p .session) (p .memory) (spokenAt text (p .at) (saidAt text (p .at) .says)) o))
       o
 
 pub narrow-after : (text : List ℕ) (room at : ℕ) (s : Session) (M : Memory) (buffer : List ℕ) (r : Served) (left : Memory) (after : List ℕ) → Narrow s

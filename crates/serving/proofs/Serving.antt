@@ -17,7 +17,10 @@ use Rattle.log.proofs.Writing.{write-none, write-write}
 use Rattle.model.specs.Memory.{Memory, lent}
 use Rattle.model.specs.declared.Spelling.{Spelling}
 use Rattle.script.specs.ReplyText.{spellingOf, replyText, Room}
-use Rattle.script.specs.Said.{saidAt}
+use Rattle.script.specs.Said.{saidAt, NameIn}
+use Rattle.script.specs.Spoken.{Spoken, spokenAt}
+use Rattle.script.specs.declared.parse.Parsed.{Parsed}
+use Rattle.script.specs.declared.parse.Parsed.the-variants.{Store, Asks, Named}
 use Rattle.script.specs.declared.said.Said.{Said}
 use Rattle.session.specs.declared.Session.{Session}
 use Rattle.session.specs.declared.Stepped.{Stepped}
@@ -82,6 +85,13 @@ no-store-kept s t bytes numbers e a b d =
       inside = λ m. absurd (let z : ⊥ = omega arith in z);
       sound = λ m. absurd (let z : ⊥ = omega arith in z);
     }
+
+-- a name that ends in its line ends in the text
+pub name-inside : (text : List ℕ) (at end : ℕ) (p : Parsed) → NameIn text at p end → NameIn text at p (length text)
+name-inside text at end (Store x) w = tt
+name-inside text at end (Asks c) w = tt
+name-inside text at end (Named n e) w = record { begun = w .begun; in-line = omega (arith, w .in-line, w .in-text); in-text = omega arith }
+name-inside text at end Parsed.No w = tt
 
 -- ── the buffer ──
 
@@ -162,11 +172,11 @@ module _ (text : List ℕ) (whole : Part) (t₀ bytes₀ numbers₀ replies₀ :
 
     -- one line more
     module _ (d : Said) (is : d ≡ saidAt text i) (a : Stepped) (t′ bytes′ numbers′ replies′ : List ℕ) (used′ : ℕ)
-        (reply : replyOf (a .answer) numbers′ ≡ stepReply s (lent t bytes numbers) (d .says))
-        (session : a .session ≡ stepSession s (lent t bytes numbers) (d .says))
-        (tables : t′ ≡ stepMemory s (lent t bytes numbers) (d .says) .tables)
-        (log : bytes′ ≡ stepMemory s (lent t bytes numbers) (d .says) .log)
-        (out : numbers′ ≡ stepMemory s (lent t bytes numbers) (d .says) .out)
+        (reply : replyOf (a .answer) numbers′ ≡ stepReply s (lent t bytes numbers) (spokenAt text i (d .says)))
+        (session : a .session ≡ stepSession s (lent t bytes numbers) (spokenAt text i (d .says)))
+        (tables : t′ ≡ stepMemory s (lent t bytes numbers) (spokenAt text i (d .says)) .tables)
+        (log : bytes′ ≡ stepMemory s (lent t bytes numbers) (spokenAt text i (d .says)) .log)
+        (out : numbers′ ≡ stepMemory s (lent t bytes numbers) (spokenAt text i (d .says)) .out)
         (k : Spelling) (spelled : k ≡ spellingOf (d .says))
         (put : used′ ≡ used + length (replyText k (replyOf (a .answer) numbers′)))
         (wrote : replies′ ≡ writeAt replies used (replyText k (replyOf (a .answer) numbers′))) where
@@ -176,18 +186,22 @@ module _ (text : List ℕ) (whole : Part) (t₀ bytes₀ numbers₀ replies₀ :
       abbrev M : Memory
       M = lent t bytes numbers
 
+      -- what the line asks for
+      abbrev heard : Said → Spoken
+      heard e = spokenAt text i (e .says)
+
       abbrev M′ : Memory
-      M′ = stepMemory s M (d .says)
+      M′ = stepMemory s M (heard d)
 
       taken-now : take used′ replies′ ≡ take used replies ++ x
       taken-now =
           ap (λ (l : List ℕ). take used′ l) wrote ∙ ap (λ (n : ℕ). take n (writeAt replies used x)) put
           ∙ taken replies x used (omega (arith, r .inside, r .same))
 
-      text-is : x ≡ replyText (spellingOf (saidAt text i .says)) (stepReply s M (saidAt text i .says))
+      text-is : x ≡ replyText (spellingOf (saidAt text i .says)) (stepReply s M (heard (saidAt text i)))
       text-is =
-          ap (replyText k) reply ∙ ap (λ (q : Spelling). replyText q (stepReply s M (d .says))) spelled
-          ∙ ap (λ (e : Said). replyText (spellingOf (e .says)) (stepReply s M (e .says))) is
+          ap (replyText k) reply ∙ ap (λ (q : Spelling). replyText q (stepReply s M (heard d))) spelled
+          ∙ ap (λ (e : Said). replyText (spellingOf (e .says)) (stepReply s M (heard e))) is
 
       next-is : standing (d .end + 1) (a .session) (lent t′ bytes′ numbers′) replies′ used′ ≡ servedLine text p
       unfolding servedLine
@@ -195,8 +209,8 @@ module _ (text : List ℕ) (whole : Part) (t₀ bytes₀ numbers₀ replies₀ :
           ap (λ (e : Said). standing (e .end + 1) (a .session) (lent t′ bytes′ numbers′) replies′ used′) is
           ∙ part-as
           (taken-now ∙ ap (λ (l : List ℕ). take used replies ++ l) text-is)
-          (session ∙ ap (λ (e : Said). stepSession s M (e .says)) is)
-          (lent-as M′ tables log out ∙ ap (λ (e : Said). stepMemory s M (e .says)) is)
+          (session ∙ ap (λ (e : Said). stepSession s M (heard e)) is)
+          (lent-as M′ tables log out ∙ ap (λ (e : Said). stepMemory s M (heard e)) is)
 
       pub turned : i < length text → used + longest ≤ length replies₀ → length t′ ≡ length t → length bytes′ ≡ length bytes → length numbers′ ≡ length numbers
           → length replies′ ≡ length replies → Kept (a .session) t′ bytes′ numbers′ → Running (a .session) t′ bytes′ numbers′ replies′ used′ (d .end + 1)

@@ -17,7 +17,7 @@ use Rattle.geometry.proofs.Made.{inside-fits}
 use Rattle.log.specs.Word.{writeAt}
 use Rattle.model.specs.Memory.{Memory, sound?}
 use Rattle.model.proofs.SoundTest.{sound-iff}
-use Rattle.model.proofs.Keeps.{or-false}
+use Rattle.model.proofs.ByNumber.{or-false}
 use Rattle.script.specs.Lines.{linesOf}
 use Rattle.session.specs.declared.Session.{Session}
 use Rattle.ledger.specs.Transcript.{Runner, without-store, with-store, printed, left}

@@ -14,12 +14,11 @@ use Rattle.geometry.specs.Limits.{Inside, fits}
 use Rattle.geometry.proofs.Made.{fits-inside}
 use Rattle.model.specs.Layout.{made}
 use Rattle.model.specs.Memory.{Memory, after, makeReply, makeAfter}
-use Rattle.model.specs.declared.Call.{Call}
+use Rattle.model.specs.Command.{Command}
 use Rattle.model.proofs.Keeps.{Long}
 use Rattle.model.proofs.Replies.{not-short}
 use Rattle.store.proofs.Lengths.{tables-length, log-length, out-length, make-length}
-use Rattle.script.specs.declared.parse.Parsed.{Parsed}
-use Rattle.script.specs.declared.parse.Parsed.the-variants.{Store, Asks, No}
+use Rattle.script.specs.Spoken.{Spoken, makes, asks, nothing}
 use Rattle.session.specs.declared.Session.{Session}
 use Rattle.session.specs.Step.{stepReply, stepMemory, stepSession, startedBy}
 use Rattle.ledger.specs.Ledger.{Ledger, fresh, step}
@@ -71,35 +70,35 @@ made-stands R g s M a h =
 
 -- ── any line ──
 
-pub line-says : (R : Runner) (p : Parsed) (s : Session) (M : Memory) → Ample M → Stands R s M → stepReply s M p ≡ lineSays R p
+pub line-says : (R : Runner) (p : Spoken) (s : Session) (M : Memory) → Ample M → Stands R s M → stepReply s M p ≡ lineSays R p
 unfolding stepReply lineSays
-line-says R No s M a h = refl
-line-says R (Store x) s M a h = made-says (asked x) M a
-line-says without-store (Asks c) s M a h = rw (eq-eqb (s .made) 0 h)
-line-says (with-store g L) (Asks c) s M a h =
+line-says R nothing s M a h = refl
+line-says R (makes x) s M a h = made-says (asked x) M a
+line-says without-store (asks c) s M a h = rw (eq-eqb (s .made) 0 h)
+line-says (with-store g L) (asks c) s M a h =
     rw (ne-eqb (s .made) 0 (λ e. omega (arith, h .made)), h .same)
     (own-says g (h .inside) M L (h .owned) (M .out) (ample-long g M (h .inside) a .out) c)
 
-pub line-stands : (R : Runner) (p : Parsed) (s : Session) (M : Memory) → Ample M → Stands R s M →
+pub line-stands : (R : Runner) (p : Spoken) (s : Session) (M : Memory) → Ample M → Stands R s M →
     Stands (lineLeaves R p) (stepSession s M p) (stepMemory s M p)
 unfolding lineLeaves stepSession stepMemory
-line-stands R No s M a h = h
-line-stands R (Store x) s M a h = made-stands R (asked x) s M a h
-line-stands without-store (Asks c) s M a h = h
-line-stands (with-store g L) (Asks c) s M a h =
+line-stands R nothing s M a h = h
+line-stands R (makes x) s M a h = made-stands R (asked x) s M a h
+line-stands without-store (asks c) s M a h = h
+line-stands (with-store g L) (asks c) s M a h =
     let O : Owned g (after (s .g) M c) (step g L c) =
     rw (h .same) (own-step g (h .inside) M L (h .owned) (M .out) (ample-long g M (h .inside) a .out) c) in
     record { made = h .made; same = h .same; inside = h .inside; owned = rw (ne-eqb (s .made) 0 (λ e. omega (arith, h .made))) O }
 
-after-ample : (g : Geometry) (M : Memory) (c : Call) → Ample M → Ample (after g M c)
+after-ample : (g : Geometry) (M : Memory) (c : Command) → Ample M → Ample (after g M c)
 after-ample g M c a = record {
   tables = omega (arith, a .tables, tables-length g M c);
   log = omega (arith, a .log, log-length g M c);
   out = omega (arith, a .out, out-length g M c);
 }
 
-pub line-ample : (p : Parsed) (s : Session) (M : Memory) → Ample M → Ample (stepMemory s M p)
+pub line-ample : (p : Spoken) (s : Session) (M : Memory) → Ample M → Ample (stepMemory s M p)
 unfolding stepMemory makeAfter
-line-ample No s M a = a
-line-ample (Store x) s M a = record { tables = omega (arith, a .tables, make-length (asked x) M); log = a .log; out = a .out }
-line-ample (Asks c) s M a = cases (either (eqb (s .made) 0)) (λ y. rw y a) (λ n. rw n (after-ample (s .g) M c a))
+line-ample nothing s M a = a
+line-ample (makes x) s M a = record { tables = omega (arith, a .tables, make-length (asked x) M); log = a .log; out = a .out }
+line-ample (asks c) s M a = cases (either (eqb (s .made) 0)) (λ y. rw y a) (λ n. rw n (after-ample (s .g) M c a))

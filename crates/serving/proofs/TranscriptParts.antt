@@ -11,11 +11,13 @@ use lib.Seq.{slice}
 use Rattle.answer.proofs.Cases.{cases, either, lt?}
 use Rattle.geometry.proofs.Made.{and-true}
 use Rattle.script.specs.Lines.{linesOf}
-use Rattle.script.specs.Parse.{parsed}
+use Rattle.script.specs.declared.parse.Parsed.{Parsed}
 use Rattle.script.specs.ReplyText.{spellingOf, replyText}
 use Rattle.script.specs.Said.{saidAt}
-use Rattle.ledger.specs.Transcript.{Runner, lineText, printed, left}
-use Rattle.ledger.proofs.LineSpelled.{line-spelled}
+use Rattle.script.specs.Spoken.{Spoken, spokenAt, spoken}
+use Rattle.script.proofs.Placed.{spoken-placed}
+use Rattle.ledger.specs.Transcript.{Runner, lineSays, lineText, printed, left}
+use Rattle.ledger.proofs.LineSpelled.{line-spelled, spelled-alike}
 use Rattle.ledger.proofs.Parts.{parts, parts-left}
 use Rattle.serving.specs.Part.{Part, begun, longest, servedLine, goesOn, servedMost, served}
 use Rattle.serving.specs.Transcribed.{andThen, partsMost, Ample, GetsOn}
@@ -64,14 +66,19 @@ pub line-follows : (text : List ℕ) (R : Runner) (p : Part) → p .at < length 
 unfolding servedLine saidAt printed left
 line-follows text R p h st a =
     let l : List ℕ = slice (p .at) (endAt text (p .at)) text in
+    let d : Parsed = saidAt text (p .at) .says in
+    let c : Spoken = spokenAt text (p .at) d in
+    let alone : c ≡ spoken l = spoken-placed text (p .at) in
     record {
       lines = l ∷ [];
       met = line-met text (p .at) h;
       prints =
-          ap (λ r. p .replies ++ replyText (spellingOf (parsed l)) r) (line-says R (parsed l) (p .session) (p .memory) a st) ∙
-          ap (λ (t : List ℕ). p .replies ++ t) (sym (line-spelled R (parsed l)) ∙ sym (append-nil (lineText R (parsed l))));
-      stands = line-stands R (parsed l) (p .session) (p .memory) a st;
-      ample = line-ample (parsed l) (p .session) (p .memory) a;
+          ap (λ r. p .replies ++ replyText (spellingOf d) r) (line-says R c (p .session) (p .memory) a st) ∙
+          ap (λ k. p .replies ++ replyText k (lineSays R c)) (sym (spelled-alike text (p .at) d)) ∙
+          ap (λ (t : List ℕ). p .replies ++ t)
+          (sym (line-spelled R c) ∙ ap (λ (x : Spoken). lineText R x) alone ∙ sym (append-nil (lineText R (spoken l))));
+      stands = rw (sym alone) (line-stands R c (p .session) (p .memory) a st);
+      ample = line-ample c (p .session) (p .memory) a;
       by = λ i n e k. omega (arith, ends-by text (p .at) i (omega arith) e);
     }
 

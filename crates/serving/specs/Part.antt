@@ -9,6 +9,7 @@ use Rattle.log.specs.Word.{writeAt}
 use Rattle.model.specs.Memory.{Memory}
 use Rattle.script.specs.ReplyText.{spellingOf, replyText}
 use Rattle.script.specs.Said.{saidAt}
+use Rattle.script.specs.Spoken.{spokenAt}
 use Rattle.session.specs.declared.Session.{Session}
 use Rattle.session.specs.Step.{stepReply, stepMemory, stepSession, Kept}
 use Rattle.serving.specs.declared.Served.{Served}
@@ -32,11 +33,12 @@ longest = 49180
 unfoldable pub servedLine : List ℕ → Part → Part
 servedLine text p =
     let d = saidAt text (p .at) in
+    let a = spokenAt text (p .at) (d .says) in
     record {
       at = d .end + 1;
-      replies = p .replies ++ replyText (spellingOf (d .says)) (stepReply (p .session) (p .memory) (d .says));
-      session = stepSession (p .session) (p .memory) (d .says);
-      memory = stepMemory (p .session) (p .memory) (d .says);
+      replies = p .replies ++ replyText (spellingOf (d .says)) (stepReply (p .session) (p .memory) a);
+      session = stepSession (p .session) (p .memory) a;
+      memory = stepMemory (p .session) (p .memory) a;
     }
 
 -- a line is left, and a longest reply fits in the room

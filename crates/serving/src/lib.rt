@@ -57,7 +57,7 @@ pub fn serve_part(
         let said = said_at(text, i);
         let says = said.says;
         let end = said.end;
-        let stepped = step(s, says, t, log, out, &mut hints);
+        let stepped = step(s, says, t, log, out, &mut hints, text, i);
         s = stepped.session;
         let answer = stepped.answer;
         let spelling = spelling_of(says);

@@ -15,8 +15,7 @@ use Rattle.model.specs.Memory.{Memory, reply, after, makeReply, makeAfter}
 use Rattle.model.specs.SoundStore.{SoundStore}
 use Rattle.model.specs.Actions.{slotOf}
 use Rattle.model.specs.Layout.{viewOf}
-use Rattle.script.specs.declared.parse.Parsed.{Parsed}
-use Rattle.script.specs.declared.parse.Parsed.the-variants.{Store, Asks, No}
+use Rattle.script.specs.Spoken.{Spoken, makes, asks, nothing}
 use Rattle.script.specs.declared.parse.Six.{Six}
 use Rattle.tables.specs.Hints.{noted}
 use Rattle.tables.specs.Ready.{recordOf}
@@ -32,32 +31,32 @@ abbrev pub geometryIn : Six → Geometry
 geometryIn x = geometryOf (x .arenas) (x .per) (x .pages) (x .records) (x .turn) (x .words)
 
 -- the reply to a line
-unfoldable pub stepReply : Session → Memory → Parsed → Reply
-stepReply s M (Store x) = makeReply (geometryIn x) M
-stepReply s M (Asks c) = cond (eqb (s .made) 0) (refused 4) (reply (s .g) M c)
-stepReply s M No = refused 1
+unfoldable pub stepReply : Session → Memory → Spoken → Reply
+stepReply s M (makes x) = makeReply (geometryIn x) M
+stepReply s M (asks c) = cond (eqb (s .made) 0) (refused 4) (reply (s .g) M c)
+stepReply s M nothing = refused 1
 
 -- what it leaves in the lent memory
-unfoldable pub stepMemory : Session → Memory → Parsed → Memory
-stepMemory s M (Store x) = makeAfter (geometryIn x) M
-stepMemory s M (Asks c) = cond (eqb (s .made) 0) M (after (s .g) M c)
-stepMemory s M No = M
+unfoldable pub stepMemory : Session → Memory → Spoken → Memory
+stepMemory s M (makes x) = makeAfter (geometryIn x) M
+stepMemory s M (asks c) = cond (eqb (s .made) 0) M (after (s .g) M c)
+stepMemory s M nothing = M
 
 abbrev pub startedBy : Reply → Session → Geometry → Session
 startedBy (accepted l) s g = record { made = 1; g = g }
 startedBy (refused n) s g = s
 
 -- whether there is a store then, and its geometry
-unfoldable pub stepSession : Session → Memory → Parsed → Session
-stepSession s M (Store x) = startedBy (makeReply (geometryIn x) M) s (geometryIn x)
-stepSession s M (Asks c) = s
-stepSession s M No = s
+unfoldable pub stepSession : Session → Memory → Spoken → Session
+stepSession s M (makes x) = startedBy (makeReply (geometryIn x) M) s (geometryIn x)
+stepSession s M (asks c) = s
+stepSession s M nothing = s
 
 -- and what it leaves in the hints: a call notes the link by which its record is found, 0 for none
-unfoldable pub stepHints : Session → List ℕ → Parsed → List ℕ → List ℕ
-stepHints s t (Store x) hints = hints
-stepHints s t (Asks c) hints = cond (eqb (s .made) 0) hints (noted hints (recordOf c) (slotOf (viewOf (s .g) t) (recordOf c)))
-stepHints s t No hints = hints
+unfoldable pub stepHints : Session → List ℕ → Spoken → List ℕ → List ℕ
+stepHints s t (makes x) hints = hints
+stepHints s t (asks c) hints = cond (eqb (s .made) 0) hints (noted hints (recordOf c) (slotOf (viewOf (s .g) t) (recordOf c)))
+stepHints s t nothing hints = hints
 
 -- what the runner keeps: memory enough for every geometry inside its limits, and, once there is a store, soundness
 pub record Kept (s : Session) (t bytes numbers : List ℕ) : Type 0 where
@@ -72,12 +71,12 @@ abbrev pub Few : Answer → Type 0
 Few (Done n) = n ≤ 4097
 Few (Refused k) = Unit {0}
 
--- all that is promised of a line that says p: what it answers and leaves of the memory M
-pub record Stepping (s : Session) (M : Memory) (p : Parsed) (r : Stepped) (left : Memory) : Type 0 where
-  pub reply : replyOf (r .answer) (left .out) ≡ stepReply s M p
-  pub session : r .session ≡ stepSession s M p
-  pub tables : left .tables ≡ stepMemory s M p .tables
-  pub log : left .log ≡ stepMemory s M p .log
-  pub out : left .out ≡ stepMemory s M p .out
+-- all that is promised of a line that asks for a: what it answers and leaves of the memory M
+pub record Stepping (s : Session) (M : Memory) (a : Spoken) (r : Stepped) (left : Memory) : Type 0 where
+  pub reply : replyOf (r .answer) (left .out) ≡ stepReply s M a
+  pub session : r .session ≡ stepSession s M a
+  pub tables : left .tables ≡ stepMemory s M a .tables
+  pub log : left .log ≡ stepMemory s M a .log
+  pub out : left .out ≡ stepMemory s M a .out
   pub kept : Kept (r .session) (left .tables) (left .log) (left .out)
   pub few : Few (r .answer)

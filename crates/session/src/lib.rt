@@ -1,16 +1,23 @@
 // A script's run on memory that the runner owns: a line in, an answer out. Soundness is kept, not checked again.
 ghost use mathlib.Core.Path.{_≡_};
+ghost use lib.ListN.{length};
 ghost use Rattle.answer.specs.Reply.{replyOf};
 ghost use Rattle.answer.specs.declared.Answer.the-variants.{Refused};
+ghost use Rattle.model.specs.Command.{command, commandOn};
 ghost use Rattle.model.specs.Memory.{lent};
-ghost use Rattle.script.specs.declared.parse.Parsed.the-variants.{Store, Asks};
+ghost use Rattle.script.specs.Spoken.{makes, asks, spokenAt};
+ghost use Rattle.script.specs.Said.{NameIn};
 ghost use Rattle.session.specs.Step.{noStore, stepReply, stepMemory, stepSession, stepHints, Kept, Few, Stepping};
 use answer::Answer;
+use engine::names::name;
+use engine::names::record_named;
 use engine::perform;
 use engine::record_of;
 use geometry::Geometry;
 use geometry::Making;
+use geometry::copied;
 use model::Call;
+use model::Naming;
 use script::parse::Parsed;
 use script::parse::Six;
 use store::make::make;
@@ -41,6 +48,9 @@ pub fn start() -> Session
     }
 }
 
+// The refusal of a call before a store exists.
+const NO_STORE: u8 = 4;
+
 fn refuse(s: Session, number: u8) -> Stepped
     ensures { λ r. ⌜ r ≡ record { session = s; answer = Refused number } ⌝ }
 {
@@ -53,7 +63,8 @@ fn refuse(s: Session, number: u8) -> Stepped
 // A store line: an accepted one starts afresh, a refused one changes nothing.
 fn store_line(s: Session, x: Six, t: &mut [u32], log: &[u8], out: &[u32]) -> Stepped
     requires { ⌜ Kept s (now t) (now log) (now out) ⌝ }
-    ensures { λ r. ⌜ Stepping s (lent (now (t .entry)) (now (log .entry)) (now (out .entry))) (Store x) r (lent (now (t .exit)) (now (log .entry)) (now (out .entry))) ⌝ }
+    ensures { λ r. ⌜ Stepping s (lent (now (t .entry)) (now (log .entry)) (now (out .entry))) (makes x) r
+        (lent (now (t .exit)) (now (log .entry)) (now (out .entry))) ⌝ }
 {
     let made = Geometry::new(
         wide(x.arenas),
@@ -96,12 +107,12 @@ fn call_line(
     hints: &mut [u8; 1024],
 ) -> Stepped
     requires { ⌜ Kept s (now t) (now log) (now out) ⌝ }
-    ensures line { λ r. ⌜ Stepping s (lent (now (t .entry)) (now (log .entry)) (now (out .entry))) (Asks c) r
+    ensures line { λ r. ⌜ Stepping s (lent (now (t .entry)) (now (log .entry)) (now (out .entry))) (asks (command c)) r
         (lent (now (t .exit)) (now (log .exit)) (now (out .exit))) ⌝ }
-    ensures hints { λ r. ⌜ now (hints .exit) ≡ stepHints s (now (t .entry)) (Asks c) (now (hints .entry)) ⌝ }
+    ensures hints { λ r. ⌜ now (hints .exit) ≡ stepHints s (now (t .entry)) (asks (command c)) (now (hints .entry)) ⌝ }
 {
     if s.made == 0 {
-        return refuse(s, 4);
+        return refuse(s, NO_STORE);
     }
     let g = s.g;
     let n = record_of(c);
@@ -111,7 +122,33 @@ fn call_line(
     Stepped { session: s, answer }
 }
 
-// One line, by what it says. Of the hints, where records may stand, nothing is asked.
+// A call of a name, in the same way: U and M are on no record.
+fn name_line(
+    s: Session,
+    c: Naming,
+    bytes: &[u8],
+    t: &mut [u32],
+    log: &[u8],
+    out: &mut [u32],
+    hints: &mut [u8; 1024],
+) -> Stepped
+    requires { ⌜ Kept s (now t) (now log) (now out) ⌝ }
+    ensures line { λ r. ⌜ Stepping s (lent (now (t .entry)) (now (log .entry)) (now (out .entry))) (asks (commandOn c (now (bytes .entry)))) r
+        (lent (now (t .exit)) (now (log .entry)) (now (out .exit))) ⌝ }
+    ensures hints { λ r. ⌜ now (hints .exit) ≡ stepHints s (now (t .entry)) (asks (commandOn c (now (bytes .entry)))) (now (hints .entry)) ⌝ }
+{
+    if s.made == 0 {
+        return refuse(s, NO_STORE);
+    }
+    let g = s.g;
+    let number = record_named(c);
+    let link = slot_by(t, g, hints, number);
+    hint_slot(hints, number, link);
+    let answer = name(copied(g), t, out, c, bytes, link);
+    Stepped { session: s, answer }
+}
+
+// One line, by what it says; it begins at `at` in the text, where its name stands, if it has one. Of the hints, where records may stand, nothing is asked.
 pub fn step(
     s: Session,
     said: Parsed,
@@ -119,19 +156,31 @@ pub fn step(
     log: &mut [u8],
     out: &mut [u32],
     hints: &mut [u8; 1024],
+    text: &[u8],
+    at: usize,
 ) -> Stepped
-    requires { ⌜ Kept s (now t) (now log) (now out) ⌝ }
-    ensures reply { λ r. ⌜ replyOf (r .answer) (now (out .exit)) ≡ stepReply s (lent (now (t .entry)) (now (log .entry)) (now (out .entry))) said ⌝ }
-    ensures session { λ r. ⌜ r .session ≡ stepSession s (lent (now (t .entry)) (now (log .entry)) (now (out .entry))) said ⌝ }
-    ensures tables { λ r. ⌜ now (t .exit) ≡ stepMemory s (lent (now (t .entry)) (now (log .entry)) (now (out .entry))) said .tables ⌝ }
-    ensures log { λ r. ⌜ now (log .exit) ≡ stepMemory s (lent (now (t .entry)) (now (log .entry)) (now (out .entry))) said .log ⌝ }
-    ensures out { λ r. ⌜ now (out .exit) ≡ stepMemory s (lent (now (t .entry)) (now (log .entry)) (now (out .entry))) said .out ⌝ }
+    requires { ⌜ Kept s (now t) (now log) (now out) × NameIn (now text) at said (length (now text)) ⌝ }
+    ensures reply { λ r. ⌜ replyOf (r .answer) (now (out .exit)) ≡ stepReply s (lent (now (t .entry)) (now (log .entry)) (now (out .entry)))
+        (spokenAt (now (text .entry)) at said) ⌝ }
+    ensures session { λ r. ⌜ r .session ≡ stepSession s (lent (now (t .entry)) (now (log .entry)) (now (out .entry)))
+        (spokenAt (now (text .entry)) at said) ⌝ }
+    ensures tables { λ r. ⌜ now (t .exit) ≡ stepMemory s (lent (now (t .entry)) (now (log .entry)) (now (out .entry)))
+        (spokenAt (now (text .entry)) at said) .tables ⌝ }
+    ensures log { λ r. ⌜ now (log .exit) ≡ stepMemory s (lent (now (t .entry)) (now (log .entry)) (now (out .entry)))
+        (spokenAt (now (text .entry)) at said) .log ⌝ }
+    ensures out { λ r. ⌜ now (out .exit) ≡ stepMemory s (lent (now (t .entry)) (now (log .entry)) (now (out .entry)))
+        (spokenAt (now (text .entry)) at said) .out ⌝ }
     ensures kept { λ r. ⌜ Kept (r .session) (now (t .exit)) (now (log .exit)) (now (out .exit)) ⌝ }
     ensures few { λ r. ⌜ Few (r .answer) ⌝ }
-    ensures hints { λ r. ⌜ now (hints .exit) ≡ stepHints s (now (t .entry)) said (now (hints .entry)) ⌝ }
+    ensures hints { λ r. ⌜ now (hints .exit) ≡ stepHints s (now (t .entry)) (spokenAt (now (text .entry)) at said) (now (hints .entry)) ⌝ }
 {
     if let Parsed::Store(x) = said {
         return store_line(s, x, t, log, out);
+    }
+    if let Parsed::Named(c, e) = said {
+        let from = at + 2;
+        let end = at + wide(e);
+        return name_line(s, c, &text[from..end], t, log, out, hints);
     }
     let Parsed::Asks(c) = said else {
         return refuse(s, 1);

@@ -13,8 +13,10 @@ use Rattle.answer.proofs.Decided.{decide-accepted, decide-refused, none-in}
 use Rattle.geometry.specs.declared.Geometry.{Geometry}
 use Rattle.geometry.specs.Limits.{fits}
 use Rattle.log.specs.Settled.{settled}
-use Rattle.log.specs.Tool.{heldAtEnd, everyConditions, everyReply, readReply, compactWords, compactReply, compactConditions, judged, alike?, verdictBy, compareConditions, compareVerdict}
+use Rattle.log.specs.Tool.{heldAtEnd, everyConditions, everyReply, readReply, compactWords, compactReply, compactConditions}
+use Rattle.log.specs.Tool.{judged, alike?, verdictBy, compareConditions, compareVerdict}
 use Rattle.model.specs.declared.Call.{Call}
+use Rattle.model.specs.Command.{Command, command}
 use Rattle.model.specs.Calls.{result}
 use Rattle.model.specs.Layout.{stateOf}
 use Rattle.model.specs.Memory.{Memory, short?, allConditions, reply, makeReply}
@@ -36,11 +38,11 @@ module _ (cs : List Condition) (l : List ℕ) (ordered : Ordered 1 cs) where
   code-0-iff = (done (decide cs l) refl, coded-0)
 
 -- every call
-pub done-iff : (g : Geometry) (M : Memory) (c : Call) → (codeOf (reply g M c) ≡ 0) ↔ (reply g M c ≡ accepted (result g (stateOf g (M .tables)) c))
+pub done-iff : (g : Geometry) (M : Memory) (c : Command) → (codeOf (reply g M c) ≡ 0) ↔ (reply g M c ≡ accepted (result g (stateOf g (M .tables)) c))
 unfolding reply
 done-iff g M c = code-0-iff (allConditions g M c) (result g (stateOf g (M .tables)) c) (all-ordered g M c)
 
-refused-not-1 : (g : Geometry) (M : Memory) (c : Call) (n : ℕ) → n ≡ 1 → reply g M c ≡ refused n → ⊥
+refused-not-1 : (g : Geometry) (M : Memory) (c : Command) (n : ℕ) → n ≡ 1 → reply g M c ≡ refused n → ⊥
 unfolding reply
 refused-not-1 g M c n z e =
     let cs = allConditions g M c in
@@ -53,11 +55,11 @@ asks-something e = let z : _≡_ {A = ℕ} 0 1 = cc in omega arith
 -- what is asked: the code 1 means that it is no call, and nothing else does
 pub no-call-iff : (g : Geometry) (M : Memory) (k : Option Call) → (codeOf (askedReply g M k) ≡ 1) ↔ (k ≡ none)
 unfolding askedReply codeOf
-no-call-iff g M (some c) = (λ e. absurd (never (reply g M c) refl e), λ e. absurd (asks-something e))
+no-call-iff g M (some c) = (λ e. absurd (never (reply g M (command c)) refl e), λ e. absurd (asks-something e))
   where
-    never : (R : Reply) → reply g M c ≡ R → codeOf R ≡ 1 → ⊥
+    never : (R : Reply) → reply g M (command c) ≡ R → codeOf R ≡ 1 → ⊥
     never (accepted l) e z = omega (arith, z)
-    never (refused n) e z = refused-not-1 g M c n z e
+    never (refused n) e z = refused-not-1 g M (command c) n z e
 no-call-iff g M none = (λ e. refl, λ e. refl)
 
 -- a making
@@ -95,7 +97,9 @@ module _ (g : Geometry) (log : List ℕ) where
       R = decide (compareConditions g log other) []
 
       forth : verdictCode (verdictBy R (alike? g log other)) ≡ 0 → verdictBy R (alike? g log other) ≡ judged (alike? g log other)
-      forth z = ap (λ r. verdictBy r (alike? g log other)) (code-0-iff (compareConditions g log other) [] (omega arith, (omega arith, tt)) .0 (sym (same-code R (alike? g log other)) ∙ z))
+      forth z =
+          ap (λ r. verdictBy r (alike? g log other))
+          (code-0-iff (compareConditions g log other) [] (omega arith, (omega arith, tt)) .0 (sym (same-code R (alike? g log other)) ∙ z))
 
       back : verdictBy R (alike? g log other) ≡ judged (alike? g log other) → verdictCode (verdictBy R (alike? g log other)) ≡ 0
       back e = ap verdictCode e

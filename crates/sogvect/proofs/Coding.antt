@@ -24,14 +24,15 @@ use Rattle.log.specs.declared.tool.Comparison.the-variants as comparison
 use Rattle.log.proofs.Tools.{pass-length}
 use Rattle.model.specs.Memory.{Memory, reply, lent}
 use Rattle.model.specs.declared.Call.{Call}
+use Rattle.model.specs.Command.{Command, command}
 use Rattle.model.proofs.ResultSize.{accepted-short}
 use Rattle.store.specs.Called.{Called}
 use Rattle.store.proofs.Results.{number-of}
 use Rattle.store.proofs.Lengths.{out-length}
-use Rattle.serving.specs.Host.{Lent, hostReply, hostedReply, Hosts}
+use Rattle.serving.specs.Host.{Lent, hostedReply, Hosts}
 use Rattle.serving.specs.declared.host.Hosted.{Hosted}
 use Rattle.serving.specs.declared.host.Hosted.the-variants as hosted
-use Rattle.sogvect.specs.Coded.{codeOf, countAfter, askedReply, askedAfter, Answered, answerCode, answerCount}
+use Rattle.sogvect.specs.Coded.{codeOf, countAfter, askedReply, askedAfter, Answered, Replied, answerCode, answerCount}
 use Rattle.sogvect.specs.Coded.{verdictCode, alikeAfter, wordsAfter, numberAfter, Scripted}
 
 -- ── the arms of `coded` and `judge` ──
@@ -93,14 +94,22 @@ pub no-call : (g : Geometry) (M : Memory) (k : Option Call) (old : ℕ) → k �
 unfolding askedReply askedAfter codeOf countAfter
 no-call g M k old e = rw e (refl, (refl, (refl, (refl, refl))))
 
-module _ (g : Geometry) (M : Memory) (c : Call) (a : Answer) (t log out : List ℕ) where
+module _ (g : Geometry) (M : Memory) (a : Answer) (t log out : List ℕ) where
   -- what the store's function promises is what the exported one promises
-  pub called : (k : Option Call) (old r n : ℕ) → k ≡ some c → Called g M c a (lent t log out) → Coded a old r n → Answered g M k old r n (lent t log out)
-  unfolding askedReply askedAfter
-  called k old r n e p q =
+  pub replied : (c : Command) (old r n : ℕ) → Called g M c a (lent t log out) → Coded a old r n →
+      Replied g M c r (lent t log out) × (n ≡ countAfter (reply g M c) old)
+  replied c old r n p q =
       let h : length out ≡ length (M .out) = ap length (p .1 .1 .1) ∙ out-length g M c in
       let s = told a out (reply g M c) old r n (p .0) (λ l e. omega (arith, accepted-short g M c l e)) q in
-      rw e (s .0, (s .1, p .1))
+      ((s .0, p .1), s .1)
+
+  -- and of what is asked by a letter
+  pub called : (c : Call) (k : Option Call) (old r n : ℕ) → k ≡ some c → Called g M (command c) a (lent t log out) → Coded a old r n →
+      Answered g M k old r n (lent t log out)
+  unfolding askedReply askedAfter
+  called c k old r n e p q =
+      let s = replied (command c) old r n p q in
+      rw e (s .0 .0, (s .1, s .0 .1))
 
 -- ── a reading ──
 
@@ -145,7 +154,8 @@ pub refused-compacted : (c : Compaction) (k old : ℕ) → c ≡ compaction.Refu
 unfolding compactReplyOf codeOf wordsAfter
 refused-compacted c k old e = (sym (ap (λ d. codeOf (compactReplyOf d)) e), sym (ap (λ d. wordsAfter (compactReplyOf d) old) e))
 
-pub was-compacted : (c : Compaction) (R : Reply) (old r n : ℕ) (out left : List ℕ) → (compactReplyOf c ≡ R) × (out ≡ left) → Compacted (compactReplyOf c) old r n →
+pub was-compacted : (c : Compaction) (R : Reply) (old r n : ℕ) (out left : List ℕ) → (compactReplyOf c ≡ R) × (out ≡ left) →
+    Compacted (compactReplyOf c) old r n →
     (r ≡ codeOf R) × ((n ≡ wordsAfter R old) × (out ≡ left))
 was-compacted c R old r n out left e p = (p .0 ∙ ap codeOf (e .0), (p .1 ∙ ap (λ w. wordsAfter w old) (e .0), e .1))
 

@@ -1,14 +1,14 @@
 -- The letters of the library are those of scripts: a letter has one call, of one number of numbers.
-use mathlib.Core.Path.{_≡_, refl, sym, ap, _∙_}
-use mathlib.Core.Logic.{_⊎_}
-use mathlib.Core.Bool.{Bool, true, false, _&&_}
+use mathlib.Core.Path.{_≡_, refl, sym, ap, _∙_, subst}
+use mathlib.Core.Bool.{Bool, true, _&&_}
 use mathlib.Core.List.{List, [], _∷_}
 use mathlib.Core.Option.{Option, none, some}
-use Prim.Native.Nat.{ℕ, _<_, _≤_}
+use Prim.Native.Nat.{ℕ, _<_}
 use lib.Dec.{eqb, ltb}
 use lib.ListN.{length, take}
 use native.Mathlib.Omega.{arith}
 use borrow.Author.Tests.{ne-eqb, ltb-true}
+use types.Run.{OneOf, miss}
 use denote.Enum.Declared.{tagOf}
 use Rattle.answer.proofs.Cases.{cases, either, same?}
 use Rattle.geometry.proofs.Made.{and-true}
@@ -119,9 +119,12 @@ asks-none b x y z h =
 
 -- ── what was asked first ──
 
--- said neither `store` nor a call to ask for, by the place in the order of `Parsed`
+-- said no call of a letter and numbers, by the place in the order of `Parsed`
+abbrev others : List ℕ
+others = 0 ∷ 2 ∷ 3 ∷ []
+
 abbrev pub Other : Parsed → Type 0
-Other p = (tagOf the-type p ≡ 0) ⊎ (tagOf the-type p ≡ 2)
+Other p = OneOf others (tagOf the-type p)
 
 -- what was asked, by what was said
 pub is-call : (p : Parsed) (k : Option Call) (c : Call) → p ≡ saysOf k → p ≡ Asks c → k ≡ some c
@@ -130,9 +133,7 @@ is-call p (some d) c e found = let same : d ≡ c = cc in ap some same
 
 pub is-none : (p : Parsed) (k : Option Call) → p ≡ saysOf k → Other p → k ≡ none
 is-none p none e h = refl
-is-none p (some c) e h =
-    let t : tagOf the-type p ≡ 1 = ap (tagOf the-type) e in
-    cases h (λ q. absurd (omega (arith, q, t))) (λ q. absurd (omega (arith, q, t)))
+is-none p (some c) e h = absurd (miss others 1 tt (subst Other e h))
 
 -- a call was found, and what comes after it is passed over; or none was
 found-here : (p : Parsed) (c : Call) (k d : Option Call) → p ≡ saysOf k → p ≡ Asks c → p ≡ saysOf (orElse k d)

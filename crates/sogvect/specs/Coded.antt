@@ -14,6 +14,7 @@ use Rattle.log.specs.Tool.{Compared, judged, turnedAway}
 use Rattle.model.specs.Memory.{Memory, reply, after}
 use Rattle.serving.specs.Host.{Lent, hostReply, hostLeft}
 use Rattle.model.specs.declared.Call.{Call}
+use Rattle.model.specs.Command.{Command, command}
 
 -- ── a call ──
 
@@ -27,11 +28,11 @@ countAfter (refused n) old = old
 
 -- the reply to what is asked, and what it leaves; what is no call is refused by 1 before anything else is looked at
 unfoldable pub askedReply : Geometry → Memory → Option Call → Reply
-askedReply g M (some c) = reply g M c
+askedReply g M (some c) = reply g M (command c)
 askedReply g M none = refused 1
 
 unfoldable pub askedAfter : Geometry → Memory → Option Call → Memory
-askedAfter g M (some c) = after g M c
+askedAfter g M (some c) = after g M (command c)
 askedAfter g M none = M
 
 -- the promise of a call, told once: what is asked, on lent memory `before` with the six numbers g, was answered by the code r; the count, which was
@@ -42,6 +43,12 @@ Answered g before a old r n left =
     × ((n ≡ countAfter (askedReply g before a) old)
     × ((left .tables ≡ askedAfter g before a .tables)
     × ((left .log ≡ askedAfter g before a .log) × (left .out ≡ askedAfter g before a .out))))
+
+-- the promise of a call of a name: c, on lent memory `before`, was answered by the code r and left the memory `left`
+abbrev pub Replied : Geometry → Memory → Command → ℕ → Memory → Type 0
+Replied g before c r left =
+    (r ≡ codeOf (reply g before c))
+    × ((left .tables ≡ after g before c .tables) × ((left .log ≡ after g before c .log) × (left .out ≡ after g before c .out)))
 
 -- the same of an answer, with no buffer
 unfoldable pub answerCode : Answer → ℕ

@@ -8,6 +8,7 @@ ghost use Rattle.sogvect.specs.Coded.{codeOf, countAfter, answerCode, an
 
 pub mod calls;
 pub mod looks;
+pub mod names;
 pub mod scripts;
 
 use answer::Answer;

@@ -14,3 +14,5 @@ pub mod PagesBits
 pub mod PagesStep
 pub mod ListsStamps
 pub mod PagesSlots
+pub mod NamesRows
+pub mod NamesCounts

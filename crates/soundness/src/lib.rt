@@ -1,8 +1,10 @@
-// The check of what a stranger lends: whether it is long enough, and whether tables and log are a sound store. Linear in the tables and the log, but for pairs of record slots.
+// The check of what a stranger lends: whether it is long enough, and whether tables and log are a sound store. Linear in the tables and the log, but for
+// pairs of record slots and of rows of names.
 mod header;
 mod held;
 pub mod lengths;
 mod lists;
+mod names;
 mod pages;
 mod read;
 mod records;
@@ -15,6 +17,7 @@ use crate::header::ranges_fit;
 use crate::held::births_agree;
 use crate::held::log_holds;
 use crate::held::words_fit;
+use crate::names::names_fit;
 use crate::pages::pages_fit;
 use crate::records::records_fit;
 use crate::records::windows_fit;
@@ -45,6 +48,9 @@ pub fn is_sound(g: Geometry, t: &[u32], log: &[u8]) -> bool
         return false;
     }
     if !windows_fit(g, t) {
+        return false;
+    }
+    if !names_fit(g, t) {
         return false;
     }
     log_holds(g, t, log, &own)

@@ -18,7 +18,7 @@ use Rattle.model.specs.Calls.{result, written}
 use Rattle.model.specs.Layout.{stateOf}
 use Rattle.model.specs.Memory.{Memory, short?, sound?, writtenAt, reply, storedBy, after}
 use Rattle.model.specs.SoundStore.{SoundStore}
-use Rattle.model.specs.declared.Call.{Call}
+use Rattle.model.specs.Command.{Command}
 use Rattle.model.proofs.SoundTest.{sound-iff}
 use Rattle.model.proofs.Keeps.{Long, is-long, sound-fine}
 use Rattle.model.proofs.Replies.{reply-sound}
@@ -36,11 +36,12 @@ sound-ready g t log R s = record {
   range = s .range;
   waiting = s .waiting;
   windows = s .windows;
+  names = s .names;
   free = s .free;
 }
 
 -- on a sound store and long enough memory the model's definitions are those read off the tables
-module _ (g : Geometry) (M : Memory) (c : Call) (i : Inside g) (L : Long g M) (s : SoundStore g (M .tables) (M .log)) where
+module _ (g : Geometry) (M : Memory) (c : Command) (i : Inside g) (L : Long g M) (s : SoundStore g (M .tables) (M .log)) where
   pub reply-is : reply g M c ≡ replied g (M .tables) c
   unfolding replied
   reply-is = reply-sound g M c i L s
@@ -62,11 +63,11 @@ module _ (g : Geometry) (M : Memory) (c : Call) (i : Inside g) (L : Long g M) (s
 -- ── a call ──
 
 -- the four promises of a call: its answer, and the tables, the log and the result buffer that it leaves
-abbrev pub Answered : Answer → List ℕ → List ℕ → List ℕ → Geometry → Memory → Call → Type 0
+abbrev pub Answered : Answer → List ℕ → List ℕ → List ℕ → Geometry → Memory → Command → Type 0
 Answered r t log out g M c =
     (replyOf r out ≡ reply g M c) × ((t ≡ after g M c .tables) × ((log ≡ after g M c .log) × (out ≡ after g M c .out)))
 
-module _ (M : Memory) (c : Call) where
+module _ (M : Memory) (c : Command) where
   -- a refusal changes nothing
   refuses : (g : Geometry) (n : ℕ) → reply g M c ≡ refused n → Answered (Refused n) (M .tables) (M .log) (M .out) g M c
   unfolding replyOf after

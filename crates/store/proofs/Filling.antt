@@ -1,7 +1,7 @@
 -- The tables of a fresh store as the code writes them: zeros, then the free words, then the six numbers.
 use mathlib.Core.Path.{_≡_, refl, sym, ap, _∙_}
 use mathlib.Core.Logic.{_⊎_, inl, inr}
-use mathlib.Core.List.{List, [], _∷_, _++_}
+use mathlib.Core.List.{List}
 use Prim.Native.Nat.{ℕ, zero, suc, _+_, _-_, _*_, _%_, _^_, _≤_, _<_, min}
 use native.Mathlib.Omega.{arith}
 use lib.ListN.{length, getD, set, take, drop, replicate, length-set, length-replicate, getD-replicate, List·getD-append}
@@ -16,7 +16,7 @@ use Rattle.model.specs.Lists.{elem}
 use Rattle.model.specs.State.{fresh}
 use Rattle.model.specs.Held.{waits, available}
 use Rattle.model.specs.Layout.{need, made, listed, freeWord}
-use Rattle.model.proofs.LayoutFacts.{stored-beyond, getD-listed, length-listed}
+use Rattle.model.proofs.LayoutFacts.{stored-beyond}
 use Rattle.model.proofs.MadeFacts.{NoWord, made-zero, made-free, made-for, made-length}
 use Rattle.store.specs.Fresh.{fullWord, sixNumbers}
 

@@ -17,7 +17,7 @@ use Rattle.model.specs.Calls.{Account, looking, opening, freeing, closing, plac
 use Rattle.model.specs.Calls.{freed, compressed, conditions, result, written}
 use Rattle.model.specs.Layout.{stateOf, made}
 use Rattle.model.specs.Memory.{Memory, writtenAt, reply, storedBy, after, makeReply, makeAfter}
-use Rattle.model.specs.declared.Call.{Call}
+use Rattle.model.specs.Command.{Command}
 use Rattle.model.proofs.ByNumber.{none-at}
 use Rattle.model.proofs.CallKinds.{none-right}
 use Rattle.model.proofs.Midway.{by-length}
@@ -47,10 +47,10 @@ module _ (g : Geometry) (T : State) (R : InRange g T) where
   fit-by marking n = behind (wordsBy g T marking) (ltb-false (g .words - T .used) 1 (none-at (refusalsBy g T marking) n 14))
   fit-by renewing n = omega (arith, length-bytes (compressed g T), ltb-false (g .words) (length (compressed g T)) (none-at (refusalsBy g T renewing) n 14))
 
-  words-fit : (c : Call) → NoneHolds (conditions g T c) → writtenAt T c + length (bytesOf (written g T c)) ≤ 8 * g .words
+  words-fit : (c : Command) → NoneHolds (conditions g T c) → writtenAt T c + length (bytesOf (written g T c)) ≤ 8 * g .words
   words-fit c n = fit-by (account c) n
 
-module _ (g : Geometry) (M : Memory) (c : Call) where
+module _ (g : Geometry) (M : Memory) (c : Command) where
   abbrev T : State
   T = stateOf g (M .tables)
 

@@ -1,20 +1,17 @@
 -- The promises of `make`, return by return.
-use mathlib.Core.Path.{_≡_, refl, sym, ap, _∙_, subst}
-use mathlib.Core.Bool.{Bool, true, false, not, _||_}
-use mathlib.Core.List.{List, [], _∷_}
-use Prim.Native.Nat.{ℕ, _+_, _*_, _≤_, _<_}
-use lib.Dec.{ltb}
-use lib.ListN.{length}
-use borrow.Author.Tests.{lt-ltb, le-ltb}
+use mathlib.Core.Path.{_≡_, sym, ap, subst}
+use mathlib.Core.Bool.{true, false}
+use mathlib.Core.List.{List}
+use Prim.Native.Nat.{ℕ}
 use Rattle.answer.specs.declared.Answer.{Answer}
 use Rattle.answer.specs.declared.Answer.the-variants.{Done, Refused}
-use Rattle.answer.specs.Reply.{Reply, accepted, refused, replyOf}
+use Rattle.answer.specs.Reply.{Reply, refused, replyOf}
 use Rattle.answer.specs.Refusal.{leaves}
 use Rattle.geometry.specs.declared.Geometry.{Geometry}
-use Rattle.geometry.specs.Limits.{blocks, fits, Inside}
+use Rattle.geometry.specs.Limits.{fits}
 use Rattle.geometry.proofs.Made.{inside-fits}
 use Rattle.log.proofs.Tools.{MadeOf}
-use Rattle.model.specs.Layout.{need, made}
+use Rattle.model.specs.Layout.{made}
 use Rattle.model.specs.Memory.{Memory, short?, makeReply, makeAfter}
 
 -- ── the making ──

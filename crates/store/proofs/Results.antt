@@ -10,7 +10,7 @@ use Rattle.answer.specs.Reply.{replyOf}
 use Rattle.answer.proofs.Cases.{cases, lt?}
 use Rattle.geometry.specs.declared.Geometry.{Geometry}
 use Rattle.model.specs.Memory.{Memory, reply}
-use Rattle.model.specs.declared.Call.{Call}
+use Rattle.model.specs.Command.{Command}
 use Rattle.model.proofs.Keeps.{accepted-is}
 use Rattle.model.proofs.ResultSize.{accepted-le}
 
@@ -22,7 +22,7 @@ number-of n out l e k =
     (λ a. absurd (let z : ⊥ = omega (arith, ap length (sym (take-all n out a) ∙ e)) in z))
 
 -- the number that an answer names
-pub done-le : (n : ℕ) (out : List ℕ) (g : Geometry) (M : Memory) (c : Call) → replyOf (Done n) out ≡ reply g M c → 4160 ≤ length out → n ≤ 4097
+pub done-le : (n : ℕ) (out : List ℕ) (g : Geometry) (M : Memory) (c : Command) → replyOf (Done n) out ≡ reply g M c → 4160 ≤ length out → n ≤ 4097
 unfolding replyOf
 done-le n out g M c e k =
     let i = accepted-is g M c (take n out) (sym e) .0 .inside in

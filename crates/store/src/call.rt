@@ -1,5 +1,6 @@
-// Any call, checked in full: the six numbers (2), the lengths (3), the tables and the log (4); then it acts.
+// Any call of a letter and numbers, checked in full: the six numbers (2), the lengths (3), the tables and the log (4); then it acts.
 ghost use Rattle.geometry.specs.Limits.{geometryOf};
+ghost use Rattle.model.specs.Command.{command};
 ghost use Rattle.model.specs.Memory.{lent};
 ghost use Rattle.store.specs.Called.{Called};
 use answer::Answer;
@@ -25,7 +26,7 @@ pub fn call(
     c: Call,
 ) -> Answer
     ensures { λ r. ⌜ Called (geometryOf arenas per pages records turn words)
-        (lent (now (tables .entry)) (now (log .entry)) (now (out .entry))) c r
+        (lent (now (tables .entry)) (now (log .entry)) (now (out .entry))) (command c) r
         (lent (now (tables .exit)) (now (log .exit)) (now (out .exit))) ⌝ }
 {
     let made = Geometry::new(arenas, per, pages, records, turn, words);

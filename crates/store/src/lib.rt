@@ -2,3 +2,4 @@
 pub mod call;
 pub mod look;
 pub mod make;
+pub mod names;

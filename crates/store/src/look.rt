@@ -1,5 +1,6 @@
 // A look at any memory, checked in full as every call is; tables and log are lent to be read.
 ghost use Rattle.geometry.specs.Limits.{geometryOf};
+ghost use Rattle.model.specs.Command.{command};
 ghost use Rattle.model.specs.Memory.{lent};
 ghost use Rattle.engine.specs.Looks.{lookCall};
 ghost use Rattle.store.specs.Called.{Called};
@@ -25,7 +26,7 @@ pub fn look(
     c: looks::Look,
 ) -> Answer
     ensures { λ r. ⌜ Called (geometryOf arenas per pages records turn words)
-        (lent (now (tables .entry)) (now (log .entry)) (now (out .entry))) (lookCall c) r
+        (lent (now (tables .entry)) (now (log .entry)) (now (out .entry))) (command (lookCall c)) r
         (lent (now (tables .entry)) (now (log .entry)) (now (out .exit))) ⌝ }
 {
     let made = Geometry::new(arenas, per, pages, records, turn, words);

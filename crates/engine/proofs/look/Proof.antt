@@ -1,6 +1,5 @@
 -- `look`: each arm is one look.
 use Rattle.engine.proofs.Looking.{of-look, look-link}
-use native.Mathlib.Omega.{arith}
 use borrow.Author.Needs.{needs}
 use Rattle.engine.proofs.look.Statement.{statement}
 use Rattle.engine.proofs.look.Tie as tie

@@ -1,6 +1,6 @@
 -- `perform`: each arm is one call; what it is not lent stays.
 use mathlib.Core.Path.{refl}
-use Rattle.engine.proofs.Untouched.{log-stays, out-stays, tables-stay, its-link, of-call, copy-asked, copy-looked, copy-performed, copy-answers}
+use Rattle.engine.proofs.Untouched.{log-stays, out-stays, tables-stay, call-link, of-call, copy-asked, copy-looked, copy-performed, copy-answers}
 use borrow.Author.Needs.{needs}
 use Rattle.engine.proofs.perform.Statement.{statement}
 use Rattle.engine.proofs.perform.Tie as tie
@@ -17,7 +17,7 @@ enum-known-c c = search needs
 write-requires : tie.Need-write-requires
 write-requires c κs =
     let s = c .before .before .before .before .before .before .before .before .before in
-    (s .pre .0, s .pre .1, s .pre .2, its-link (s .args .g) (s .args .t .now) (c .before .before .before .before .c .given .1) (s .args .link) (s .pre .3))
+    (s .pre .0, s .pre .1, s .pre .2, call-link (s .args .g) (s .args .t .now) (c .before .before .before .before .c .given .1) (s .args .link) (s .pre .3))
 
 enum-known-c-2 : tie.Need-enum-known-c-2
 enum-known-c-2 c = search needs
@@ -25,7 +25,7 @@ enum-known-c-2 c = search needs
 erase-requires : tie.Need-erase-requires
 erase-requires c κs =
     let s = c .before .before .before .before .before .before .before .before .before in
-    (s .pre .0, s .pre .1, s .pre .2, its-link (s .args .g) (s .args .t .now) (c .before .before .before .before .c2 .given .1) (s .args .link) (s .pre .3))
+    (s .pre .0, s .pre .1, s .pre .2, call-link (s .args .g) (s .args .t .now) (c .before .before .before .before .c2 .given .1) (s .args .link) (s .pre .3))
 
 enum-known-c-3 : tie.Need-enum-known-c-3
 enum-known-c-3 c = search needs
@@ -39,7 +39,7 @@ seal-requires c κs =
     let at-c3 = at-copied .before .before in
     let s = at-c3 .before .before .before .before .before in
     copy-asked (at-copied .copied .ensures) (s .args .t .now) (s .args .log .now) (s .args .out .now) _ (s .args .link)
-    (s .pre .0, s .pre .1, s .pre .2, its-link (s .args .g) (s .args .t .now) (at-c3 .c3 .given .1) (s .args .link) (s .pre .3))
+    (s .pre .0, s .pre .1, s .pre .2, call-link (s .args .g) (s .args .t .now) (at-c3 .c3 .given .1) (s .args .link) (s .pre .3))
 
 enum-known-c-4 : tie.Need-enum-known-c-4
 enum-known-c-4 c = search needs
@@ -47,7 +47,7 @@ enum-known-c-4 c = search needs
 fork-requires : tie.Need-fork-requires
 fork-requires c κs =
     let s = c .before .before .before .before .before .before .before .before in
-    (s .pre .0, s .pre .2, its-link (s .args .g) (s .args .t .now) (c .before .before .before .c4 .given .1) (s .args .link) (s .pre .3))
+    (s .pre .0, s .pre .2, call-link (s .args .g) (s .args .t .now) (c .before .before .before .c4 .given .1) (s .args .link) (s .pre .3))
 
 enum-known-c-5 : tie.Need-enum-known-c-5
 enum-known-c-5 c = search needs
@@ -61,7 +61,7 @@ delete-requires c κs =
     let at-c5 = at-copied .before .before in
     let s = at-c5 .before .before .before .before .before in
     copy-asked (at-copied .copied2 .ensures) (s .args .t .now) (s .args .log .now) (s .args .out .now) _ (s .args .link)
-    (s .pre .0, s .pre .1, s .pre .2, its-link (s .args .g) (s .args .t .now) (at-c5 .c5 .given .1) (s .args .link) (s .pre .3))
+    (s .pre .0, s .pre .1, s .pre .2, call-link (s .args .g) (s .args .t .now) (at-c5 .c5 .given .1) (s .args .link) (s .pre .3))
 
 enum-known-c-6 : tie.Need-enum-known-c-6
 enum-known-c-6 c = search needs
@@ -69,7 +69,7 @@ enum-known-c-6 c = search needs
 read-requires : tie.Need-read-requires
 read-requires c κs =
     let s = c .before .before .before .before .before .before .before .before in
-    (s .pre .0, s .pre .2, its-link (s .args .g) (s .args .t .now) (c .before .before .before .c6 .given .1) (s .args .link) (s .pre .3))
+    (s .pre .0, s .pre .2, call-link (s .args .g) (s .args .t .now) (c .before .before .before .c6 .given .1) (s .args .link) (s .pre .3))
 
 enum-told-2 : tie.Need-enum-told-2
 enum-told-2 c = search needs
@@ -101,7 +101,7 @@ estimate-requires c κs =
     let at-c7 = at-copied .before .before in
     let s = at-c7 .before .before .before .before .before in
     copy-looked (at-copied .copied3 .ensures) (s .args .t .now) (s .args .out .now) _ (s .args .link)
-    (s .pre .0, s .pre .2, its-link (s .args .g) (s .args .t .now) (at-c7 .c7 .given .1) (s .args .link) (s .pre .3))
+    (s .pre .0, s .pre .2, call-link (s .args .g) (s .args .t .now) (at-c7 .c7 .given .1) (s .args .link) (s .pre .3))
 
 enum-known-c-8 : tie.Need-enum-known-c-8
 enum-known-c-8 c = search needs
@@ -109,7 +109,7 @@ enum-known-c-8 c = search needs
 retain-requires : tie.Need-retain-requires
 retain-requires c κs =
     let s = c .before .before .before .before .before .before .before in
-    (s .pre .0, its-link (s .args .g) (s .args .t .now) (c .before .before .c8 .given .1) (s .args .link) (s .pre .3))
+    (s .pre .0, call-link (s .args .g) (s .args .t .now) (c .before .before .c8 .given .1) (s .args .link) (s .pre .3))
 
 same-length : tie.Need-same-length
 same-length c = search needs
@@ -139,7 +139,8 @@ returns-2 c =
     let s = c .before .before .before .before .before .before .before .before .before .before .before .before .before .before .before .before in
     let a = s .args in
     let e = c .before .before .before .before .before .before .write .ensures in
-    of-call (a .g) (a .t .now) (a .log .now) (a .out .now) (c .before .before .before .before .before .before .before .before .before .before .before .c .given .1) _ _ _ _
+    of-call (a .g) (a .t .now) (a .log .now) (a .out .now)
+    (c .before .before .before .before .before .before .before .before .before .before .before .c .given .1) _ _ _ _
     e
 
 same-length-6 : tie.Need-same-length-6
@@ -156,7 +157,8 @@ returns-3 c =
     let s = c .before .before .before .before .before .before .before .before .before .before .before .before .before .before .before .before in
     let a = s .args in
     let e = c .before .before .before .before .before .before .erase .ensures in
-    of-call (a .g) (a .t .now) (a .log .now) (a .out .now) (c .before .before .before .before .before .before .before .before .before .before .before .c2 .given .1) _ _ _ _
+    of-call (a .g) (a .t .now) (a .log .now) (a .out .now)
+    (c .before .before .before .before .before .before .before .before .before .before .before .c2 .given .1) _ _ _ _
     e
 
 same-length-9 : tie.Need-same-length-9
@@ -251,7 +253,8 @@ returns-9 c =
     let s = c .before .before .before .before .before .before .before .before .before .before .before .before .before .before .before in
     let a = s .args in
     let e = c .before .before .before .before .before .before .compress-log .ensures in
-    of-call (a .g) (a .t .now) (a .log .now) (a .out .now) (c .before .before .before .before .before .before .before .before .before .before .enum-told3 .given .1) _ _ _ _
+    of-call (a .g) (a .t .now) (a .log .now) (a .out .now)
+    (c .before .before .before .before .before .before .before .before .before .before .enum-told3 .given .1) _ _ _ _
     e
 
 same-length-24 : tie.Need-same-length-24

@@ -26,7 +26,10 @@ same-length : tie.Need-same-length
 same-length c = search needs
 
 returns : tie.Need-returns
-returns c = Answers.refused-left (c .before .before .before .before .before .before .before .pre .0) _ _ _ _ _ (c .before .before .before .room .ensures) (c .before .verdict .given .1)
+returns c =
+    let at-verdict = c .before .before .before in
+    let s = at-verdict .before .before .before .before in
+    Answers.refused-left (s .pre .0) _ _ _ _ _ (at-verdict .room .ensures) (c .before .verdict .given .1)
 
 same-length-2 : tie.Need-same-length-2
 same-length-2 c = search needs

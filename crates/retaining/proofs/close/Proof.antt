@@ -27,7 +27,7 @@ seal-at-requires : tie.Need-seal-at-requires
 seal-at-requires c κs =
     let start = c .before .before .before .before .before .before .before .before .before .before .before in
     let needs = Closing.seal-needs (start .pre .0) _ _ _ (start .pre .3) in
-    (start .pre .0, needs .0, needs .1, needs .2, needs .3)
+    (start .pre .0, needs .0, needs .1, needs .2, needs .3, needs .4, needs .5)
 
 slice-write-out : tie.Need-slice-write-out
 slice-write-out c = search needs

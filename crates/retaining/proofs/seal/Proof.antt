@@ -91,7 +91,7 @@ seal-at-requires c κs =
     let accepted = at-told .before .verdict2 .given .1 in
     let closes = Sealing.closes-so (start .pre .0) _ _ verdict _ _ accepted _ (c .before .before .wide .ensures) in
     let needs = Closing.seal-needs (start .pre .0) _ _ _ closes in
-    (start .pre .0, needs .0, needs .1, needs .2, needs .3)
+    (start .pre .0, needs .0, needs .1, needs .2, needs .3, needs .4, needs .5)
 
 slice-write-out : tie.Need-slice-write-out
 slice-write-out c = search needs

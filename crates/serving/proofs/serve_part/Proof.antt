@@ -4,7 +4,7 @@ use Prim.Native.Nat.{_-_}
 use lib.ListN.{length}
 use Rattle.model.specs.Memory.{lent}
 use Rattle.serving.specs.Part.{begun, served}
-use Rattle.serving.proofs.Serving.{Running, begins, at-end, when-full, room, turned}
+use Rattle.serving.proofs.Serving.{Running, begins, at-end, when-full, name-inside, room, turned}
 use native.Mathlib.Omega.{arith}
 use borrow.Author.Needs.{needs}
 use Rattle.serving.proofs.serve_part.Statement.{statement}
@@ -53,7 +53,13 @@ said-at-requires : tie.Need-said-at-requires Inv-loop μ-loop
 said-at-requires c κs = tt
 
 step-requires : tie.Need-step-requires Inv-loop μ-loop
-step-requires c κs = c .before .before .before .before .before .before .before .loop .inv .kept
+step-requires c κs =
+    let at-said-at = c .before .before .before .before in
+    let at-loop = at-said-at .before .before .before in
+    let a = at-loop .before .before .before .before .before .before .before .args in
+    let d = at-said-at .said-at in
+    let l = at-loop .loop in
+    (l .inv .kept, name-inside (a .text .now) (l .i) (d .result .end) (d .result .says) (d .ensures .1 .1))
 
 spelling-of-requires : tie.Need-spelling-of-requires Inv-loop μ-loop
 spelling-of-requires c κs = tt

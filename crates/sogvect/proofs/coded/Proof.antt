@@ -1,6 +1,5 @@
 -- `coded`: one law for each arm.
 use Rattle.sogvect.proofs.Coding.{done-coded, refused-coded}
-use native.Mathlib.Omega.{arith}
 use borrow.Author.Needs.{needs}
 use Rattle.sogvect.proofs.coded.Statement.{statement}
 use Rattle.sogvect.proofs.coded.Tie as tie

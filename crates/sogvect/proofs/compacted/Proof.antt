@@ -1,6 +1,5 @@
 -- `compacted`: one law for each arm.
 use Rattle.sogvect.proofs.Coding.{words-compacted, refused-compacted}
-use native.Mathlib.Omega.{arith}
 use borrow.Author.Needs.{needs}
 use Rattle.sogvect.proofs.compacted.Statement.{statement}
 use Rattle.sogvect.proofs.compacted.Tie as tie

@@ -1,6 +1,5 @@
 -- `judge`: one law for each arm.
 use Rattle.sogvect.proofs.Coding.{alike-judged, different-judged, refused-judged}
-use native.Mathlib.Omega.{arith}
 use borrow.Author.Needs.{needs}
 use Rattle.sogvect.proofs.judge.Statement.{statement}
 use Rattle.sogvect.proofs.judge.Tie as tie

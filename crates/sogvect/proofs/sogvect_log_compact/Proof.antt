@@ -1,6 +1,5 @@
 -- `sogvect_log_compact`: what `compact` promises, coded.
 use Rattle.sogvect.proofs.Coding.{was-compacted}
-use native.Mathlib.Omega.{arith}
 use borrow.Author.Needs.{needs}
 use Rattle.sogvect.proofs.sogvect_log_compact.Statement.{statement}
 use Rattle.sogvect.proofs.sogvect_log_compact.Tie as tie

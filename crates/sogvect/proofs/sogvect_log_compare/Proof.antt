@@ -1,6 +1,5 @@
 -- `sogvect_log_compare`: what `compare` promises, coded.
 use Rattle.sogvect.proofs.Coding.{compared}
-use native.Mathlib.Omega.{arith}
 use borrow.Author.Needs.{needs}
 use Rattle.sogvect.proofs.sogvect_log_compare.Statement.{statement}
 use Rattle.sogvect.proofs.sogvect_log_compare.Tie as tie

@@ -1,6 +1,5 @@
 -- `sogvect_log_read`: what `read_held` promises, coded.
 use Rattle.sogvect.proofs.Coding.{was-read}
-use native.Mathlib.Omega.{arith}
 use borrow.Author.Needs.{needs}
 use Rattle.sogvect.proofs.sogvect_log_read.Statement.{statement}
 use Rattle.sogvect.proofs.sogvect_log_read.Tie as tie

@@ -1,7 +1,6 @@
 -- `sogvect_make`: what `make` promises, coded.
 use mathlib.Core.Path.{_∙_}
 use Rattle.sogvect.proofs.Coding.{code-is}
-use native.Mathlib.Omega.{arith}
 use borrow.Author.Needs.{needs}
 use Rattle.sogvect.proofs.sogvect_make.Statement.{statement}
 use Rattle.sogvect.proofs.sogvect_make.Tie as tie

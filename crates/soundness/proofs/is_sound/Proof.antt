@@ -6,7 +6,7 @@ use borrow.Author.Tests.{not-false}
 use Rattle.soundness.proofs.Clauses.{own-are}
 use Rattle.soundness.proofs.Loops.{failed, passed}
 use Rattle.soundness.proofs.Whole.{range-known, seen-none, sound-no-numbers, sound-no-range, sound-no-links, sound-no-pages, sound-no-births}
-use Rattle.soundness.proofs.Whole.{sound-no-words, sound-no-windows, sound-yes}
+use Rattle.soundness.proofs.Whole.{sound-no-words, sound-no-windows, sound-no-names, sound-yes}
 use Rattle.soundness.proofs.is_sound.Statement.{statement}
 use Rattle.soundness.proofs.is_sound.Tie as tie
 
@@ -55,9 +55,15 @@ windows-fit-requires c κs = search needs
 returns-7 : tie.Need-returns-7
 returns-7 c = sound-no-windows _ _ _ (failed (c .before .windows-fit .ensures) (c .if7 .taken))
 
+names-fit-requires : tie.Need-names-fit-requires
+names-fit-requires c κs = search needs
+
+returns-8 : tie.Need-returns-8
+returns-8 c = sound-no-names _ _ _ (failed (c .before .names-fit .ensures) (c .if8 .taken))
+
 log-holds-requires : tie.Need-log-holds-requires
 log-holds-requires c κs =
-    let at-if5 = c .before .before .before .before .before in
+    let at-if5 = c .before .before .before .before .before .before .before in
     let at-births = at-if5 .before in
     let at-if2 = at-births .before .before .before .before .before .before .before in
     let d = at-if2 .before .before .before .before .before .before in (
@@ -67,9 +73,10 @@ log-holds-requires c κs =
       own-are (d .args .g) (d .args .t .now) _ (passed (at-births .births-agree .ensures) (at-if5 .if5 .left)),
     )
 
-returns-8 : tie.Need-returns-8
-returns-8 c =
-    let at-if7 = c .before .before in
+returns-9 : tie.Need-returns-9
+returns-9 c =
+    let at-if8 = c .before .before in
+    let at-if7 = at-if8 .before .before in
     let at-if6 = at-if7 .before .before in
     let at-if5 = at-if6 .before .before in
     let at-if4 = at-if5 .before .before .before in
@@ -86,6 +93,7 @@ returns-8 c =
     (passed (at-if5 .before .births-agree .ensures) (at-if5 .if5 .left))
     (passed (at-if6 .before .words-fit .ensures) (at-if6 .if6 .left))
     (passed (at-if7 .before .windows-fit .ensures) (at-if7 .if7 .left))
+    (passed (at-if8 .before .names-fit .ensures) (at-if8 .if8 .left))
     (c .log-holds .ensures)
 
 pub is-sound-spec : {M : Type 1} → statement M
@@ -106,5 +114,7 @@ is-sound-spec =
     returns-6
     windows-fit-requires
     returns-7
+    names-fit-requires
+    returns-8
     log-holds-requires
-    returns-8)
+    returns-9)

@@ -16,35 +16,52 @@ is-forked-requires c κs = (c .before .before .pre .0 .roomy, omega arith)
 returns-2 : tie.Need-returns-2
 returns-2 c = Verdicts.has-fork _ _ _ _ (c .before .before .before .before .pre .1 .0) (c .before .before .if1 .left) _ (c .before .is-forked .ensures) (c .if2 .taken)
 
-follower-of-requires : tie.Need-follower-of-requires
-follower-of-requires c κs = (c .before .before .before .before .pre .0, omega arith)
+add-if3 : tie.Need-add-if3
+add-if3 c = omega arith
 
-log-is-short-requires : tie.Need-log-is-short-requires
-log-is-short-requires c κs =
-    let start = c .before .before .before .before .before in (
-      start .pre .0,
-      omega (arith, start .pre .1 .1),
-      Verdicts.slot-live _ _ _ _ (start .pre .1 .0) (c .before .before .before .if1 .left) (start .pre .0),
-      c .follower-of .ensures .1,
-    )
+mul-if3 : tie.Need-mul-if3
+mul-if3 c = omega arith
+
+shared-slice-read-if3 : tie.Need-shared-slice-read-if3
+shared-slice-read-if3 c = omega arith
 
 returns-3 : tie.Need-returns-3
 returns-3 c =
-    let start = c .before .before .before .before .before .before .before in
-    let there = c .before .before .before .before .before .if1 .left in
-    let fork = c .before .before .before .before .is-forked .ensures in
-    let none = c .before .before .before .if2 .left in
-    let next = c .before .before .follower-of .ensures .0 in
-    Verdicts.too-few _ _ _ _ (start .pre .1 .0) there _ fork none _ next _ (c .before .log-is-short .ensures) (c .if3 .taken)
+    let at-if2 = c .before .before in
+    let start = at-if2 .before .before .before .before in
+    Verdicts.has-name _ _ _ _ (start .pre .1 .0) (at-if2 .before .before .if1 .left) _ (at-if2 .before .is-forked .ensures) (at-if2 .if2 .left)
+    (start .pre .1 .1) (c .if3 .taken)
+
+follower-of-requires : tie.Need-follower-of-requires
+follower-of-requires c κs = (c .before .before .before .before .before .before .pre .0, omega arith)
+
+log-is-short-requires : tie.Need-log-is-short-requires
+log-is-short-requires c κs =
+    let at-if1 = c .before .before .before .before .before in
+    let start = at-if1 .before .before in (
+      start .pre .0,
+      omega (arith, start .pre .1 .1),
+      Verdicts.slot-live _ _ _ _ (start .pre .1 .0) (at-if1 .if1 .left) (start .pre .0),
+      c .follower-of .ensures .1,
+    )
 
 returns-4 : tie.Need-returns-4
 returns-4 c =
-    let start = c .before .before .before .before .before .before .before in
-    let there = c .before .before .before .before .before .if1 .left in
-    let fork = c .before .before .before .before .is-forked .ensures in
-    let none = c .before .before .before .if2 .left in
-    let next = c .before .before .follower-of .ensures .0 in
-    Verdicts.enough _ _ _ _ (start .pre .1 .0) there _ fork none _ next _ (c .before .log-is-short .ensures) (c .if3 .left)
+    let at-if3 = c .before .before .before in
+    let at-if2 = at-if3 .before .before in
+    let at-if1 = at-if2 .before .before in
+    let start = at-if1 .before .before in
+    Verdicts.too-few _ _ _ _ (start .pre .1 .0) (at-if1 .if1 .left) _ (at-if2 .before .is-forked .ensures) (at-if2 .if2 .left) (start .pre .1 .1)
+    (at-if3 .if3 .left) _ (c .before .before .follower-of .ensures .0) _ (c .before .log-is-short .ensures) (c .if4 .taken)
+
+returns-5 : tie.Need-returns-5
+returns-5 c =
+    let at-if3 = c .before .before .before in
+    let at-if2 = at-if3 .before .before in
+    let at-if1 = at-if2 .before .before in
+    let start = at-if1 .before .before in
+    Verdicts.enough _ _ _ _ (start .pre .1 .0) (at-if1 .if1 .left) _ (at-if2 .before .is-forked .ensures) (at-if2 .if2 .left) (start .pre .1 .1)
+    (at-if3 .if3 .left) _ (c .before .before .follower-of .ensures .0) _ (c .before .log-is-short .ensures) (c .if4 .left)
 
 pub delete-verdict-spec : {M : Type 1} → statement M
 delete-verdict-spec =
@@ -54,7 +71,11 @@ delete-verdict-spec =
     sub-s
     is-forked-requires
     returns-2
+    add-if3
+    mul-if3
+    shared-slice-read-if3
+    returns-3
     follower-of-requires
     log-is-short-requires
-    returns-3
-    returns-4)
+    returns-4
+    returns-5)

@@ -1,7 +1,6 @@
 -- `look_of`: the arm of each look, and one for the calls that do more.
 use Rattle.engine.proofs.Looking.{seen-as, not-seen}
 use borrow.Author.Needs.{needs}
-use native.Mathlib.Omega.{arith}
 use Rattle.engine.specs.declared.looks.Look.the-variants as look
 use Rattle.engine.proofs.looks.look_of.Statement.{statement}
 use Rattle.engine.proofs.looks.look_of.Tie as tie

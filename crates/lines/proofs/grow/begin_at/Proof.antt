@@ -11,7 +11,10 @@ clear-pages-requires : tie.Need-clear-pages-requires
 clear-pages-requires c κs = search needs
 
 open-record-requires : tie.Need-open-record-requires
-open-record-requires c κs = (omega arith, omega arith, omega (arith, Growing.paged-last (c .before .before .before .before .before .before .pre .0) (c .before .before .before .before .before .before .args .f) _ (c .before .before .before .before .before .before .pre .1) _ (c .before .before .before .clear-pages .ensures)))
+open-record-requires c κs =
+    let at-clear = c .before .before .before in
+    let s = at-clear .before .before .before in
+    (omega arith, omega arith, omega (arith, Growing.paged-last (s .pre .0) (s .args .f) _ (s .pre .1) _ (at-clear .clear-pages .ensures)))
 
 same-length : tie.Need-same-length
 same-length c = search needs

@@ -17,7 +17,10 @@ cast-open-record : tie.Need-cast-open-record
 cast-open-record c = search needs
 
 open-record-requires : tie.Need-open-record-requires
-open-record-requires c κs = (omega arith, omega arith, omega (arith, Growing.paged-last (c .before .before .before .before .before .before .pre .0) (c .before .before .before .before .before .before .args .f) _ (c .before .before .before .before .before .before .pre .1) _ (c .before .before .before .copy-pages .ensures)))
+open-record-requires c κs =
+    let at-copy = c .before .before .before in
+    let s = at-copy .before .before .before in
+    (omega arith, omega arith, omega (arith, Growing.paged-last (s .pre .0) (s .args .f) _ (s .pre .1) _ (at-copy .copy-pages .ensures)))
 
 same-length : tie.Need-same-length
 same-length c = search needs

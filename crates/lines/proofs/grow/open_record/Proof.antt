@@ -70,6 +70,15 @@ mul-t-6 c = search needs
 slice-write-t-7 : tie.Need-slice-write-t-7
 slice-write-t-7 c = simp length-set (omega arith)
 
+add-t-7 : tie.Need-add-t-7
+add-t-7 c = search needs
+
+mul-t-7 : tie.Need-mul-t-7
+mul-t-7 c = search needs
+
+slice-write-t-8 : tie.Need-slice-write-t-8
+slice-write-t-8 c = simp length-set (omega arith)
+
 same-length : tie.Need-same-length
 same-length c = simp length-set
 
@@ -102,5 +111,8 @@ open-record-spec =
     add-t-6
     mul-t-6
     slice-write-t-7
+    add-t-7
+    mul-t-7
+    slice-write-t-8
     same-length
     returns)

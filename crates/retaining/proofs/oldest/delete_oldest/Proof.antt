@@ -4,7 +4,6 @@ use native.Mathlib.Omega.{arith}
 use mathlib.Core.Path.{_≡_, refl, sym, _∙_}
 use Prim.Native.Nat.{suc, _-_, _*_, _<_}
 use lib.ListN.{getD}
-use borrow.Author.Tests.{ltb-true, ltb-false}
 use Rattle.retaining.proofs.Lining
 use Rattle.retaining.proofs.Parts
 use Rattle.retaining.proofs.Trimming
@@ -52,31 +51,12 @@ returns c =
     let start = c .before .before .before .before .before .before .before in
     Trimming.walk-none (start .pre .0) _ _ _ (start .args .most) _ _ (turn .done) (turn .left) (turn .i) (turn .inv .1) (c .if1 .taken)
 
-is-forked-requires : tie.Need-is-forked-requires Inv-loop μ-loop
-is-forked-requires c κs =
+is-bare-requires : tie.Need-is-bare-requires Inv-loop μ-loop
+is-bare-requires c κs =
     let turn = c .before .before .before .before .before .loop in
     let start = c .before .before .before .before .before .before .before .before in
     let slot = Trimming.walk-slot (start .pre .0) _ _ _ (start .args .most) _ _ (turn .done) (turn .left) (turn .i) (turn .inv .1) in
-    (turn .inv .1 .ready .roomy, omega (arith, c .before .before .wide .ensures, start .pre .0 .roomy .inside .records-most))
-
-sub-i-2 : tie.Need-sub-i-2 Inv-loop μ-loop
-sub-i-2 c = search needs
-
-loop-less : tie.Need-loop-less Inv-loop μ-loop
-loop-less c = search needs
-
-loop-again : tie.Need-loop-again Inv-loop μ-loop
-loop-again c =
-    let at-wide = c .before .before .before .before in
-    let at-test = at-wide .before .before in
-    let turn = at-test .before .loop in
-    let start = at-test .before .before .before .before in
-    let some = (let z : 0 < turn .left = omega arith in z) in
-    let fork = ltb-true 0 _ (sym (c .before .is-forked .ensures) ∙ c .if2 .taken) in (
-      omega arith,
-      Trimming.walk-stays (start .pre .0) _ _ _ (start .args .most) _ _ (turn .done) (turn .left) (turn .i) (turn .inv .1)
-          (at-test .loop-test .taken) some _ _ (at-wide .wide .ensures) refl fork,
-    )
+    (turn .inv .1 .ready .roomy, omega (arith, c .before .before .wide .ensures, slot))
 
 mul-at : tie.Need-mul-at Inv-loop μ-loop
 mul-at c = search needs
@@ -108,13 +88,13 @@ wide-requires-2 c κs = search needs
 add-delete-record : tie.Need-add-delete-record Inv-loop μ-loop
 add-delete-record c =
     let at-wide2 = c in
-    let at-fork = at-wide2 .before .before .before .before .before in
-    let at-wide = at-fork .before .before .before in
+    let at-bare = at-wide2 .before .before .before .before .before in
+    let at-wide = at-bare .before .before .before in
     let at-test = at-wide .before .before in
     let turn = at-test .before .loop in
     let start = at-test .before .before .before .before in
-    let some = (let z : 0 < turn .left = omega (arith, at-fork .before .before .if1 .left) in z) in
-    let bare = ltb-false 0 _ (sym (at-fork .is-forked .ensures) ∙ at-wide2 .before .before .before .before .if2 .left) in
+    let some = (let z : 0 < turn .left = omega (arith, at-bare .before .before .if1 .left) in z) in
+    let bare = sym (at-bare .is-bare .ensures) ∙ at-wide2 .before .before .before .before .if2 .taken in
     let slot = Trimming.turn-slot (start .pre .0) _ _ _ (start .args .most) _ _ (turn .done) (turn .left) (turn .i) (turn .inv .1)
     (at-test .loop-test .taken) some _ _ (at-wide .wide .ensures) (at-wide2 .wide2 .ensures) bare in
     omega (arith, start .pre .0 .roomy .inside .records-most)
@@ -122,13 +102,13 @@ add-delete-record c =
 delete-record-requires : tie.Need-delete-record-requires Inv-loop μ-loop
 delete-record-requires c κs =
     let at-wide2 = c in
-    let at-fork = at-wide2 .before .before .before .before .before in
-    let at-wide = at-fork .before .before .before in
+    let at-bare = at-wide2 .before .before .before .before .before in
+    let at-wide = at-bare .before .before .before in
     let at-test = at-wide .before .before in
     let turn = at-test .before .loop in
     let start = at-test .before .before .before .before in
-    let some = (let z : 0 < turn .left = omega (arith, at-fork .before .before .if1 .left) in z) in
-    let bare = ltb-false 0 _ (sym (at-fork .is-forked .ensures) ∙ at-wide2 .before .before .before .before .if2 .left) in
+    let some = (let z : 0 < turn .left = omega (arith, at-bare .before .before .if1 .left) in z) in
+    let bare = sym (at-bare .is-bare .ensures) ∙ at-wide2 .before .before .before .before .if2 .taken in
     let room = Trimming.turn-room (start .pre .0) _ _ _ (start .args .most) _ _ (turn .done) (turn .left) (turn .i) (turn .inv .1)
     (at-test .loop-test .taken) some _ _ (at-wide .wide .ensures) (at-wide2 .wide2 .ensures) bare (start .pre .2) in
     let part = Parts.part-length (turn .out) (2 * turn .done) (omega arith) in (
@@ -143,19 +123,42 @@ delete-record-requires c κs =
 add-done : tie.Need-add-done Inv-loop μ-loop
 add-done c =
     let at-wide2 = c .before .before .before .before .before in
-    let at-fork = at-wide2 .before .before .before .before .before in
-    let at-wide = at-fork .before .before .before in
+    let at-bare = at-wide2 .before .before .before .before .before in
+    let at-wide = at-bare .before .before .before in
     let at-test = at-wide .before .before in
     let turn = at-test .before .loop in
     let start = at-test .before .before .before .before in
-    let some = (let z : 0 < turn .left = omega (arith, at-fork .before .before .if1 .left) in z) in
-    let bare = ltb-false 0 _ (sym (at-fork .is-forked .ensures) ∙ at-wide2 .before .before .before .before .if2 .left) in
+    let some = (let z : 0 < turn .left = omega (arith, at-bare .before .before .if1 .left) in z) in
+    let bare = sym (at-bare .is-bare .ensures) ∙ at-wide2 .before .before .before .before .if2 .taken in
     let room = Trimming.turn-room (start .pre .0) _ _ _ (start .args .most) _ _ (turn .done) (turn .left) (turn .i) (turn .inv .1)
     (at-test .loop-test .taken) some _ _ (at-wide .wide .ensures) (at-wide2 .wide2 .ensures) bare (start .pre .2) in
     omega (arith, c .before .before .before .before .delete-record .ensures .0)
 
 sub-left : tie.Need-sub-left Inv-loop μ-loop
 sub-left c = search needs
+
+sub-i-2 : tie.Need-sub-i-2 Inv-loop μ-loop
+sub-i-2 c = search needs
+
+loop-less : tie.Need-loop-less Inv-loop μ-loop
+loop-less c = search needs
+
+loop-again : tie.Need-loop-again Inv-loop μ-loop
+loop-again c =
+    let at-wide2 = c .before .before .before .before .before in
+    let at-bare = at-wide2 .before .before .before .before .before in
+    let at-wide = at-bare .before .before .before in
+    let at-test = at-wide .before .before in
+    let turn = at-test .before .loop in
+    let start = at-test .before .before .before .before in
+    let some = (let z : 0 < turn .left = omega (arith, at-bare .before .before .if1 .left) in z) in
+    let bare = sym (at-bare .is-bare .ensures) ∙ at-wide2 .before .before .before .before .if2 .taken in
+    let (counted, (deleted, freed)) = c .before .before .before .before .delete-record .ensures in (
+      omega arith,
+      Trimming.walk-goes (start .pre .0) _ _ _ (start .args .most) _ _ (turn .done) (turn .left) (turn .i) (turn .inv .1)
+          (at-test .loop-test .taken) some _ _ (at-wide .wide .ensures) (at-wide2 .wide2 .ensures) bare
+          _ deleted _ counted _ freed (start .pre .2),
+    )
 
 sub-i-3 : tie.Need-sub-i-3 Inv-loop μ-loop
 sub-i-3 c = search needs
@@ -165,19 +168,15 @@ loop-less-2 c = search needs
 
 loop-again-2 : tie.Need-loop-again-2 Inv-loop μ-loop
 loop-again-2 c =
-    let at-wide2 = c .before .before .before .before .before in
-    let at-fork = at-wide2 .before .before .before .before .before in
-    let at-wide = at-fork .before .before .before in
+    let at-wide = c .before .before .before .before in
     let at-test = at-wide .before .before in
     let turn = at-test .before .loop in
     let start = at-test .before .before .before .before in
-    let some = (let z : 0 < turn .left = omega (arith, at-fork .before .before .if1 .left) in z) in
-    let bare = ltb-false 0 _ (sym (at-fork .is-forked .ensures) ∙ at-wide2 .before .before .before .before .if2 .left) in
-    let (counted, (deleted, freed)) = c .before .before .before .before .delete-record .ensures in (
+    let some = (let z : 0 < turn .left = omega arith in z) in
+    let named = sym (c .before .is-bare .ensures) ∙ c .if2 .left in (
       omega arith,
-      Trimming.walk-goes (start .pre .0) _ _ _ (start .args .most) _ _ (turn .done) (turn .left) (turn .i) (turn .inv .1)
-          (at-test .loop-test .taken) some _ _ (at-wide .wide .ensures) (at-wide2 .wide2 .ensures) bare
-          _ deleted _ counted _ freed (start .pre .2),
+      Trimming.walk-stays (start .pre .0) _ _ _ (start .args .most) _ _ (turn .done) (turn .left) (turn .i) (turn .inv .1)
+          (at-test .loop-test .taken) some _ _ (at-wide .wide .ensures) refl named,
     )
 
 same-length-3 : tie.Need-same-length-3 Inv-loop μ-loop
@@ -206,10 +205,7 @@ delete-oldest-spec =
     same-length
     same-length-2
     returns
-    is-forked-requires
-    sub-i-2
-    loop-less
-    loop-again
+    is-bare-requires
     mul-at
     mul-delete-record
     sub-delete-record
@@ -223,6 +219,9 @@ delete-oldest-spec =
     delete-record-requires
     add-done
     sub-left
+    sub-i-2
+    loop-less
+    loop-again
     sub-i-3
     loop-less-2
     loop-again-2

@@ -2,7 +2,8 @@
 use native.Mathlib.Omega.{arith}
 use borrow.Author.Needs.{needs}
 use Rattle.script.specs.Said.{saidAt}
-use Rattle.script.proofs.OnePass.{said-inside, tells-is}
+use Rattle.script.proofs.OnePass.{tells-is}
+use Rattle.script.proofs.Placed.{said-promised}
 use Rattle.script.proofs.said.said_at.Statement.{statement}
 use Rattle.script.proofs.said.said_at.Tie as tie
 
@@ -19,11 +20,13 @@ by-line-requires : tie.Need-by-line-requires
 by-line-requires c κs = search needs
 
 returns : tie.Need-returns
-returns c = said-inside _ _ _ (c .by-line .ensures)
+returns c =
+    let a = c .before .before .before .before .before .args in
+    said-promised (a .text .now) (a .at) _ (c .by-line .ensures)
 
 returns-2 : tie.Need-returns-2
 returns-2 c = let a = c .before .before .before .before .before .args in
-    said-inside (a .text .now) (a .at) _
+    said-promised (a .text .now) (a .at) _
     (tells-is _ (saidAt (a .text .now) (a .at)) _ _ (c .before .near .given .1) (c .before .before .before .near-at .ensures))
 
 pub said-at-spec : {M : Type 1} → statement M

@@ -4,7 +4,6 @@ use Rattle.geometry.specs.Limits.{geometryOf}
 use Rattle.model.specs.Memory.{Memory, lent}
 use Rattle.sogvect.proofs.Coding.{no-call, called}
 use Rattle.sogvect.proofs.Letters.{is-call, is-none}
-use native.Mathlib.Omega.{arith}
 use borrow.Author.Needs.{needs}
 use Rattle.sogvect.proofs.calls.sogvect_call.Statement.{statement}
 use Rattle.sogvect.proofs.calls.sogvect_call.Tie as tie
@@ -48,7 +47,7 @@ returns-2 c =
     let at-asked = at-call .before .before .before .before .before in
     let at-asked-by = at-asked .before .before in
     let s = at-asked-by .before .before .before .before in
-    called (six s) (memory s) (at-asked .asked .given .0 .0) _ _ _ _ _ _ _ _
+    called (six s) (memory s) _ _ _ _ (at-asked .asked .given .0 .0) _ _ _ _
     (is-call _ _ _ (at-asked-by .asked-by .ensures) (at-asked .asked .given .1)) (at-call .call .ensures) (c .coded .ensures)
 
 pub sogvect-call-spec : {M : Type 1} → statement M

@@ -9,7 +9,6 @@ use Rattle.engine.specs.Looks.{lookCall, onlyLooks, seenCall}
 use Rattle.sogvect.specs.Letters.{askedBy}
 use Rattle.sogvect.proofs.Coding.{no-call, called}
 use Rattle.sogvect.proofs.Letters.{is-call, is-none}
-use native.Mathlib.Omega.{arith}
 use borrow.Author.Needs.{needs}
 use Rattle.sogvect.proofs.looks.sogvect_look.Statement.{statement}
 use Rattle.sogvect.proofs.looks.sogvect_look.Tie as tie
@@ -72,7 +71,7 @@ returns-3 c =
     let s = at-asked-by .before .before .before .before in
     let asked = is-call _ (asks s) _ (at-asked-by .asked-by .ensures) (at-asked .asked .given .1) in
     let seen = sym (at-look-of .look-of .ensures) ∙ ap seenCall (at-seen .seen .given .1) in
-    called (six s) (memory s) (lookCall (at-seen .seen .given .0 .0)) _ _ _ _ _ _ _ _
+    called (six s) (memory s) _ _ _ _ (lookCall (at-seen .seen .given .0 .0)) _ _ _ _
     (ap onlyLooks asked ∙ seen) (at-look .look .ensures) (c .coded .ensures)
 
 pub sogvect-look-spec : {M : Type 1} → statement M

@@ -1,6 +1,5 @@
 -- `parted`: one law for each arm.
 use Rattle.sogvect.proofs.Coding.{part-parted, refused-parted}
-use native.Mathlib.Omega.{arith}
 use borrow.Author.Needs.{needs}
 use Rattle.sogvect.proofs.scripts.parted.Statement.{statement}
 use Rattle.sogvect.proofs.scripts.parted.Tie as tie

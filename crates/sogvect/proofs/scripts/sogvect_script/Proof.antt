@@ -1,6 +1,5 @@
 -- `sogvect_script`: what `serve_lent` promises, coded.
 use Rattle.sogvect.proofs.Coding.{scripted}
-use native.Mathlib.Omega.{arith}
 use borrow.Author.Needs.{needs}
 use Rattle.sogvect.proofs.scripts.sogvect_script.Statement.{statement}
 use Rattle.sogvect.proofs.scripts.sogvect_script.Tie as tie
@@ -27,7 +26,9 @@ same-length-5 : tie.Need-same-length-5
 same-length-5 c = search needs
 
 returns : tie.Need-returns
-returns c = scripted _ _ _ _ _ _ _ _ _ (c .before .before .before .before .before .before .before .before .before .before .before .before .before .serve-lent .ensures) (c .parted .ensures)
+returns c =
+    let at-serve-lent = c .before .before .before .before .before .before .before .before .before .before .before .before .before in
+    scripted _ _ _ _ _ _ _ _ _ (at-serve-lent .serve-lent .ensures) (c .parted .ensures)
 
 pub sogvect-script-spec : {M : Type 1} → statement M
 sogvect-script-spec =

@@ -2,19 +2,28 @@
 use Rattle.geometry.specs.declared.Geometry.{Geometry}
 use Rattle.geometry.specs.Limits.{geometryOf}
 use Rattle.log.proofs.Tools.{MadeOf, made-of, outside}
-use Rattle.model.specs.Memory.{lent}
+use Rattle.model.specs.Command.{Command, command}
+use Rattle.model.specs.Memory.{Memory, lent}
 use Rattle.engine.proofs.Untouched.{found-link}
 use Rattle.store.proofs.Admitted.{call-2, call-3, call-4, call-done, sound-requires, perform-requires-of}
 use borrow.Author.Needs.{needs}
-use native.Mathlib.Omega.{arith}
 use Rattle.store.proofs.call.call.Statement.{statement}
 use Rattle.store.proofs.call.call.Tie as tie
 
 abbrev six : tie.Start → Geometry
 six s = geometryOf (s .args .arenas) (s .args .per) (s .args .pages) (s .args .records) (s .args .turn) (s .args .words)
 
-is-made : (c : tie.After-made) → MadeOf (six (c .before .before .before .before .before .before)) (c .made .given .0 .0)
-is-made c = made-of (six (c .before .before .before .before .before .before)) (c .made .given .0 .0) (c .before .before .new .ensures .0) (c .made .given .1)
+abbrev memory : tie.Start → Memory
+memory s = lent (s .args .tables .now) (s .args .log .now) (s .args .out .now)
+
+abbrev asked : tie.Start → Command
+asked s = command (s .args .c)
+
+abbrev start : tie.After-made → tie.Start
+start c = c .before .before .before .before .before .before
+
+is-made : (c : tie.After-made) → MadeOf (six (start c)) (c .made .given .0 .0)
+is-made c = made-of (six (start c)) (c .made .given .0 .0) (c .before .before .new .ensures .0) (c .made .given .1)
 
 new-requires : tie.Need-new-requires
 new-requires c κs = search needs
@@ -29,8 +38,7 @@ returns : tie.Need-returns
 returns c =
     let n = c .before .before in
     let s = n .before .before .before .before in
-    let a = s .args in
-    call-2 (lent (a .tables .now) (a .log .now) (a .out .now)) (a .c) (six s) (outside (six s) (c .enum-told .given .0 .0) (n .new .ensures .0) (c .enum-told .given .1))
+    call-2 (memory s) (asked s) (six s) (outside (six s) (c .enum-told .given .0 .0) (n .new .ensures .0) (c .enum-told .given .1))
 
 is-short-requires : tie.Need-is-short-requires
 is-short-requires c κs = is-made (c .before .before .before .before) .inside
@@ -47,16 +55,14 @@ same-length-3 c = search needs
 returns-2 : tie.Need-returns-2
 returns-2 c =
     let m = c .before .before .before .before .before .before in
-    let a = m .before .before .before .before .before .before .args in
-    let M = lent (a .tables .now) (a .log .now) (a .out .now) in
-    call-3 M (a .c) (is-made m) (c .before .is-short .ensures) (c .if1 .taken)
+    let s = start m in
+    call-3 (memory s) (asked s) (is-made m) (c .before .is-short .ensures) (c .if1 .taken)
 
 is-sound-requires : tie.Need-is-sound-requires
 is-sound-requires c κs =
     let m = c .before .before .before .before .before .before .before .before in
-    let a = m .before .before .before .before .before .before .args in
-    let M = lent (a .tables .now) (a .log .now) (a .out .now) in
-    sound-requires M (a .c) (is-made m) (c .before .before .before .is-short .ensures) (c .before .before .if1 .left)
+    let s = start m in
+    sound-requires (memory s) (asked s) (is-made m) (c .before .before .before .is-short .ensures) (c .before .before .if1 .left)
 
 same-length-4 : tie.Need-same-length-4
 same-length-4 c = search needs
@@ -69,10 +75,10 @@ same-length-6 c = search needs
 
 returns-3 : tie.Need-returns-3
 returns-3 c =
-    let m = c .before .before .before .before .before .before .before .before .before .before in
-    let a = m .before .before .before .before .before .before .args in
-    let M = lent (a .tables .now) (a .log .now) (a .out .now) in
-    call-4 M (a .c) (is-made m) (c .before .before .before .before .before .is-short .ensures) (c .before .before .before .before .if1 .left) (c .before .is-sound .ensures) (c .if2 .taken)
+    let at-if1 = c .before .before .before .before in
+    let m = at-if1 .before .before .before .before .before .before in
+    let s = start m in
+    call-4 (memory s) (asked s) (is-made m) (at-if1 .before .is-short .ensures) (at-if1 .if1 .left) (c .before .is-sound .ensures) (c .if2 .taken)
 
 record-of-requires : tie.Need-record-of-requires
 record-of-requires c κs = search needs
@@ -84,9 +90,9 @@ slot-of-requires c κs =
     let at-if1 = at-is-sound .before .before .before in
     let at-is-short = at-if1 .before in
     let m = at-is-short .before .before .before .before .before in
-    let a = m .before .before .before .before .before .before .args in
-    let M = lent (a .tables .now) (a .log .now) (a .out .now) in
-    perform-requires-of M (a .c) (is-made m) (at-is-short .is-short .ensures) (at-if1 .if1 .left) (at-is-sound .is-sound .ensures) (at-if2 .if2 .left) .0
+    let s = start m in
+    perform-requires-of (memory s) (asked s) (is-made m) (at-is-short .is-short .ensures) (at-if1 .if1 .left)
+    (at-is-sound .is-sound .ensures) (at-if2 .if2 .left) .0
 
 perform-requires : tie.Need-perform-requires
 perform-requires c κs =
@@ -97,14 +103,11 @@ perform-requires c κs =
     let at-if1 = at-is-sound .before .before .before in
     let at-is-short = at-if1 .before in
     let m = at-is-short .before .before .before .before .before in
-    let a = m .before .before .before .before .before .before .args in
-    let M = lent (a .tables .now) (a .log .now) (a .out .now) in
-    let p = perform-requires-of M (a .c) (is-made m) (at-is-short .is-short .ensures) (at-if1 .if1 .left) (at-is-sound .is-sound .ensures) (at-if2 .if2 .left) in (
-      p .0,
-      p .1,
-      p .2,
-      found-link (m .made .given .0 .0) (a .tables .now) (a .c) (at-slot-of .slot-of .result) (at-record-of .record-of .ensures) (at-slot-of .slot-of .ensures),
-    )
+    let s = start m in
+    let p = perform-requires-of (memory s) (asked s) (is-made m) (at-is-short .is-short .ensures) (at-if1 .if1 .left)
+    (at-is-sound .is-sound .ensures) (at-if2 .if2 .left) in
+    let link = at-slot-of .slot-of in
+    (p .0, p .1, p .2, found-link (m .made .given .0 .0) (s .args .tables .now) (asked s) (link .result) (at-record-of .record-of .ensures) (link .ensures))
 
 same-length-7 : tie.Need-same-length-7
 same-length-7 c = search needs
@@ -123,9 +126,9 @@ returns-4 c =
     let at-if1 = at-is-sound .before .before .before in
     let at-is-short = at-if1 .before in
     let m = at-is-short .before .before .before .before .before in
-    let a = m .before .before .before .before .before .before .args in
-    let M = lent (a .tables .now) (a .log .now) (a .out .now) in
-    call-done M (a .c) (is-made m) (at-is-short .is-short .ensures) (at-if1 .if1 .left) (at-is-sound .is-sound .ensures) (at-if2 .if2 .left) _ _ _ _ (at-perform .perform .ensures)
+    let s = start m in
+    call-done (memory s) (asked s) (is-made m) (at-is-short .is-short .ensures) (at-if1 .if1 .left)
+    (at-is-sound .is-sound .ensures) (at-if2 .if2 .left) _ _ _ _ (at-perform .perform .ensures)
 
 pub call-spec : {M : Type 1} → statement M
 call-spec =

@@ -2,12 +2,12 @@
 use Rattle.geometry.specs.declared.Geometry.{Geometry}
 use Rattle.geometry.specs.Limits.{geometryOf}
 use Rattle.log.proofs.Tools.{MadeOf, made-of, outside}
+use Rattle.model.specs.Command.{Command, command}
 use Rattle.model.specs.Memory.{Memory, lent}
 use Rattle.store.proofs.Admitted.{call-2, call-3, call-4, call-done, sound-requires, perform-requires-of}
 use Rattle.engine.specs.Looks.{lookCall}
 use Rattle.engine.proofs.Looking.{look-performed}
 use Rattle.engine.proofs.Untouched.{found-link}
-use native.Mathlib.Omega.{arith}
 use borrow.Author.Needs.{needs}
 use Rattle.store.proofs.look.look.Statement.{statement}
 use Rattle.store.proofs.look.look.Tie as tie
@@ -17,6 +17,9 @@ six s = geometryOf (s .args .arenas) (s .args .per) (s .args .pages) (s .args .r
 
 abbrev memory : tie.Start → Memory
 memory s = lent (s .args .tables .now) (s .args .log .now) (s .args .out .now)
+
+abbrev asked : tie.Start → Command
+asked s = command (lookCall (s .args .c))
 
 abbrev start : tie.After-made → tie.Start
 start c = c .before .before .before .before .before .before
@@ -37,7 +40,7 @@ returns : tie.Need-returns
 returns c =
     let n = c .before .before in
     let s = n .before .before .before .before in
-    call-2 (memory s) (lookCall (s .args .c)) (six s) (outside (six s) (c .enum-told .given .0 .0) (n .new .ensures .0) (c .enum-told .given .1))
+    call-2 (memory s) (asked s) (six s) (outside (six s) (c .enum-told .given .0 .0) (n .new .ensures .0) (c .enum-told .given .1))
 
 is-short-requires : tie.Need-is-short-requires
 is-short-requires c κs = is-made (c .before .before) .inside
@@ -49,13 +52,13 @@ returns-2 : tie.Need-returns-2
 returns-2 c =
     let m = c .before .before .before .before in
     let s = start m in
-    call-3 (memory s) (lookCall (s .args .c)) (is-made m) (c .before .is-short .ensures) (c .if1 .taken)
+    call-3 (memory s) (asked s) (is-made m) (c .before .is-short .ensures) (c .if1 .taken)
 
 is-sound-requires : tie.Need-is-sound-requires
 is-sound-requires c κs =
     let m = c .before .before .before .before in
     let s = start m in
-    sound-requires (memory s) (lookCall (s .args .c)) (is-made m) (c .before .is-short .ensures) (c .if1 .left)
+    sound-requires (memory s) (asked s) (is-made m) (c .before .is-short .ensures) (c .if1 .left)
 
 same-length-2 : tie.Need-same-length-2
 same-length-2 c = search needs
@@ -66,7 +69,7 @@ returns-3 c =
     let m = at-is-short .before .before .before in
     let s = start m in
     let short = c .before .before .if1 .left in
-    call-4 (memory s) (lookCall (s .args .c)) (is-made m) (at-is-short .is-short .ensures) short (c .before .is-sound .ensures) (c .if2 .taken)
+    call-4 (memory s) (asked s) (is-made m) (at-is-short .is-short .ensures) short (c .before .is-sound .ensures) (c .if2 .taken)
 
 record-seen-requires : tie.Need-record-seen-requires
 record-seen-requires c κs = search needs
@@ -78,7 +81,7 @@ slot-of-requires c κs =
     let at-is-short = at-is-sound .before .before in
     let m = at-is-short .before .before .before in
     let s = start m in
-    perform-requires-of (memory s) (lookCall (s .args .c)) (is-made m) (at-is-short .is-short .ensures) (at-is-sound .before .if1 .left)
+    perform-requires-of (memory s) (asked s) (is-made m) (at-is-short .is-short .ensures) (at-is-sound .before .if1 .left)
     (at-is-sound .is-sound .ensures) (at-if2 .if2 .left) .0
 
 look-requires : tie.Need-look-requires
@@ -90,11 +93,10 @@ look-requires c κs =
     let at-is-short = at-is-sound .before .before in
     let m = at-is-short .before .before .before in
     let s = start m in
-    let l = lookCall (s .args .c) in
-    let p = perform-requires-of (memory s) l (is-made m) (at-is-short .is-short .ensures) (at-is-sound .before .if1 .left)
+    let p = perform-requires-of (memory s) (asked s) (is-made m) (at-is-short .is-short .ensures) (at-is-sound .before .if1 .left)
     (at-is-sound .is-sound .ensures) (at-if2 .if2 .left) in
     let link = at-slot-of .slot-of in
-    (p .0, p .2, found-link (m .made .given .0 .0) (s .args .tables .now) l (link .result) (at-record-seen .record-seen .ensures) (link .ensures))
+    (p .0, p .2, found-link (m .made .given .0 .0) (s .args .tables .now) (asked s) (link .result) (at-record-seen .record-seen .ensures) (link .ensures))
 
 same-length-3 : tie.Need-same-length-3
 same-length-3 c = search needs
@@ -107,12 +109,11 @@ returns-4 c =
     let at-is-short = at-is-sound .before .before in
     let m = at-is-short .before .before .before in
     let s = start m in
-    let l = s .args .c in
-    let p = perform-requires-of (memory s) (lookCall l) (is-made m) (at-is-short .is-short .ensures) (at-is-sound .before .if1 .left)
+    let p = perform-requires-of (memory s) (asked s) (is-made m) (at-is-short .is-short .ensures) (at-is-sound .before .if1 .left)
     (at-is-sound .is-sound .ensures) (at-if2 .if2 .left) in
-    call-done (memory s) (lookCall l) (is-made m) (at-is-short .is-short .ensures) (at-is-sound .before .if1 .left) (at-is-sound .is-sound .ensures)
+    call-done (memory s) (asked s) (is-made m) (at-is-short .is-short .ensures) (at-is-sound .before .if1 .left) (at-is-sound .is-sound .ensures)
     (at-if2 .if2 .left) _ _ _ _
-    (look-performed _ (m .made .given .0 .0) (s .args .tables .now) (s .args .log .now) (s .args .out .now) _ l (p .0) (at-look .look .ensures))
+    (look-performed _ (m .made .given .0 .0) (s .args .tables .now) (s .args .log .now) (s .args .out .now) _ (s .args .c) (p .0) (at-look .look .ensures))
 
 pub look-spec : {M : Type 1} → statement M
 look-spec =

@@ -39,8 +39,11 @@ loop-again c =
     let l = c .before .loop in
     let t = c .before .before .args .t .now in
     let e : l .i + 1 ≡ suc (l .i) = omega arith in
-    let z : l .i ≡ 0 + l .i = omega arith in
-    (omega arith, ap (λ u. set u (l .i) 0) (l .inv .1) ∙ ap (λ k. set (sets t 0 (replicate (l .i) 0)) k 0) z ∙ zeros-next t 0 (l .i) ∙ ap (λ k. sets t 0 (replicate k 0)) (sym e))
+    let z : l .i ≡ 0 + l .i = omega arith in (
+      omega arith,
+      ap (λ u. set u (l .i) 0) (l .inv .1) ∙ ap (λ k. set (sets t 0 (replicate (l .i) 0)) k 0) z
+          ∙ zeros-next t 0 (l .i) ∙ ap (λ k. sets t 0 (replicate k 0)) (sym e),
+    )
 
 same-length : tie.Need-same-length Inv-loop μ-loop
 same-length c = ap lib.ListN.length (c .before .loop .inv .1) ∙ length-sets _ 0 (replicate (c .before .loop .i) 0)

@@ -5,7 +5,6 @@ use Rattle.geometry.specs.Limits.{blocks}
 use Rattle.model.specs.Layout.{listed}
 use Rattle.store.specs.Fresh.{fullWord, sixNumbers}
 use Rattle.store.proofs.Filling.{filled}
-use native.Mathlib.Omega.{arith}
 use borrow.Author.Needs.{needs}
 use Rattle.store.proofs.make.fill.Statement.{statement}
 use Rattle.store.proofs.make.fill.Tie as tie

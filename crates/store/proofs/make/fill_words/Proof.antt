@@ -1,5 +1,5 @@
 -- `fill_words`: the words so far.
-use mathlib.Core.Path.{_≡_, refl, sym, ap, _∙_}
+use mathlib.Core.Path.{_≡_, sym, ap, _∙_}
 use Prim.Native.Nat.{suc, _+_, _-_, _≤_}
 use lib.ListN.{length, set}
 use lib.Seq.{sets, length-sets}

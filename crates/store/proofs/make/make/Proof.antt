@@ -6,7 +6,6 @@ use Rattle.log.proofs.Tools.{MadeOf, made-of, outside}
 use Rattle.model.proofs.Keeps.{is-long}
 use Rattle.model.specs.Memory.{lent}
 use Rattle.store.proofs.Making.{make-2, make-3, make-done}
-use native.Mathlib.Omega.{arith}
 use borrow.Author.Needs.{needs}
 use Rattle.store.proofs.make.make.Statement.{statement}
 use Rattle.store.proofs.make.make.Tie as tie
@@ -49,8 +48,11 @@ returns-2 c =
 fill-requires : tie.Need-fill-requires
 fill-requires c κs =
     let m = c .before .before .before .before .before in
-    let a = m .before .before .before .before .before .before .args in
-    (is-made m .inside, is-long (m .made .given .0 .0) (lent (a .tables .now) (a .log .now) (a .out .now)) (sym (c .before .before .is-short .ensures) ∙ c .before .if1 .left) .tables)
+    let a = m .before .before .before .before .before .before .args in (
+      is-made m .inside,
+      is-long (m .made .given .0 .0) (lent (a .tables .now) (a .log .now) (a .out .now))
+          (sym (c .before .before .is-short .ensures) ∙ c .before .if1 .left) .tables,
+    )
 
 same-length-2 : tie.Need-same-length-2
 same-length-2 c = search needs
@@ -60,7 +62,8 @@ returns-3 c =
     let f = c .before .before in
     let m = f .before .before .before .before .before .before in
     let a = m .before .before .before .before .before .before .args in
-    make-done (lent (a .tables .now) (a .log .now) (a .out .now)) (is-made m) _ (sym (f .before .before .if1 .left) ∙ f .before .before .before .is-short .ensures) (f .fill .ensures)
+    make-done (lent (a .tables .now) (a .log .now) (a .out .now)) (is-made m) _
+    (sym (f .before .before .if1 .left) ∙ f .before .before .before .is-short .ensures) (f .fill .ensures)
 
 pub make-spec : {M : Type 1} → statement M
 make-spec =
