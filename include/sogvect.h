@@ -1,7 +1,8 @@
 /* Sogvect: a snapshot store with forks, deletes in the middle of a line and an allocation log.
  *
  * The store keeps records (snapshots). A record maps pages to blocks; it is open (pages may be written) or sealed. Records stand in lines, and a sealed
- * record may be forked into a new line. The store decides which block a page gets and which blocks a change frees; it never touches the blocks' contents.
+ * record may be forked into a new line. Records may have names, and a record that has one is not deleted. The store decides which block a page gets and
+ * which blocks a change frees; it never touches the blocks' contents.
  *
  * Link with target/staticlib/libsogvect.a (x86-64 Linux; made by `rt staticlib sogvect`). The library allocates nothing and keeps nothing between calls:
  * a store lives wholly in memory that its owner lends with every call. The header is C99 and C++.
@@ -50,7 +51,7 @@ extern "C" {
 
 /* Changes whenever the tables or the log of a store mean something else than before. A store that is kept in a file belongs to the layout that it was
  * made with: keep the number beside it. */
-#define SOGVECT_LAYOUT 2
+#define SOGVECT_LAYOUT 3
 
 /* Limits of the six numbers; the least of each but words is 1. */
 #define SOGVECT_ARENAS_MAX 16
@@ -67,6 +68,10 @@ extern "C" {
 
 /* The most sealed records that a window can leave; the least is 1. */
 #define SOGVECT_WINDOW_MAX 62
+
+/* The most names that a store can have, and the most letters that a name can have; the least is 1. */
+#define SOGVECT_NAMES_MAX 32
+#define SOGVECT_LETTERS_MAX 32
 
 /* Least lengths of the lent memory; blocks is arenas x per. */
 #define SOGVECT_TABLES_NUMBERS(records, blocks) (2048 + 512 * (size_t)(records) + 4 * (size_t)(blocks))
@@ -107,6 +112,9 @@ extern "C" {
 #define SOGVECT_NO_BLOCK 13      /* no free block: each is on a page or waiting for a barrier */
 #define SOGVECT_LOG_FULL 14      /* too few unused log words: sogvect_compress makes room */
 #define SOGVECT_NO_WINDOW 15     /* the window is outside 1 to 62 */
+#define SOGVECT_NO_NAME 16       /* the bytes are no name: 1 to 32 letters a to z */
+#define SOGVECT_WRONG_NAME 17    /* a name in use, a second one on an open record or a thirty-third in the store; a name that no record has */
+#define SOGVECT_NAMED 18         /* delete or estimate of a record with a name on it */
 
 /* The reason of a refusal as an English phrase; of 0, and of a number that no refusal has, it says so. */
 static inline const char *sogvect_reason(uint32_t number) {
@@ -127,6 +135,9 @@ static inline const char *sogvect_reason(uint32_t number) {
     case SOGVECT_NO_BLOCK: return "no free block: each is on a page or waiting for a barrier";
     case SOGVECT_LOG_FULL: return "the log is too full: compressing makes room";
     case SOGVECT_NO_WINDOW: return "the window is outside 1 to 62";
+    case SOGVECT_NO_NAME: return "the bytes are no name: 1 to 32 letters a to z";
+    case SOGVECT_WRONG_NAME: return "the name is in use, a second on an open record, a thirty-third, or on no record";
+    case SOGVECT_NAMED: return "delete or estimate of a record with a name on it";
     default: return "no refusal has this number";
     }
 }
@@ -145,6 +156,7 @@ uint32_t sogvect_make(size_t arenas, size_t per, size_t pages, size_t records, s
  *   'W' x y z  sogvect_write          'F' x    sogvect_fork       'Y'      sogvect_barrier      'Q' x    sogvect_estimate
  *   'E' x y    sogvect_erase          'D' x    sogvect_delete     'C'      sogvect_compress     'K' x y  sogvect_retain
  *
+ * The calls with a name, which scripts have as N, U and M, are the three functions after sogvect_look.
  * Refusals: 1 (no call has the letter; nothing else is looked at then), and those of the call. */
 uint32_t sogvect_call(size_t arenas, size_t per, size_t pages, size_t records, size_t turn, size_t words,
                       uint32_t *tables, size_t tables_len, uint8_t *log, size_t log_len, uint32_t *out, size_t out_len,
@@ -156,6 +168,28 @@ uint32_t sogvect_call(size_t arenas, size_t per, size_t pages, size_t records, s
 uint32_t sogvect_look(size_t arenas, size_t per, size_t pages, size_t records, size_t turn, size_t words,
                       const uint32_t *tables, size_t tables_len, const uint8_t *log, size_t log_len, uint32_t *out, size_t out_len,
                       uint32_t letter, uint32_t x, uint32_t y, size_t *count);
+
+/* The calls with a name. A name is 1 to SOGVECT_LETTERS_MAX letters a to z, lent as bytes; no zero ends it. Bytes of any other kind, and of any number,
+ * are refused by 16. A sealed record may have many names, an open one has at most one. */
+
+/* Puts a name on a record. Of out only the length is read, here and in the next. There is no result.
+ * Refusals: 2, 3, 4, 16, 8, 17 (the name is in use, on this record too; the record is open and has a name; the store has SOGVECT_NAMES_MAX), in this
+ * order. */
+uint32_t sogvect_name(size_t arenas, size_t per, size_t pages, size_t records, size_t turn, size_t words,
+                      uint32_t *tables, size_t tables_len, const uint8_t *log, size_t log_len, const uint32_t *out, size_t out_len,
+                      const uint8_t *name, size_t name_len, uint32_t record);
+
+/* Takes a name off its record. There is no result.
+ * Refusals: 2, 3, 4, 16, 17 (no record has the name). */
+uint32_t sogvect_unname(size_t arenas, size_t per, size_t pages, size_t records, size_t turn, size_t words,
+                        uint32_t *tables, size_t tables_len, const uint8_t *log, size_t log_len, const uint32_t *out, size_t out_len,
+                        const uint8_t *name, size_t name_len);
+
+/* Says which record has a name. Like sogvect_look it only looks: tables and log are never written. Result: the record's number.
+ * Refusals: 2, 3, 4, 16, 17 (no record has the name). */
+uint32_t sogvect_resolve(size_t arenas, size_t per, size_t pages, size_t records, size_t turn, size_t words,
+                         const uint32_t *tables, size_t tables_len, const uint8_t *log, size_t log_len, uint32_t *out, size_t out_len,
+                         const uint8_t *name, size_t name_len, size_t *count);
 
 /* Reads a log of any length, of no store or of one whose tables are lost. Only what stands up to the last whole word equal to 3, a barrier, counts: the
  * bytes after it, which the disk may not have finished, are not judged and record nothing, and without such a word nothing is held. Result: the blocks
@@ -264,31 +298,33 @@ static inline uint32_t sogvect_erase(struct sogvect_store *store, uint32_t recor
     return sogvect_call_store(store, 'E', record, page, 0);
 }
 
-/* Seals an open record; a new open record with the same pages follows it in its line. Where the line has a window (sogvect_retain), its oldest sealed
- * records without a fork are then deleted, one after another, until no more sealed ones are left than the window says, or only forked ones and the
- * newest. Result: the new record's number; and after it a pair for each freed block, delete by delete: the block and the birth that it had. So the count
- * becomes 1, and two more for each freed block. 11 is judged before the deletes, and 14 on all of them together.
+/* Seals an open record; a new open record with the same pages follows it in its line, and gets its name if it has one. Where the line has a window
+ * (sogvect_retain), its oldest sealed records without a fork or a name are then deleted, one after another, until no more sealed ones are left than the
+ * window says, or only forked or named ones and the newest. Result: the new record's number; and after it a pair for each freed block, delete by delete:
+ * the block and the birth that it had. So the count becomes 1, and two more for each freed block. 11 is judged before the deletes, and 14 on all of them
+ * together.
  * Refusals: 2, 3, 4, 8, 9, 11, 12, 14. */
 static inline uint32_t sogvect_seal(struct sogvect_store *store, uint32_t record) {
     return sogvect_call_store(store, 'S', record, 0, 0);
 }
 
 /* Sets a window on the line of an open record, or replaces the one that it had: from now on a seal in the line deletes its oldest sealed records until at
- * most `most` are left, 1 to SOGVECT_WINDOW_MAX. Records with a fork on them count, but stay. The call itself deletes nothing. A new line has no window.
- * Result: nothing.
+ * most `most` are left, 1 to SOGVECT_WINDOW_MAX. Records with a fork or a name on them count, but stay. The call itself deletes nothing. A new line has no
+ * window. Result: nothing.
  * Refusals: 2, 3, 4, 15, 8, 9, in this order. */
 static inline uint32_t sogvect_retain(struct sogvect_store *store, uint32_t record, uint32_t most) {
     return sogvect_call_store(store, 'K', record, most, 0);
 }
 
-/* Forks a sealed record: a new line, whose open record has its pages. Result: the new record's number.
+/* Forks a sealed record: a new line, whose open record has its pages, and no name. Result: the new record's number.
  * Refusals: 2, 3, 4, 8, 9, 11, 12. */
 static inline uint32_t sogvect_fork(struct sogvect_store *store, uint32_t record) {
     return sogvect_call_store(store, 'F', record, 0, 0);
 }
 
-/* Deletes a record, open or sealed. Result: a pair for each freed block, none to all of them: the block and the birth that it had.
- * Refusals: 2, 3, 4, 8, 10, 14. */
+/* Deletes a record, open or sealed, that has neither a fork nor a name on it. Result: a pair for each freed block, none to all of them: the block and the
+ * birth that it had.
+ * Refusals: 2, 3, 4, 8, 10, 18, 14, in this order. */
 static inline uint32_t sogvect_delete(struct sogvect_store *store, uint32_t record) {
     return sogvect_call_store(store, 'D', record, 0, 0);
 }
@@ -303,6 +339,33 @@ static inline uint32_t sogvect_barrier(struct sogvect_store *store) {
  * Refusals: 2, 3, 4. */
 static inline uint32_t sogvect_compress(struct sogvect_store *store) {
     return sogvect_call_store(store, 'C', 0, 0, 0);
+}
+
+/* The bytes of a name for the three calls with one: of an empty one any pointer that is not NULL. */
+static inline const uint8_t *sogvect_name_bytes(const char *name, size_t name_len) {
+    return (const uint8_t *)(name_len == 0 ? "" : name);
+}
+
+/* Puts a name of so many bytes on a record; see sogvect_name. The pointer may be NULL where there are none. Result: nothing.
+ * Refusals: 2, 3, 4, 16, 8, 17, in this order. */
+static inline uint32_t sogvect_name_store(struct sogvect_store *store, const char *name, size_t name_len, uint32_t record) {
+    uint32_t code = sogvect_name(store->geometry.arenas, store->geometry.per, store->geometry.pages, store->geometry.records, store->geometry.turn,
+                                 store->geometry.words, store->tables, store->tables_len, store->log, store->log_len, store->out, store->out_len,
+                                 sogvect_name_bytes(name, name_len), name_len, record);
+    if (code == SOGVECT_DONE)
+        store->count = 0;
+    return code;
+}
+
+/* Takes a name of so many bytes off its record; see sogvect_unname. Result: nothing.
+ * Refusals: 2, 3, 4, 16, 17. */
+static inline uint32_t sogvect_unname_store(struct sogvect_store *store, const char *name, size_t name_len) {
+    uint32_t code = sogvect_unname(store->geometry.arenas, store->geometry.per, store->geometry.pages, store->geometry.records, store->geometry.turn,
+                                   store->geometry.words, store->tables, store->tables_len, store->log, store->log_len, store->out, store->out_len,
+                                   sogvect_name_bytes(name, name_len), name_len);
+    if (code == SOGVECT_DONE)
+        store->count = 0;
+    return code;
 }
 
 /* The calls below only look: tables and log are never written. They write the result and the count, so the store is not const; a thread that looks
@@ -328,10 +391,18 @@ static inline uint32_t sogvect_free_list(struct sogvect_store *store) {
     return sogvect_look_store(store, 'L', 0, 0);
 }
 
+/* Says which record has a name of so many bytes; see sogvect_resolve. Result: the record's number.
+ * Refusals: 2, 3, 4, 16, 17. */
+static inline uint32_t sogvect_resolve_store(struct sogvect_store *store, const char *name, size_t name_len) {
+    return sogvect_resolve(store->geometry.arenas, store->geometry.per, store->geometry.pages, store->geometry.records, store->geometry.turn,
+                           store->geometry.words, store->tables, store->tables_len, store->log, store->log_len, store->out, store->out_len,
+                           sogvect_name_bytes(name, name_len), name_len, &store->count);
+}
+
 /* Says what the delete of a record would do. Result, three numbers: how many blocks the delete would free, how many log words it would write, and how
  * many non-empty shards with a birth above the record's pred the record that follows it in its line has, 0 where none follows (docs/RULES.md, 1.5, 1.8
  * and 3.12). A sogvect_delete straight after it, if done, frees exactly that many blocks, and its count is twice that.
- * Refusals: 2, 3, 4, 8, 10. */
+ * Refusals: 2, 3, 4, 8, 10, 18. */
 static inline uint32_t sogvect_estimate(struct sogvect_store *store, uint32_t record) {
     return sogvect_look_store(store, 'Q', record, 0);
 }

@@ -3,6 +3,7 @@ pub mod clock;
 mod free;
 pub mod geometry;
 mod line;
+mod names;
 mod reply;
 pub mod script;
 pub mod store;

@@ -1,5 +1,9 @@
 //! Lines of a script, one pass over the text. A line of up to 15 bytes is looked at whole, in one register; a longer one number by number.
+use calls::Naming;
 use std::arch::x86_64::*;
+
+/// The most bytes of a line. Only one with a name can have more and be a call but for that.
+const LINE: usize = 80;
 
 /// Eight bytes from a position on, the first in the lowest byte; 0 beyond the end.
 #[inline(always)]
@@ -124,6 +128,21 @@ pub fn after_letter<const N: usize>(text: &[u8], at: usize) -> Option<([u32; N],
         None => long_numbers(text, at),
         found => found,
     }
+}
+
+/// The call with a name at a position: what it does, the name, and where the line ends.
+pub fn naming(text: &[u8], at: usize) -> Option<(Naming, &[u8], usize)> {
+    let letter = text[at];
+    let rest = text.get(at + 1..)?.strip_prefix(b" ")?;
+    let name = &rest[..rest.iter().position(|&b| b == b' ' || b == b'\n').unwrap_or(rest.len())];
+    let after = at + 2 + name.len();
+    let (naming, end) = match letter {
+        b'N' => numbers(text, after).map(|([r], end)| (Naming::Attach(r), end))?,
+        b'U' => numbers::<0>(text, after).map(|(_, end)| (Naming::Detach, end))?,
+        b'M' => numbers::<0>(text, after).map(|(_, end)| (Naming::Resolve, end))?,
+        _ => return None,
+    };
+    (!name.is_empty() && end - at <= LINE).then_some((naming, name, end))
 }
 
 /// Where the line at a position ends.

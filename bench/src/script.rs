@@ -1,5 +1,5 @@
 //! Scripts: each call is done and its reply written as soon as its line is read.
-use crate::line::{after_letter, line_end, numbers};
+use crate::line::{after_letter, line_end, naming, numbers};
 use crate::reply::put_reply;
 use crate::store::{Geometry, Reply, Store};
 use calls::Call;
@@ -38,14 +38,21 @@ fn call(store: &mut Store, text: &[u8], out: &mut [u8], p: Places) -> Option<Pla
     }
 }
 
+/// Does the call with a name on a line. It stands apart from the others, so that they are no slower for it.
+fn named(store: &mut Store, text: &[u8], at: usize) -> Option<(Reply, usize)> {
+    let (naming, name, end) = naming(text, at)?;
+    Some((store.call_naming(naming, name), end))
+}
+
 /// Before there is a store every call is refused.
 #[cold]
 fn too_early(text: &[u8], at: usize) -> Option<(Reply, usize)> {
-    let end = match Call::of(text[at], [0; 3])?.takes() {
-        0 => numbers::<0>(text, at + 1)?.1,
-        1 => numbers::<1>(text, at + 1)?.1,
-        2 => numbers::<2>(text, at + 1)?.1,
-        _ => numbers::<3>(text, at + 1)?.1,
+    let end = match Call::of(text[at], [0; 3]).map(Call::takes) {
+        None => naming(text, at)?.2,
+        Some(0) => numbers::<0>(text, at + 1)?.1,
+        Some(1) => numbers::<1>(text, at + 1)?.1,
+        Some(2) => numbers::<2>(text, at + 1)?.1,
+        Some(_) => numbers::<3>(text, at + 1)?.1,
     };
     Some((Reply::Refused(4), end))
 }
@@ -64,11 +71,11 @@ fn make(store: &mut Store, made: &mut bool, text: &[u8], at: usize) -> Option<(R
     Some((Reply::Nothing, end))
 }
 
-/// A line that is no call on a store: it makes one, or comes too early, or is passed over.
+/// A line that is no call of numbers on a store: it is one with a name, or makes a store, or comes too early, or is passed over.
 #[cold]
 fn other(store: &mut Store, made: &mut bool, text: &[u8], out: &mut [u8], p: Places) -> Places {
-    let early = if *made { None } else { too_early(text, p.at) };
-    let said = early.or_else(|| make(store, made, text, p.at));
+    let called = if *made { named(store, text, p.at) } else { too_early(text, p.at) };
+    let said = called.or_else(|| make(store, made, text, p.at));
     let (reply, end) = said.unwrap_or_else(|| (Reply::Refused(1), line_end(text, p.at)));
     Places { at: end + 1, used: put_reply(out, p.used, reply, &[]) }
 }

@@ -109,22 +109,100 @@ static void windows(void) {
     GIVES(sogvect_seal(&store, 5), 6, 1, 2, 2, 3);
 }
 
+/* A name that is a string literal, as its bytes and their number. */
+#define NAME(text) text, sizeof text - 1
+
+static const char longest[] = "abcdefghijklmnopqrstuvwxyzabcdefg";
+
+/* Names: of 1, which moves with the seal; two of a sealed record, which is then not deleted; bytes that are none, and names that may not be put there. */
+static void names(void) {
+    EXPECT(sogvect_make_store(&store) == SOGVECT_DONE);
+    GIVES(sogvect_begin(&store), 1);
+    GIVES_NOTHING(sogvect_name_store(&store, NAME("easter"), 1));
+    REFUSES(sogvect_name_store(&store, NAME("christmas"), 1), SOGVECT_WRONG_NAME);
+    GIVES(sogvect_seal(&store, 1), 2);
+    GIVES(sogvect_resolve_store(&store, NAME("easter")), 2);
+    GIVES_NOTHING(sogvect_name_store(&store, NAME("a"), 1));
+    GIVES_NOTHING(sogvect_name_store(&store, longest, SOGVECT_LETTERS_MAX, 1));
+    GIVES(sogvect_resolve_store(&store, longest, SOGVECT_LETTERS_MAX), 1);
+    REFUSES(sogvect_resolve_store(&store, longest, SOGVECT_LETTERS_MAX - 1), SOGVECT_WRONG_NAME);
+    REFUSES(sogvect_resolve_store(&store, longest, SOGVECT_LETTERS_MAX + 1), SOGVECT_NO_NAME);
+    /* 16 comes before 8, and 8 before 17 */
+    REFUSES(sogvect_name_store(&store, longest, SOGVECT_LETTERS_MAX + 1, 9), SOGVECT_NO_NAME);
+    REFUSES(sogvect_name_store(&store, NULL, 0, 9), SOGVECT_NO_NAME);
+    REFUSES(sogvect_name_store(&store, NAME("Easter"), 1), SOGVECT_NO_NAME);
+    REFUSES(sogvect_name_store(&store, NAME("a\0"), 1), SOGVECT_NO_NAME);
+    REFUSES(sogvect_unname_store(&store, NULL, 0), SOGVECT_NO_NAME);
+    REFUSES(sogvect_resolve_store(&store, NULL, 0), SOGVECT_NO_NAME);
+    REFUSES(sogvect_name_store(&store, NAME("easter"), 9), SOGVECT_NO_RECORD);
+    REFUSES(sogvect_name_store(&store, NAME("easter"), 1), SOGVECT_WRONG_NAME);
+    REFUSES(sogvect_name_store(&store, NAME("easter"), 2), SOGVECT_WRONG_NAME);
+    REFUSES(sogvect_delete(&store, 1), SOGVECT_NAMED);
+    REFUSES(sogvect_estimate(&store, 2), SOGVECT_NAMED);
+    /* a fork has no name, and 10 comes before 18 */
+    GIVES(sogvect_fork(&store, 1), 3);
+    REFUSES(sogvect_delete(&store, 1), SOGVECT_FORKED);
+    GIVES_NOTHING(sogvect_delete(&store, 3));
+    GIVES_NOTHING(sogvect_unname_store(&store, NAME("a")));
+    REFUSES(sogvect_unname_store(&store, NAME("a")), SOGVECT_WRONG_NAME);
+    REFUSES(sogvect_delete(&store, 1), SOGVECT_NAMED);
+    GIVES_NOTHING(sogvect_unname_store(&store, longest, SOGVECT_LETTERS_MAX));
+    GIVES_NOTHING(sogvect_delete(&store, 1));
+}
+
+/* A window passes over a named record: the seal of 5 deletes 4 and leaves 2, which has a name. Then as many names as there can be. */
+static void names_and_windows(void) {
+    char name[] = "aa";
+    int i;
+    GIVES_NOTHING(sogvect_unname_store(&store, NAME("easter")));
+    GIVES_NOTHING(sogvect_retain(&store, 2, 2));
+    GIVES(sogvect_seal(&store, 2), 4);
+    GIVES_NOTHING(sogvect_name_store(&store, NAME("kept"), 2));
+    GIVES(sogvect_write(&store, 4, 0, SOGVECT_DATA), 0, 4);
+    GIVES(sogvect_seal(&store, 4), 5);
+    GIVES(sogvect_write(&store, 5, 0, SOGVECT_DATA), 1, 5);
+    GIVES(sogvect_seal(&store, 5), 6, 0, 4);
+    GIVES(sogvect_resolve_store(&store, NAME("kept")), 2);
+    REFUSES(sogvect_read(&store, 4, 0), SOGVECT_NO_RECORD);
+    for (i = 1; i < SOGVECT_NAMES_MAX; i++) {
+        name[0] = (char)('a' + i % 26);
+        name[1] = (char)('a' + i / 26);
+        GIVES_NOTHING(sogvect_name_store(&store, name, 2, 2));
+    }
+    REFUSES(sogvect_name_store(&store, NAME("more"), 2), SOGVECT_WRONG_NAME);
+    REFUSES(sogvect_name_store(&store, NAME("more"), 6), SOGVECT_WRONG_NAME);
+    GIVES_NOTHING(sogvect_unname_store(&store, NAME("kept")));
+    GIVES_NOTHING(sogvect_name_store(&store, NAME("more"), 6));
+    GIVES(sogvect_resolve_store(&store, NAME("more")), 6);
+}
+
+/* The calls with a name are refused as the others are by the six numbers, the lengths and the tables, before 16. */
+static void names_refused(uint32_t number) {
+    REFUSES(sogvect_name_store(&store, NAME("A"), 9), number);
+    REFUSES(sogvect_unname_store(&store, NAME("A")), number);
+    REFUSES(sogvect_resolve_store(&store, NAME("A")), number);
+}
+
 static void refusals(void) {
     uint32_t kept[sizeof tables / sizeof *tables];
     struct sogvect_store sound = store;
     memcpy(kept, tables, sizeof tables);
     store.geometry.arenas = 17;
     REFUSES(sogvect_begin(&store), SOGVECT_OUTSIDE_LIMITS);
+    names_refused(SOGVECT_OUTSIDE_LIMITS);
     EXPECT(sogvect_make_store(&store) == SOGVECT_OUTSIDE_LIMITS);
     store = sound;
     store.tables_len -= 1;
     REFUSES(sogvect_begin(&store), SOGVECT_TOO_SHORT);
+    names_refused(SOGVECT_TOO_SHORT);
     EXPECT(sogvect_make_store(&store) == SOGVECT_TOO_SHORT);
     store = sound;
     store.geometry.arenas = 3;
     store.geometry.per = 2;
     REFUSES(sogvect_begin(&store), SOGVECT_NOT_SOUND);
+    names_refused(SOGVECT_NOT_SOUND);
     store = sound;
+    names_refused(SOGVECT_NO_NAME);
     REFUSES(sogvect_write(&store, 2, 5, 0), SOGVECT_NO_PAGE);
     REFUSES(sogvect_write(&store, 2, 4, 3), SOGVECT_NO_KIND);
     REFUSES(sogvect_delete(&store, 9), SOGVECT_NO_RECORD);
@@ -133,7 +211,7 @@ static void refusals(void) {
     EXPECT(memcmp(kept, tables, sizeof tables) == 0);
 }
 
-/* A letter that no call has is refused by 1, whatever else is wrong. */
+/* A letter that no call of numbers has is refused by 1, whatever else is wrong: N, U and M are none. */
 static void letters(void) {
     static const char calls[] = "BWESFDRYCLQK";
     uint32_t kept[sizeof tables / sizeof *tables], letter;
@@ -159,7 +237,7 @@ static void letters(void) {
     EXPECT(memcmp(kept, tables, sizeof tables) == 0);
 }
 
-/* Looks at memory that is const, with a buffer of their own, give what calls give. */
+/* Looks at memory that is const, with a buffer of their own, give what calls give; so does sogvect_resolve. */
 static void looks(void) {
     static uint32_t mine[SOGVECT_OUT_NUMBERS(BLOCKS)];
     const uint32_t *const read_tables = tables;
@@ -173,17 +251,23 @@ static void looks(void) {
         EXPECT(code == sogvect_call_store(&store, 'R', 2, page, 0) && n == store.count);
         EXPECT(n == SIZE_MAX || memcmp(mine, out, n * sizeof *out) == 0);
     }
+    size_t n = SIZE_MAX;
+    GIVES_NOTHING(sogvect_name_store(&store, NAME("easter"), 2));
+    EXPECT(sogvect_resolve(SIX, read_tables, sizeof tables / sizeof *tables, read_log, sizeof logged, mine, sizeof mine / sizeof *mine,
+                           (const uint8_t *)"easter", 6, &n) == SOGVECT_DONE);
+    EXPECT(n == 1 && mine[0] == 2);
+    GIVES_NOTHING(sogvect_unname_store(&store, NAME("easter")));
 }
 
 /* Each refusal has a reason of its own. */
 static void reasons(void) {
     uint32_t i, j;
-    for (i = SOGVECT_DONE; i <= SOGVECT_NO_WINDOW + 1; i++) {
+    for (i = SOGVECT_DONE; i <= SOGVECT_NAMED + 1; i++) {
         for (j = SOGVECT_DONE; j < i; j++)
             EXPECT(strcmp(sogvect_reason(i), sogvect_reason(j)) != 0);
     }
     EXPECT(strcmp(sogvect_reason(SOGVECT_NO_RECORD), "the record is not in the store") == 0);
-    EXPECT(sogvect_reason(UINT32_MAX) == sogvect_reason(SOGVECT_NO_WINDOW + 1));
+    EXPECT(sogvect_reason(UINT32_MAX) == sogvect_reason(SOGVECT_NAMED + 1));
 }
 
 static void logs(void) {
@@ -212,18 +296,18 @@ static void logs(void) {
 static void script(void) {
     static uint32_t its_tables[SOGVECT_TABLES_NUMBERS_MAX], its_out[SOGVECT_OUT_NUMBERS_MAX];
     static uint8_t its_log[SOGVECT_LOG_BYTES_MAX], replies[65536];
-    const char *text = "store 2 3 5 4 7 20\nB\nW 1 4 0\nno call\nL";
-    const char *said = "+\n+ 1\n+ 0:1\n- 1\n+ 1 2 3 3\n";
+    const char *text = "store 2 3 5 4 7 20\nB\nW 1 4 0\nno call\nN a 1\nM a\nL";
+    const char *said = "+\n+ 1\n+ 0:1\n- 1\n+\n+ 1\n+ 1 2 3 3\n";
     uint32_t run[SOGVECT_SCRIPT_RUN] = {0};
     size_t at = 0, bytes = 0;
 #define PART(tables_len) \
     sogvect_script((const uint8_t *)text, strlen(text), &at, run, SOGVECT_SCRIPT_RUN, its_tables, tables_len, its_log, sizeof its_log, its_out, \
                    SOGVECT_OUT_NUMBERS_MAX, replies, sizeof replies, &bytes)
-#define PART_REFUSES(tables_len, number) EXPECT(PART(tables_len) == (number) && at == 41 && bytes == strlen(said))
+#define PART_REFUSES(tables_len, number) EXPECT(PART(tables_len) == (number) && at == 50 && bytes == strlen(said))
     EXPECT(PART(SOGVECT_TABLES_NUMBERS_MAX) == SOGVECT_DONE);
     EXPECT(at >= strlen(text) && bytes == strlen(said) && memcmp(replies, said, bytes) == 0);
     EXPECT(run[0] == 1 && run[1] == 2 && run[6] == 20);
-    at = 41;
+    at = 50;
     PART_REFUSES(SOGVECT_TABLES_NUMBERS_MAX - 1, SOGVECT_TOO_SHORT);
     its_tables[9] = 9;
     PART_REFUSES(SOGVECT_TABLES_NUMBERS_MAX, SOGVECT_NOT_SOUND);
@@ -243,6 +327,8 @@ int main(void) {
     logs();
     script();
     windows();
+    names();
+    names_and_windows();
     puts("ok");
     return 0;
 }

@@ -1,4 +1,5 @@
-//! Two editions of a book that share a page: what each has, what a delete would free, and what it frees. Run: cargo run --example editions
+//! Two editions of a book that share a page: what each has, a name for the first, what a delete would free, and what it frees.
+//! Run: cargo run --example editions
 use sogvect::{log_read, Block, Geometry, Kind, Refusal, Space, Store};
 
 /// Blocks as text, each with its birth.
@@ -23,8 +24,13 @@ fn main() -> Result<(), Refusal> {
         println!("{name} (record {record}) has {}", spelled(pages?.into_iter().flatten()));
     }
 
+    store.name(b"easter", first)?;
+    println!("easter is record {}", store.resolve(b"easter")?);
+
     println!("deleting the forked record: {}", store.delete(first).unwrap_err());
     println!("deleting the fork frees {}", spelled(store.delete(other)?));
+    println!("deleting the named record: {}", store.delete(first).unwrap_err());
+    store.unname(b"easter")?;
     println!("deleting the first would do this: {:?}", store.estimate(first)?);
     println!("it frees {}", spelled(store.delete(first)?));
     println!("free, but for what waits: {:?}", store.free_list()?);

@@ -27,7 +27,8 @@
 //! # Ok::<(), sogvect::Refusal>(())
 //! ```
 //!
-//! A line can have a window ([`Store::retain`]): then a seal deletes the line's oldest records itself.
+//! A line can have a window ([`Store::retain`]): then a seal deletes the line's oldest records itself. Records can have names ([`Store::name`]), and a
+//! record that has one is not deleted.
 //!
 //! A whole script of calls as text, replies as text, is served by [`Script`].
 #![warn(missing_docs)]
@@ -46,13 +47,13 @@ mod script;
 mod store;
 
 pub use block::{Block, Record};
-pub use calls::{Call, NoCall, Spelling};
+pub use calls::{Call, Command, Naming, NoCall, Spelling};
 pub use refusal::Refusal;
 pub use script::{script_part, Part, Script, SCRIPT_LOG, SCRIPT_OUT, SCRIPT_REPLIES, SCRIPT_RUN, SCRIPT_TABLES};
 pub use store::{Estimate, Kind, Memory, Sealed, Space, Store, Written};
 
 /// Changes whenever the tables or the log of a store mean something else than before: keep it beside a store that is kept in a file.
-pub const LAYOUT: u32 = 2;
+pub const LAYOUT: u32 = 3;
 
 /// The six numbers that a store is made from. Any numbers can be given; a call refuses those outside the limits with [`Refusal::OUTSIDE_LIMITS`].
 #[derive(Clone, Copy, Debug, PartialEq, Eq, Hash)]

@@ -60,6 +60,62 @@ extern "C" {
         count: *mut usize,
     ) -> u32;
 
+    /// A name put on a record.
+    pub fn sogvect_name(
+        arenas: usize,
+        per: usize,
+        pages: usize,
+        records: usize,
+        turn: usize,
+        words: usize,
+        tables: *mut u32,
+        tables_len: usize,
+        log: *const u8,
+        log_len: usize,
+        out: *const u32,
+        out_len: usize,
+        name: *const u8,
+        name_len: usize,
+        record: u32,
+    ) -> u32;
+
+    /// A name taken off its record.
+    pub fn sogvect_unname(
+        arenas: usize,
+        per: usize,
+        pages: usize,
+        records: usize,
+        turn: usize,
+        words: usize,
+        tables: *mut u32,
+        tables_len: usize,
+        log: *const u8,
+        log_len: usize,
+        out: *const u32,
+        out_len: usize,
+        name: *const u8,
+        name_len: usize,
+    ) -> u32;
+
+    /// The record that has a name: tables and log are read and never written.
+    pub fn sogvect_resolve(
+        arenas: usize,
+        per: usize,
+        pages: usize,
+        records: usize,
+        turn: usize,
+        words: usize,
+        tables: *const u32,
+        tables_len: usize,
+        log: *const u8,
+        log_len: usize,
+        out: *mut u32,
+        out_len: usize,
+        name: *const u8,
+        name_len: usize,
+        count: *mut usize,
+    ) -> u32;
+
     /// The blocks held at the last barrier of a log, one number each.
     pub fn sogvect_log_read(
         arenas: usize,

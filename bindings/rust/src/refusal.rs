@@ -38,6 +38,12 @@ impl Refusal {
     pub const LOG_FULL: Refusal = Refusal(14);
     /// 15: a window outside 1 to 62.
     pub const NO_WINDOW: Refusal = Refusal(15);
+    /// 16: bytes that are no name: 1 to 32 letters a to z.
+    pub const NO_NAME: Refusal = Refusal(16);
+    /// 17: a name in use, a second one on an open record or a thirty-third in the store; or a name that no record has.
+    pub const WRONG_NAME: Refusal = Refusal(17);
+    /// 18: a delete, or the estimate of one, of a record with a name on it.
+    pub const NAMED: Refusal = Refusal(18);
 
     /// The number, as include/sogvect.h has it.
     pub const fn number(self) -> u32 {
@@ -71,6 +77,9 @@ impl fmt::Display for Refusal {
             13 => "no free block: each is on a page or waiting for a barrier",
             14 => "the log is too full: compressing makes room",
             15 => "window outside 1 to 62",
+            16 => "no name: 1 to 32 letters a to z",
+            17 => "name in use, a second on an open record, a thirty-third, or on no record",
+            18 => "delete or estimate of a record with a name on it",
             number => return write!(f, "refused by {number}"),
         };
         f.write_str(reason)

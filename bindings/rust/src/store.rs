@@ -1,5 +1,5 @@
 //! A store on lent memory, and its calls.
-use crate::{Block, Call, Geometry, Record, Refusal};
+use crate::{Block, Call, Command, Geometry, Naming, Record, Refusal};
 
 /// The memory that a store lives in. Longer memory is taken; what lies beyond the least lengths is never changed.
 ///
@@ -114,12 +114,26 @@ impl<'a> Store<'a> {
     }
 
     /// Makes a call, and gives the result's numbers, which stand at the start of the result buffer. A block is two numbers, the block and its birth;
-    /// [`Call::spelling`] says which numbers are blocks.
+    /// [`Command::spelling`] says which numbers are blocks.
     ///
     /// # Errors
     ///
     /// Refused by the numbers that the function of the call names; see [`Refusal`].
-    pub fn call(&mut self, call: Call) -> Result<&[u32], Refusal> {
+    pub fn call<'n>(&mut self, call: impl Into<Command<'n>>) -> Result<&[u32], Refusal> {
+        let count = match call.into() {
+            Command::Unnamed(call) => self.call_unnamed(call)?,
+            Command::Naming(Naming::Attach(record), name) => self.attach(name, record)?,
+            Command::Naming(Naming::Detach, name) => self.detach(name)?,
+            Command::Naming(Naming::Resolve, name) => {
+                let m = &mut self.memory;
+                resolved(self.geometry, m.tables, m.log, m.out, name)?
+            }
+        };
+        Ok(&self.memory.out[..count])
+    }
+
+    /// How many numbers the result of a call has; the same below.
+    fn call_unnamed(&mut self, call: Call) -> Result<usize, Refusal> {
         let (g, m) = (self.geometry, &mut self.memory);
         let [x, y, z] = call.numbers();
         let mut count: usize = 0;
@@ -142,37 +156,64 @@ impl<'a> Store<'a> {
                 &mut count,
             )
         };
-        Refusal::check(code).map(|()| &m.out[..count])
+        Refusal::check(code).map(|()| count)
     }
 
-    /// Makes a call that only looks ([`Call::Read`], [`Call::FreeList`], [`Call::Estimate`]), with a result buffer of the caller's, at least
-    /// [`Geometry::out_len`] numbers. Tables and log are only read, so several threads may look at once.
+    fn attach(&mut self, name: &[u8], record: u32) -> Result<usize, Refusal> {
+        let (g, m) = (self.geometry, &mut self.memory);
+        // SAFETY: the pointers and lengths are those of three exclusive slices, of which the first alone is written, and of a shared one.
+        let code = unsafe {
+            bare!(
+                sogvect_name,
+                g,
+                m.tables.as_mut_ptr(),
+                m.tables.len(),
+                m.log.as_ptr(),
+                m.log.len(),
+                m.out.as_ptr(),
+                m.out.len(),
+                name.as_ptr(),
+                name.len(),
+                record,
+            )
+        };
+        Refusal::check(code).map(|()| 0)
+    }
+
+    fn detach(&mut self, name: &[u8]) -> Result<usize, Refusal> {
+        let (g, m) = (self.geometry, &mut self.memory);
+        // SAFETY: the pointers and lengths are those of three exclusive slices, of which the first alone is written, and of a shared one.
+        let code = unsafe {
+            bare!(
+                sogvect_unname,
+                g,
+                m.tables.as_mut_ptr(),
+                m.tables.len(),
+                m.log.as_ptr(),
+                m.log.len(),
+                m.out.as_ptr(),
+                m.out.len(),
+                name.as_ptr(),
+                name.len(),
+            )
+        };
+        Refusal::check(code).map(|()| 0)
+    }
+
+    /// Makes a call that only looks ([`Call::Read`], [`Call::FreeList`], [`Call::Estimate`], [`Naming::Resolve`]), with a result buffer of the caller's, at
+    /// least [`Geometry::out_len`] numbers. Tables and log are only read, so several threads may look at once.
     ///
     /// # Errors
     ///
     /// Refused by [`Refusal::NO_CALL`] for any other call, else by the numbers that the function of the call names; see [`Refusal`].
-    pub fn look<'o>(&self, call: Call, out: &'o mut [u32]) -> Result<&'o [u32], Refusal> {
+    pub fn look<'n, 'o>(&self, call: impl Into<Command<'n>>, out: &'o mut [u32]) -> Result<&'o [u32], Refusal> {
         let (g, tables, log): (Geometry, &[u32], &[u8]) = (self.geometry, self.memory.tables, self.memory.log);
-        let [x, y, _] = call.numbers();
-        let mut count: usize = 0;
-        // SAFETY: the pointers and lengths are those of two shared slices, of an exclusive one, and of a local for the count.
-        let code = unsafe {
-            bare!(
-                sogvect_look,
-                g,
-                tables.as_ptr(),
-                tables.len(),
-                log.as_ptr(),
-                log.len(),
-                out.as_mut_ptr(),
-                out.len(),
-                u32::from(call.letter()),
-                x,
-                y,
-                &mut count,
-            )
+        let count = match call.into() {
+            Command::Unnamed(call) => looked(g, tables, log, out, call)?,
+            Command::Naming(Naming::Resolve, name) => resolved(g, tables, log, out, name)?,
+            Command::Naming(..) => return Err(Refusal::NO_CALL),
         };
-        Refusal::check(code).map(|()| &out[..count])
+        Ok(&out[..count])
     }
 
     /// Begins a line: an open record with every page empty. Gives the record.
@@ -203,9 +244,9 @@ impl<'a> Store<'a> {
         Ok(self.call(Call::Erase(record.0, page))?.get(..2).map(Block::of))
     }
 
-    /// Seals an open record; an open one with the same pages follows it in its line. Where the line has a window ([`Store::retain`]), its oldest sealed
-    /// records without a fork are then deleted, one after another, until no more sealed ones are left than the window says, or only forked ones and the
-    /// newest. Gives the new record and the freed blocks.
+    /// Seals an open record; an open one with the same pages follows it in its line, and gets its name if it has one. Where the line has a window
+    /// ([`Store::retain`]), its oldest sealed records without a fork or a name are then deleted, one after another, until no more sealed ones are left than
+    /// the window says, or only forked or named ones and the newest. Gives the new record and the freed blocks.
     ///
     /// # Errors
     ///
@@ -216,7 +257,7 @@ impl<'a> Store<'a> {
     }
 
     /// Sets a window on the line of an open record, or replaces the one that it had: from now on a seal in the line deletes its oldest sealed records until
-    /// at most so many are left, 1 to 62. Records with a fork on them count, but stay. The call itself deletes nothing. A new line has no window.
+    /// at most so many are left, 1 to 62. Records with a fork or a name on them count, but stay. The call itself deletes nothing. A new line has no window.
     ///
     /// # Errors
     ///
@@ -225,7 +266,7 @@ impl<'a> Store<'a> {
         self.call(Call::Retain(record.0, most)).map(|_| ())
     }
 
-    /// Forks a sealed record: a new line, whose open record has its pages. Gives the new record.
+    /// Forks a sealed record: a new line, whose open record has its pages, and no name. Gives the new record.
     ///
     /// # Errors
     ///
@@ -234,11 +275,11 @@ impl<'a> Store<'a> {
         Ok(Record(self.call(Call::Fork(record.0))?[0]))
     }
 
-    /// Deletes a record, open or sealed. Gives the freed blocks, in the order in which they were freed.
+    /// Deletes a record, open or sealed, that has neither a fork nor a name on it. Gives the freed blocks, in the order in which they were freed.
     ///
     /// # Errors
     ///
-    /// Refused by 2, 3, 4, 8, 10 or 14; see [`Refusal`].
+    /// Refused by 2, 3, 4, 8, 10, 18 or 14, in this order; see [`Refusal`].
     pub fn delete(&mut self, record: Record) -> Result<Vec<Block>, Refusal> {
         Ok(self.call(Call::Delete(record.0))?.chunks_exact(2).map(Block::of).collect())
     }
@@ -279,15 +320,88 @@ impl<'a> Store<'a> {
         Ok(self.call(Call::FreeList)?.chunks_exact(2).map(|run| (run[0], run[1])).collect())
     }
 
+    /// Puts a name, 1 to 32 letters a to z, on a record. A sealed record may have many names; an open one has at most one, which a seal hands on to the record
+    /// that follows. A record with a name is not deleted, and a window passes over it. A store has at most 32 names.
+    ///
+    /// # Errors
+    ///
+    /// Refused by 2, 3, 4, 16, 8 or 17, in this order; see [`Refusal`]. A name in use is refused by 17, also on the record that has it.
+    pub fn name(&mut self, name: &[u8], record: Record) -> Result<(), Refusal> {
+        self.call(Command::Naming(Naming::Attach(record.0), name)).map(|_| ())
+    }
+
+    /// Takes a name off the record that has it.
+    ///
+    /// # Errors
+    ///
+    /// Refused by 2, 3, 4, 16 or 17; see [`Refusal`].
+    pub fn unname(&mut self, name: &[u8]) -> Result<(), Refusal> {
+        self.call(Command::Naming(Naming::Detach, name)).map(|_| ())
+    }
+
+    /// Gives the record that has a name.
+    ///
+    /// # Errors
+    ///
+    /// Refused by 2, 3, 4, 16 or 17; see [`Refusal`].
+    pub fn resolve(&mut self, name: &[u8]) -> Result<Record, Refusal> {
+        Ok(Record(self.call(Command::Naming(Naming::Resolve, name))?[0]))
+    }
+
     /// Says what [`Store::delete`] of a record would do, and changes nothing. A delete straight after it, if done, frees exactly so many blocks.
     ///
     /// # Errors
     ///
-    /// Refused by 2, 3, 4, 8 or 10; see [`Refusal`].
+    /// Refused by 2, 3, 4, 8, 10 or 18; see [`Refusal`].
     pub fn estimate(&mut self, record: Record) -> Result<Estimate, Refusal> {
         let numbers = self.call(Call::Estimate(record.0))?;
         Ok(Estimate { blocks: numbers[0], words: numbers[1], shards: numbers[2] })
     }
+}
+
+/// A look of a letter and two numbers: how many numbers its result has. Tables and log are only read; the same below.
+fn looked(g: Geometry, tables: &[u32], log: &[u8], out: &mut [u32], call: Call) -> Result<usize, Refusal> {
+    let [x, y, _] = call.numbers();
+    let mut count: usize = 0;
+    // SAFETY: the pointers and lengths are those of two shared slices, of an exclusive one, and of a local for the count.
+    let code = unsafe {
+        bare!(
+            sogvect_look,
+            g,
+            tables.as_ptr(),
+            tables.len(),
+            log.as_ptr(),
+            log.len(),
+            out.as_mut_ptr(),
+            out.len(),
+            u32::from(call.letter()),
+            x,
+            y,
+            &mut count,
+        )
+    };
+    Refusal::check(code).map(|()| count)
+}
+
+fn resolved(g: Geometry, tables: &[u32], log: &[u8], out: &mut [u32], name: &[u8]) -> Result<usize, Refusal> {
+    let mut count: usize = 0;
+    // SAFETY: the pointers and lengths are those of three shared slices, of an exclusive one, and of a local for the count.
+    let code = unsafe {
+        bare!(
+            sogvect_resolve,
+            g,
+            tables.as_ptr(),
+            tables.len(),
+            log.as_ptr(),
+            log.len(),
+            out.as_mut_ptr(),
+            out.len(),
+            name.as_ptr(),
+            name.len(),
+            &mut count,
+        )
+    };
+    Refusal::check(code).map(|()| count)
 }
 
 /// The used bytes of a log, as the tables say, but no more than there are.

@@ -1,11 +1,12 @@
 //! Every call on valid memory: the listing (section 11 of the rules), stored scripts, and arguments that would show a wrong declaration.
 mod common;
 use common::{
-    bare, bare_letter, every_call, geometry, made, marked, marked_for_any, numbers, refused, small, stored, Stored, Tested, MARK, MARKS, SMALL,
+    bare, bare_letter, every_call, every_unnamed, geometry, made, marked, marked_for_any, numbers, refused, small, stored, Stored, Tested, EASTER,
+    MARK, MARKS, NEW, SMALL,
 };
 use reference::generate;
 use reference::script::{parse, Line};
-use sogvect::{raw, Block, Call, Estimate, Geometry, Kind, Record, Refusal, Sealed, Space, Store, Written};
+use sogvect::{raw, Block, Call, Command, Estimate, Geometry, Kind, Naming, Record, Refusal, Sealed, Space, Store, Written};
 
 const fn block(number: u32, birth: u32) -> Block {
     Block { number, birth: Record(birth) }
@@ -110,19 +111,22 @@ fn stored_scripts() {
 /// A line is the call that `tests/reference` takes it for, or none; and a call's line is the one that it is read from.
 #[test]
 fn lines() {
-    let mut calls = 0;
+    let (mut calls, mut namings) = (0, 0);
     for text in stored().into_iter().map(|script| script.text).chain((1..=30).map(generate::script)) {
         for line in text.split(|&b| b == b'\n') {
             let expected = if let Some(Line::Call(call)) = parse(line) { Some(call) } else { None };
+            let command = Command::parse(line).ok();
+            assert_eq!(command, expected, "{}", String::from_utf8_lossy(line));
             let call = std::str::from_utf8(line).ok().and_then(|line| line.parse::<Call>().ok());
-            assert_eq!(call, expected, "{}", String::from_utf8_lossy(line));
-            if let Some(call) = call {
-                assert_eq!(call.to_string().as_bytes(), line);
+            assert_eq!(call.map(Command::from), command.filter(|command| matches!(command, Command::Unnamed(_))));
+            if let Some(command) = command {
+                assert_eq!(command.line(), line);
                 calls += 1;
+                namings += usize::from(matches!(command, Command::Naming(..)));
             }
         }
     }
-    assert!(calls > 10_000, "only {calls} calls");
+    assert!(calls > 10_000 && namings > 1_000, "only {calls} calls, {namings} with a name");
 }
 
 /// An estimate says what the delete then does, and changes nothing but its three numbers in the result buffer: blocks and words are one number, shards
@@ -213,6 +217,131 @@ fn windows() {
     refused(&mut m, g, Call::Seal(7), 11);
 }
 
+fn naming(naming: Naming, name: &[u8]) -> Command<'_> {
+    Command::Naming(naming, name)
+}
+
+/// A row of the names: the link, the length, and the first letters.
+fn title(m: &Space, i: usize) -> (u32, u32, &[u32]) {
+    let row = &m.tables[768 + 40 * i..][..40];
+    (row[0], row[1], &row[8..][..row[1] as usize])
+}
+
+/// Names and their rows: the first empty row is taken, a seal leads one on, and a name that is taken off leaves its letters. The records are in slots 0, 1
+/// and so on, and number 640 on are the counts.
+#[test]
+fn names() {
+    let g = Geometry { arenas: 1, per: 8, pages: 2, records: 4, turn: 8, words: 18 };
+    let (mut m, longest) = (made(g), [b'z'; 32]);
+    let mut s = m.store(g);
+    assert_eq!(s.begin(), Ok(Record(1)));
+    assert_eq!(s.name(EASTER, Record(1)), Ok(()));
+    assert_eq!(s.name(NEW, Record(1)), Err(Refusal::WRONG_NAME));
+    assert_eq!(s.seal(Record(1)), Ok(sealed(2)));
+    assert_eq!(s.resolve(EASTER), Ok(Record(2)));
+    assert_eq!(s.name(&longest, Record(1)), Ok(()));
+    assert_eq!(s.name(b"a", Record(1)), Ok(()));
+    assert_eq!(s.fork(Record(1)), Ok(Record(3)));
+    assert_eq!(m.tables[640..644], [2, 1, 0, 0]);
+    assert_eq!(title(&m, 0), (2, 6, &EASTER.iter().map(|&b| u32::from(b)).collect::<Vec<_>>()[..]));
+    assert_eq!(title(&m, 1), (1, 32, &[122; 32][..]));
+    assert_eq!((title(&m, 2), title(&m, 3)), ((1, 1, &[97][..]), (0, 0, &[][..])));
+    assert_eq!(m.store(g).unname(&longest), Ok(()));
+    assert_eq!((title(&m, 1), m.tables[640]), ((0, 32, &[122; 32][..]), 1));
+    assert_eq!(m.store(g).name(b"bc", Record(3)), Ok(()));
+    assert_eq!((title(&m, 1), m.tables[768 + 40 + 10], m.tables[640 + 2]), ((3, 2, &[98, 99][..]), 122, 1));
+    for (name, record) in [(EASTER, 2), (b"a", 1), (b"bc", 3)] {
+        assert_eq!(m.store(g).resolve(name), Ok(Record(record)));
+        for on in 1..4 {
+            refused(&mut m, g, naming(Naming::Attach(on), name), 17);
+        }
+    }
+    // 1 is forked and named
+    for (call, number) in [(Call::Delete(1), 10), (Call::Estimate(1), 10), (Call::Delete(2), 18), (Call::Estimate(3), 18)] {
+        refused(&mut m, g, call, number);
+    }
+    let mut s = m.store(g);
+    assert_eq!((s.unname(b"bc"), s.delete(Record(3))), (Ok(()), Ok(vec![])));
+    assert_eq!((s.delete(Record(1)), s.unname(b"a"), s.delete(Record(1))), (Err(Refusal::NAMED), Ok(()), Ok(vec![])));
+}
+
+/// Bytes that are no name are refused by 16 before everything else, names that no record has by 17; N of a record that is not there by 8 before 17.
+#[test]
+fn names_that_are_none() {
+    let mut m = small();
+    let (letters, long) = ([b'a'; 32], [b'a'; 4_000]);
+    let none: [&[u8]; 16] =
+        [b"", b"A", b"easteR", b"1", b"a b", b" a", b"a\n", b"\t", b"a\0", b"\0", b"`", b"{", b"a\x80", &[255; 32], &long[..33], &long];
+    for name in none {
+        for on in [0, 1, 4, 9] {
+            refused(&mut m, SMALL, naming(Naming::Attach(on), name), 16);
+        }
+        refused(&mut m, SMALL, naming(Naming::Detach, name), 16);
+        refused(&mut m, SMALL, naming(Naming::Resolve, name), 16);
+    }
+    for name in [NEW, b"e", b"easte", b"easters", b"eastes", b"z", &letters, &letters[..31]] {
+        refused(&mut m, SMALL, naming(Naming::Detach, name), 17);
+        refused(&mut m, SMALL, naming(Naming::Resolve, name), 17);
+        refused(&mut m, SMALL, naming(Naming::Attach(9), name), 8);
+        let mut one = m.clone();
+        assert_eq!(one.store(SMALL).name(name, Record(2)), Ok(()));
+        assert_eq!(one.store(SMALL).resolve(name), Ok(Record(2)));
+        assert_eq!(one.store(SMALL).resolve(EASTER), Ok(Record(1)));
+    }
+    refused(&mut m, SMALL, naming(Naming::Attach(9), EASTER), 8);
+    refused(&mut m, SMALL, naming(Naming::Attach(5), NEW), 17);
+}
+
+/// A store has 32 names, and no more.
+#[test]
+fn names_enough() {
+    let mut m = small();
+    let all: Vec<[u8; 2]> = (0..30).map(|i| [b'a' + i % 26, b'x' + i / 26]).collect();
+    for name in &all {
+        assert_eq!(m.store(SMALL).name(name, Record(2)), Ok(()));
+    }
+    assert_eq!((m.tables[640], m.tables[641]), (1, 30));
+    for on in [1, 2, 4, 5] {
+        refused(&mut m, SMALL, naming(Naming::Attach(on), NEW), 17);
+    }
+    assert_eq!(m.store(SMALL).unname(&all[7]), Ok(()));
+    assert_eq!(m.store(SMALL).name(NEW, Record(4)), Ok(()));
+    refused(&mut m, SMALL, naming(Naming::Attach(1), &all[7]), 17);
+    assert_eq!(m.store(SMALL).seal(Record(4)), Ok(sealed(6)));
+    assert_eq!(m.store(SMALL).resolve(NEW), Ok(Record(6)));
+}
+
+/// A window passes over named records as over forked ones: they count, and stay. The names of the open record move on, and the frees are those of the
+/// deletes alone. Where the log lacks a word for them, nothing is changed.
+#[test]
+fn names_and_windows() {
+    let g = Geometry { arenas: 1, per: 8, pages: 1, records: 8, turn: 8, words: 18 };
+    let mut m = made(g);
+    let mut s = m.store(g);
+    assert_eq!(s.begin(), Ok(Record(1)));
+    for n in 1..5 {
+        assert_eq!(s.write(Record(n), 0, Kind::Data), Ok(given(n - 1, n)));
+        assert_eq!(s.seal(Record(n)), Ok(sealed(n + 1)));
+    }
+    assert_eq!(s.write(Record(5), 0, Kind::Data), Ok(given(4, 5)));
+    assert_eq!((s.name(EASTER, Record(2)), s.name(NEW, Record(5)), s.retain(Record(5), 2)), (Ok(()), Ok(()), Ok(())));
+    while m.words().len() < 16 {
+        m.store(g).barrier().unwrap();
+    }
+    // 1, 3 and 4 are to go, each frees a block
+    refused(&mut m, g, Call::Seal(5), 14);
+    assert_eq!(m.store(g).compress(), Ok(3));
+    let freed = vec![block(0, 1), block(2, 3), block(3, 4)];
+    assert_eq!(m.store(g).seal(Record(5)), Ok(Sealed { record: Record(6), freed }));
+    assert_eq!((m.store(g).resolve(EASTER), m.store(g).resolve(NEW)), (Ok(Record(2)), Ok(Record(6))));
+    // 2 is named and 5 is forked: the seal of 6 stops above the window
+    assert_eq!(m.store(g).fork(Record(5)), Ok(Record(7)));
+    assert_eq!(m.store(g).seal(Record(6)), Ok(sealed(8)));
+    for n in [2, 5, 6] {
+        assert!(m.store(g).read(Record(n), 0).is_ok());
+    }
+}
+
 /// The six numbers reach the store in their order: the header has them, and any two swapped are no longer those of the store.
 #[test]
 fn six_numbers_in_order() {
@@ -260,6 +389,7 @@ fn own_numbers_whole() {
         for call in [Call::Write(4, 2 + high, 1), Call::Erase(4, 2 + high), Call::Read(1, high)] {
             refused(&mut m, SMALL, call, 5);
         }
+        refused(&mut m, SMALL, naming(Naming::Attach(4 + high), NEW), 8);
         refused(&mut m, SMALL, Call::Write(4, 2, 1 + high), 6);
         refused(&mut m, SMALL, Call::Retain(4, 2 + high), 15);
     }
@@ -306,7 +436,7 @@ fn waiting() {
 /// The count is written whole, and nothing beside it; the result buffer beyond the result stays.
 #[test]
 fn count_and_buffer() {
-    for call in [
+    let unnamed = [
         Call::Begin,
         Call::Write(4, 1, 0),
         Call::Erase(4, 2),
@@ -319,13 +449,17 @@ fn count_and_buffer() {
         Call::FreeList,
         Call::Estimate(4),
         Call::Retain(4, 1),
-    ] {
+    ];
+    let namings = [naming(Naming::Attach(4), NEW), naming(Naming::Detach, EASTER), naming(Naming::Resolve, EASTER)];
+    for call in unnamed.into_iter().map(Command::from).chain(namings) {
         let (mut m, mut other) = (small(), small());
         m.out.fill(MARKS);
         let mut counts = [usize::MAX; 3];
         assert_eq!(bare(&mut m, SMALL, call, &mut counts[1]), 0, "{call:?}");
         let given = numbers(&mut other.store(SMALL), call).unwrap();
-        assert_eq!(counts, [usize::MAX, given.len(), usize::MAX], "{call:?}");
+        // N and U have no count
+        let counted = !matches!(call, Command::Naming(Naming::Attach(_) | Naming::Detach, _));
+        assert_eq!(counts, [usize::MAX, if counted { given.len() } else { usize::MAX }, usize::MAX], "{call:?}");
         assert_eq!(m.out[..given.len()], given[..], "{call:?}");
         assert!(m.out[given.len()..].iter().all(|x| *x == MARKS), "{call:?} wrote after its result");
         assert_eq!((m.tables, m.log), (other.tables, other.log), "{call:?}");
@@ -341,7 +475,7 @@ fn beyond_stays() {
     m.log.resize(ends.1 + 50, MARK);
     m.out.resize(ends.2 + 50, MARKS);
     m.make(SMALL).unwrap();
-    for call in [
+    let unnamed = [
         Call::Begin,
         Call::Write(1, 4, 2),
         Call::Seal(1),
@@ -353,7 +487,9 @@ fn beyond_stays() {
         Call::Barrier,
         Call::Compress,
         Call::FreeList,
-    ] {
+    ];
+    let namings = [naming(Naming::Attach(2), NEW), naming(Naming::Resolve, NEW), naming(Naming::Detach, NEW)];
+    for call in unnamed.into_iter().map(Command::from).chain(namings) {
         numbers(&mut m.store(SMALL), call).unwrap();
     }
     assert!(m.tables[ends.0..].iter().chain(&m.out[ends.2..]).all(|x| *x == MARKS));
@@ -379,6 +515,8 @@ fn refusals_by_state() {
         (Call::Retain(9, 62), 8),
         (Call::Retain(9, 63), 15),
         (Call::Retain(1, 0), 15),
+        (Call::Delete(5), 18),
+        (Call::Estimate(5), 18),
     ] {
         refused(&mut m, SMALL, call, number);
     }
@@ -412,12 +550,13 @@ fn refusals_at_the_end() {
     refused(&mut m, g, Call::Seal(1), 12);
 }
 
-/// A letter that no call has is refused by 1 whatever else is wrong, and changes nothing. Numbers that a call does not take are passed over.
+/// A letter that no call of numbers has is refused by 1 whatever else is wrong, and changes nothing; N, U and M are none. Numbers that a call does not take
+/// are passed over.
 #[test]
 fn letters() {
     let mut m = small();
     let before = m.clone();
-    let calls = every_call(4, 2).map(|call| u32::from(call.letter()));
+    let calls = Call::LETTERS.map(u32::from);
     let outside = Geometry { arenas: 17, ..SMALL };
     let mut empty = Space { tables: vec![], log: vec![], out: vec![] };
     for letter in (0..1_000).chain([u32::MAX, u32::MAX - 0xff + 66, 66 << 8, 66 << 24]).filter(|letter| !calls.contains(letter)) {
@@ -428,7 +567,7 @@ fn letters() {
         }
         assert_eq!((count, &m), (77, &before), "{letter}");
     }
-    for call in every_call(4, 2) {
+    for call in every_unnamed(4, 2) {
         let (mut one, mut other, mut counts) = (small(), small(), [0; 2]);
         let mut more = [u32::MAX; 3];
         more[..call.takes()].copy_from_slice(&call.numbers()[..call.takes()]);
@@ -493,9 +632,12 @@ fn looks_at_once() {
             scope.spawn(|| {
                 let mut out = vec![MARKS; SMALL.out_len()];
                 for (call, numbers) in &expected {
-                    let looks = matches!(call, Call::Read(..) | Call::FreeList | Call::Estimate(_));
+                    let looks = match call {
+                        Command::Unnamed(call) => matches!(call, Call::Read(..) | Call::FreeList | Call::Estimate(_)),
+                        Command::Naming(naming, _) => *naming == Naming::Resolve,
+                    };
                     let numbers = if looks { numbers.as_deref().map_err(|refusal| *refusal) } else { Err(Refusal::NO_CALL) };
-                    assert_eq!(store.look(*call, &mut out), numbers, "{call}");
+                    assert_eq!(store.look(*call, &mut out), numbers, "{call:?}");
                 }
             });
         }
@@ -507,8 +649,8 @@ fn looks_at_once() {
 fn calls_and_functions() {
     for call in every_call(4, 2).into_iter().chain(every_call(1, 0)).chain(every_call(5, 4)) {
         let (mut one, mut other) = (small(), small());
-        assert_eq!(one.store(SMALL).call(call).map(<[u32]>::to_vec), numbers(&mut other.store(SMALL), call), "{call}");
-        assert_eq!(one, other, "{call}");
+        assert_eq!(one.store(SMALL).call(call).map(<[u32]>::to_vec), numbers(&mut other.store(SMALL), call), "{call:?}");
+        assert_eq!(one, other, "{call:?}");
     }
     assert!(Store::make(Geometry { turn: 0, ..SMALL }, small().lend()).is_err());
 }
@@ -532,8 +674,11 @@ fn sentences() {
         Refusal::NO_BLOCK,
         Refusal::LOG_FULL,
         Refusal::NO_WINDOW,
+        Refusal::NO_NAME,
+        Refusal::WRONG_NAME,
+        Refusal::NAMED,
     ];
-    assert!(all.iter().map(|r| r.number()).eq(1..=15));
+    assert!(all.iter().map(|r| r.number()).eq(1..=18));
     for (i, r) in all.iter().enumerate() {
         assert!(!r.to_string().starts_with("refused"), "{}", r.number());
         assert!(all[..i].iter().all(|other| other.to_string() != r.to_string()), "{}", r.number());

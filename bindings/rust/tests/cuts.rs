@@ -8,11 +8,23 @@ use reference::cuts::{Followed, Stretch};
 use reference::log::bytes_of;
 use reference::store::{self, Reply};
 use reference::{generate, script};
-use sogvect::{log_read, Call, Geometry, Refusal, Space};
+use sogvect::{log_read, Command, Geometry, Refusal, Space};
 
 /// Scripts that the gate runs and whose logs are cut beside those made from seeds.
-const CUT: [&str; 11] =
-    ["waiting", "forks", "compress", "smalllog", "refusals", "table", "macros", "shards", "window", "edge-o5-14", "edge-o5-several"];
+const CUT: [&str; 12] = [
+    "waiting",
+    "forks",
+    "compress",
+    "smalllog",
+    "refusals",
+    "table",
+    "macros",
+    "shards",
+    "window",
+    "edge-o5-14",
+    "edge-o5-several",
+    "edge-o6-window",
+];
 const SEEDS: u64 = 60;
 
 fn geometry_of(g: &store::Geometry) -> Geometry {
@@ -32,7 +44,7 @@ impl Plugged {
     }
 
     /// The reply of the library to a call, or to a store line.
-    fn reply(&mut self, g: Geometry, call: Option<Call>) -> Reply {
+    fn reply(&mut self, g: Geometry, call: Option<Command>) -> Reply {
         let reply = match call {
             None => self.space.make(g).map(|()| vec![]),
             Some(c) => numbers(&mut self.space.store(g), c),
@@ -40,7 +52,7 @@ impl Plugged {
         reply.map_err(Refusal::number)
     }
 
-    fn line(&mut self, reference: &store::Store, call: Option<Call>, expected: &Reply) {
+    fn line(&mut self, reference: &store::Store, call: Option<Command>, expected: &Reply) {
         let g = geometry_of(&reference.g);
         let reply = self.reply(g, call);
         assert_eq!(reply, *expected, "{call:?}");

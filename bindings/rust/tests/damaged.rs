@@ -6,7 +6,7 @@ use common::geometry;
 use reference::damaged::{printed, Answers};
 use reference::layout::Memory;
 use reference::store::Reply;
-use sogvect::{Call, Store};
+use sogvect::{Command, Store};
 
 /// The proved library.
 struct Library;
@@ -19,7 +19,7 @@ impl Answers for Library {
         assert!(Store::make(g, lent).is_ok());
     }
 
-    fn call(&mut self, six: &[u64; 6], memory: &mut Memory, lent: [usize; 3], c: Call) -> Reply {
+    fn call(&mut self, six: &[u64; 6], memory: &mut Memory, lent: [usize; 3], c: Command) -> Reply {
         let before = memory.clone();
         let marks: Vec<u32> = (0..lent[2] as u32).map(|i| 1000 + i).collect();
         let mut out = marks.clone();

@@ -1,7 +1,7 @@
 //! Memory that is short, damaged or random, and geometries outside their limits: refused by number, and nothing is changed.
 mod common;
 use common::{every_call, marked, numbers, refused, small, Random, Tested, SMALL};
-use sogvect::{Call, Geometry, Record, Refusal, Space};
+use sogvect::{Call, Command, Geometry, Record, Refusal, Space};
 
 /// Each piece of memory one element short is refused with 3, by every call and by the making; with that element it is not.
 #[test]
@@ -82,12 +82,24 @@ fn spare(at: usize) -> bool {
     match at {
         0..=63 => at != WAITING && (10..16).contains(&at) || at >= 16 + SMALL.arenas,
         64..=127 => false,
-        192..=511 | 576..=639 => at % 64 >= SMALL.records,
-        128..=2047 => true,
+        192..=511 | 576..=703 => at % 64 >= SMALL.records,
+        768..=2047 => spare_in_name((at - 768) / 40, (at - 768) % 40),
+        128..=767 => true,
         // rows of pages and of deadlists; a deadlist has no more blocks than a record has pages
         _ if at < births => at % 256 >= SMALL.pages,
         // births, two spare numbers for each block, the waiting list
         _ => (births + SMALL.blocks()..births + 3 * SMALL.blocks()).contains(&at),
+    }
+}
+
+/// The same of a row of the names. Two are in use, by easter and a: their length and their letters mean something. Each has a link.
+fn spare_in_name(row: usize, at: usize) -> bool {
+    let length = [6, 1].get(row).copied();
+    match at {
+        0 => false,
+        1 => length.is_none(),
+        2..=7 => true,
+        _ => length.map_or(true, |length| at - 8 >= length),
     }
 }
 
@@ -96,10 +108,11 @@ const WAITING: usize = 11;
 
 /// What every call answers on a copy of the memory. Refused ones change nothing, accepted ones leave a sound store.
 fn answers(m: &Space) -> Vec<Result<Vec<u32>, Refusal>> {
-    let calls = every_call(4, 2).into_iter().chain([1, 2, 5].map(Call::Fork)).chain([1, 2, 5].map(Call::Delete)).chain([1, 2, 5].map(Call::Estimate));
+    let records = [1, 2, 5].into_iter().flat_map(|n| [Call::Fork(n), Call::Delete(n), Call::Estimate(n)]);
     let reads = [1, 2, 4, 5].into_iter().flat_map(|n| (0..5).map(move |page| Call::Read(n, page)));
-    calls
-        .chain(reads)
+    every_call(4, 2)
+        .into_iter()
+        .chain(records.chain(reads).map(Command::from))
         .map(|call| {
             let mut copy = m.clone();
             let answer = numbers(&mut copy.store(SMALL), call);
@@ -199,7 +212,8 @@ fn random_damage() {
             let at = if r.below(4) == 0 { any } else { named[r.below(named.len() as u64) as usize] };
             m.tables[at] = r.below(8) as u32;
         }
-        let call = every_call(1 + r.below(5) as u32, r.below(5) as u32)[r.below(12) as usize];
+        let calls = every_call(1 + r.below(5) as u32, r.below(5) as u32);
+        let call = calls[r.below(calls.len() as u64) as usize];
         let before = m.clone();
         match numbers(&mut m.store(SMALL), call) {
             Err(_) => {

@@ -146,6 +146,31 @@ fn windows_with_numbers_of_any_length() {
     }
 }
 
+/// Any bytes but a space may be a name's: those that are no letters a to z are refused by 16.
+#[test]
+fn names_of_any_byte() {
+    for byte in (0..=u8::MAX).filter(|byte| !b" \n".contains(byte)) {
+        let mut lent = begun();
+        let text = [b"N a", &[byte][..], b" 1\nM a", &[byte], b"\nU a", &[byte], b"\n"].concat();
+        let said = if byte.is_ascii_lowercase() { "+\n+ 1\n+\n" } else { "- 16\n- 16\n- 16\n" };
+        let part = lent.part(&text, 0).unwrap();
+        assert_eq!(String::from_utf8_lossy(&lent.replies[..part.count]), said, "{byte}");
+    }
+}
+
+/// A name moves with a seal, and its record's number is printed whole.
+#[test]
+fn names_of_records_of_any_number() {
+    for n in [2, 8, 9, 98, 99, 998, 999, 9_998, 9_999, 99_998, 99_999, 999_998] {
+        let (mut lent, next) = (begun(), n + 1);
+        lent.tables[6] = n - 1;
+        let text = format!("B\nN a {n}\nM a\nS {n}\nM a\nD {next}\n");
+        let said = format!("+ {n}\n+\n+ {n}\n+ {next}\n+ {next}\n- 18\n");
+        let part = lent.part(text.as_bytes(), 0).unwrap();
+        assert_eq!(String::from_utf8_lossy(&lent.replies[..part.count]), said);
+    }
+}
+
 #[test]
 fn nothing_is_served_after_the_end() {
     let mut lent = begun();

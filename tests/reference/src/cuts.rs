@@ -2,7 +2,7 @@
 //! A log is cut at any byte of the words appended since its last C, or since the store was begun. What counts is the last barrier that is whole then: the
 //! last accepted Y, or the C, or the beginning, where nothing was held.
 use crate::store::{Geometry, Reply};
-use calls::Call;
+use calls::{Call, Command};
 use std::collections::BTreeSet;
 
 /// The log of a store from its beginning, or from a C, to the next C or the end.
@@ -40,14 +40,14 @@ pub struct Followed {
 
 impl Followed {
     /// After each line: the call (none for a store line), its reply, and the words of the log. Gives the stretch that ends with it.
-    pub fn go_on(&mut self, g: Geometry, call: Option<Call>, reply: &Reply, log: &[u64]) -> Option<Stretch> {
+    pub fn go_on(&mut self, g: Geometry, call: Option<Command>, reply: &Reply, log: &[u64]) -> Option<Stretch> {
         let Ok(given) = reply else { return None };
         self.count(call, given);
         let mut ended = None;
         let here = (log.len(), self.held.clone());
         match call {
-            None | Some(Call::Compress) => ended = self.stretch.replace(Stretch { g, log: vec![], barriers: vec![here] }),
-            Some(Call::Barrier) => self.now().barriers.push(here),
+            None | Some(Command::Unnamed(Call::Compress)) => ended = self.stretch.replace(Stretch { g, log: vec![], barriers: vec![here] }),
+            Some(Command::Unnamed(Call::Barrier)) => self.now().barriers.push(here),
             _ => {}
         }
         self.now().log = log.to_vec();
@@ -64,10 +64,12 @@ impl Followed {
     }
 
     /// The held blocks are those given less those freed. A block held at the last barrier is given to no write before the next one.
-    fn count(&mut self, call: Option<Call>, given: &[u32]) {
-        let Some(c) = call else {
-            self.held.clear();
-            return;
+    /// A call with a name gives and frees none.
+    fn count(&mut self, call: Option<Command>, given: &[u32]) {
+        let c = match call {
+            None => return self.held.clear(),
+            Some(Command::Naming(..)) => return,
+            Some(Command::Unnamed(c)) => c,
         };
         let mut blocks = c.spelling().blocks(given).map(|(b, _)| b);
         if let Call::Write(..) = c {

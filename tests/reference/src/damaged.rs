@@ -1,19 +1,21 @@
 //! Calls on damaged memory: stores, damage done to their memory, one call each time. The replies and a sum over what accepted calls leave are
 //! printed. `answer` makes a call: this implementation's makes the prediction, the proved library's must print the same.
-use crate::layout::{birth_at, list_at, log_needed, pages_at, result_needed, tables_needed, wait_at, Memory};
-use crate::layout::{BASE, BEFORE, FREE, LENGTH, MARKS, NUMBER, OPEN, WAITING, WINDOW};
-use crate::store::{Geometry, Reply};
-use calls::Call;
+use crate::layout::{birth_at, list_at, log_needed, pages_at, result_needed, tables_needed, title_at, wait_at, Memory};
+use crate::layout::{BASE, BEFORE, FREE, LENGTH, MARKS, NAMED, NUMBER, OPEN, WAITING, WINDOW};
+use crate::store::{Geometry, Reply, NAMES};
+use calls::{Call, Command, Naming};
 use std::fmt::Write;
+
+mod names;
 
 /// Makes a call, on six numbers and the first so many numbers, bytes and numbers of the tables, the log and a result buffer.
 pub trait Answers {
     fn make(&mut self, six: &[u64; 6], memory: &mut Memory);
-    fn call(&mut self, six: &[u64; 6], memory: &mut Memory, lent: [usize; 3], c: Call) -> Reply;
+    fn call(&mut self, six: &[u64; 6], memory: &mut Memory, lent: [usize; 3], c: Command) -> Reply;
 }
 
 /// What a record has a number for, beside its rows.
-const COLUMNS: [usize; 6] = [NUMBER, OPEN, BEFORE, BASE, LENGTH, WINDOW];
+const COLUMNS: [usize; 7] = [NUMBER, OPEN, BEFORE, BASE, LENGTH, WINDOW, NAMED];
 
 const TABLES: usize = 6400;
 const LOG: usize = 768;
@@ -24,7 +26,7 @@ struct Report<'a> {
     text: String,
     last: Option<(u64, Reply)>,
     cases: u64,
-    counts: [u64; 16],
+    counts: [u64; 19],
     sums: [u64; 2],
     random: u64,
 }
@@ -85,7 +87,7 @@ struct Subject {
     g: Geometry,
     lent: [usize; 3],
     sound: Memory,
-    asks: Vec<Call>,
+    asks: Vec<Command<'static>>,
 }
 
 /// A digit, or for `?` a number that no store has; `n` is 62 and `o` 63, since they come so far after 0.
@@ -97,13 +99,16 @@ fn digit(b: u8) -> u32 {
     }
 }
 
-/// Calls of four bytes each: a letter and three digits.
-fn asks_of(text: &str) -> Vec<Call> {
-    text.as_bytes().chunks(4).map(|a| call_of(a[0], [a[1], a[2], a[3]].map(digit))).collect()
+/// Calls of four bytes each: a letter and three digits, or a letter, a name and two digits, of which the first is N's number.
+fn asks_of(text: &str) -> Vec<Command<'static>> {
+    text.as_bytes().chunks(4).map(|a| call_of(a[0], a[1], [a[1], a[2], a[3]].map(digit))).collect()
 }
 
-fn call_of(letter: u8, numbers: [u32; 3]) -> Call {
-    Call::of(letter, numbers).expect("the letter of a call")
+/// The call of a letter and three numbers, or of a letter, a name and the second number.
+fn call_of(letter: u8, name: u8, numbers: [u32; 3]) -> Command<'static> {
+    let call = Call::of(letter, numbers).map(Command::Unnamed);
+    let naming = Naming::of(letter, [numbers[1], 0, 0]).map(|naming| Command::Naming(naming, names::name(name)));
+    call.or(naming).expect("the letter of a call")
 }
 
 impl Subject {
@@ -150,6 +155,7 @@ impl Subject {
         let (slots, pages) = (self.records() + 1, self.six[2] as usize + 1);
         let mut at: Vec<usize> = (0..MARKS + self.six[0] as usize + 1).chain(FREE..FREE + 64).collect();
         at.extend(COLUMNS.into_iter().flat_map(|column| column..column + slots));
+        at.extend(self.named_rows().into_iter().flat_map(|i| names::places(&self.sound, i)));
         at.extend((0..self.records()).flat_map(|s| pages_at(s)..pages_at(s) + pages));
         at.extend((0..self.records()).flat_map(|s| list_at(&self.g, s)..list_at(&self.g, s) + pages));
         at.extend(birth_at(&self.g, 0)..self.lent[0]);
@@ -260,7 +266,7 @@ impl Subject {
                 m.tables.swap(pages_at(s) + i, pages_at(t) + i);
                 m.tables.swap(list_at(&self.g, s) + i, list_at(&self.g, t) + i);
             }
-            for at in (0..self.records()).flat_map(|i| [BEFORE + i, BASE + i]) {
+            for at in (0..self.records()).flat_map(|i| [BEFORE + i, BASE + i]).chain((0..NAMES).map(title_at)) {
                 let to = m.tables[at] as usize;
                 m.tables[at] = if to == s + 1 {
                     t + 1
@@ -441,8 +447,9 @@ impl Subject {
     fn place(&self, report: &mut Report) -> usize {
         let (slot, at) = (report.small(), report.small());
         match report.small() {
-            0 => (report.next() % 32) as usize,
-            1 | 2 => COLUMNS[at % 6] + slot,
+            0 if at < 4 => (report.next() % 32) as usize,
+            0 => title_at(slot) + [0, 1, 8, 9][at - 4],
+            1 | 2 => COLUMNS[at % 7] + slot,
             3 | 4 => pages_at(slot) + at / 2,
             5 => list_at(&self.g, slot) + at / 2,
             6 if at < 4 => FREE + at / 4,
@@ -519,7 +526,7 @@ impl Subject {
     /// Damage to what has a meaning.
     fn meant(&self, report: &mut Report) {
         self.group(report, "numbers", |r| self.numbers(r));
-        for apart in [1, 64, 256, 256 * self.records(), 3 * self.blocks()] {
+        for apart in [1, 40, 64, 256, 256 * self.records(), 3 * self.blocks()] {
             self.group(report, "pairs", |r| self.exchanged(r, apart));
         }
         self.group(report, "last", |r| self.last(r));
@@ -536,6 +543,13 @@ impl Subject {
     fn windowed(&self, report: &mut Report) {
         self.group(report, "windows", |r| self.windows(r));
         self.group(report, "few", |r| self.few(r));
+        self.group(report, "history", |r| self.history(r));
+    }
+
+    fn full_of_names(&self, report: &mut Report) {
+        self.group(report, "numbers", |r| self.numbers(r));
+        self.group(report, "slots", |r| self.slots(r));
+        self.names(report);
         self.group(report, "history", |r| self.history(r));
     }
 
@@ -576,7 +590,7 @@ fn set_bit(m: &mut Memory, b: usize, free: bool) {
 }
 
 /// A call: its reply, and what an accepted one leaves, go to the report.
-fn step(report: &mut Report, six: &[u64; 6], lent: [usize; 3], memory: &mut Memory, c: Call) {
+fn step(report: &mut Report, six: &[u64; 6], lent: [usize; 3], memory: &mut Memory, c: Command) {
     let reply = report.answers.call(six, memory, lent, c);
     if let Ok(given) = &reply {
         for &x in &memory.tables {
@@ -592,12 +606,15 @@ fn step(report: &mut Report, six: &[u64; 6], lent: [usize; 3], memory: &mut Memo
     report.add(reply);
 }
 
-fn any_call(report: &mut Report, last: u32) -> Call {
-    let letter = b"WWWWSSSFDDERYCLBEQQKK"[(report.next() % 21) as usize];
+fn any_call(report: &mut Report, last: u32) -> Command<'static> {
+    let letter = b"WWWWSSSFDDERYCLBEQQKKNNNUUMM"[(report.next() % 28) as usize];
     let n = last.wrapping_sub(report.small() as u32);
     let page = (report.small() / 2) as u32;
     let kind = (report.small() / 2) as u32;
-    call_of(letter, [n, page, kind])
+    if Naming::LETTERS.contains(&letter) {
+        return call_of(letter, b"abcdABC0123456"[(report.next() % 14) as usize], [0, n, 0]);
+    }
+    call_of(letter, 0, [n, page, kind])
 }
 
 fn group(report: &mut Report, name: &str) {
@@ -606,71 +623,71 @@ fn group(report: &mut Report, name: &str) {
 }
 
 /// How many calls are asked of each store.
-const ASKS: usize = 43;
+const ASKS: usize = 53;
 
-/// Asked of the stores whose next S deletes by a window.
+/// Asked of the stores whose next S deletes by a window: the names that one of them has are a, b, c and d, and the longest.
 const OF_WINDOWS: &str = "B000W500W512W530W503W540W600W611W200W?00E500E510E520E530E600E100S500S600S100S700S500S600F100F200F400F500\
-                          D100D200D300D400D500D600R500R610R2?0Y000C000L000Q100Q200Q500K510K5n0";
+                          D100D200D300D400D500D600R500R610R2?0Y000C000L000Q100Q200Q500K510K5n0Nx10Ny50Na30N310Nz90Ua00Ux00M100Mx00M000";
 
 /// The stores, and the calls asked of each.
-const SUBJECTS: [([u64; 6], &str, &str); 12] = [
+const SUBJECTS: [([u64; 6], &str, &str); 15] = [
     (
         [2, 4, 3, 7, 2, 24],
         "B000W100W111W122S100W200Y000S200W311W302S300E420E410D200F100W500S500W601F500E710",
         "B000W400W612W721W100W730W703W?00E400E600E610E720E200S400R3?0S700S100F100F300F500F400D100D300D400D600D700D500R310R710Y000C000L000\
-         Q100Q300Q400Q700Q200K410K620K7n0K7o0K100K910",
+         Q100Q300Q400Q700Q200K410K620K7n0K7o0K100K910Na10NB40N140N310N440N090Ua00Ma00U400M000",
     ),
     (
         [1, 4, 2, 4, 8, 10],
         "B000W100S100W200W200F100D100",
         "B000W200W210W220W300W311W100W203W?00E300E200E210E100E900S200S300S100S800F100F200F700D100D200D300D900R200R110R2?0R400Y000C000L000\
-         Q100Q200Q300Q900Q?00K210K320K2n0K3o0K110K910",
+         Q100Q200Q300Q900Q?00K210K320K2n0K3o0K110K910Na10NB20N230N310N520N?90Na90Ua00Mz00M300",
     ),
     (
         [1, 2, 2, 2, 1, 6],
         "B000W100S100W200Y000Y000Y000Y000",
         "B000W200W210W100W220W203W900E200E210E100E2?0E900S200S100S900F100F200F900D100D200D900R200R100R110R120R900Y000C000L000D?00R210S?00\
-         Q100Q200Q900Q?00Q000K210K220K2n0K2o0K110K900",
+         Q100Q200Q900Q?00Q000K210K220K2n0K2o0K110K900Na10NB20N120N320N610Na?0N3?0Ua00Ma00U000",
     ),
     (
         [1, 2, 1, 5, 1, 6],
         "B000W100S100S200S300F300D400S500E600",
         "B000W600W610W603W100W?00E600E500E610S600S500S900F100F300F500F600D100D200D300D500D600D900R100R600R200R300R500R610Y000C000L000D?00\
-         Q100Q200Q300Q500Q600K610K620K6n0K6o0K510K410",
+         Q100Q200Q300Q500Q600K610K620K6n0K6o0K510K410Na10NB60N150N330N760Na40N740Uz00MB00M700",
     ),
     (
         [3, 15, 6, 5, 4, 92],
         "B000W100W112W120W132W141W152S100W202W210E250S200W322W300E340E310S300E430W402",
         "B000W400W411W422W432W443W460W100E400E410E420E430E450E100S400S100F100F200F300F400D100D200D300D400D500R400R110R430Y000C000L000D900\
-         Q100Q200Q300Q400Q500K410K420K4n0K4o0K300K510",
+         Q100Q200Q300Q400Q500K410K420K4n0K4o0K300K510Na10NB40N130N310N840Na50N050Ua00Ma00M800",
     ),
     // a deadlist with three births, two of them above the pred, out of order
     (
         [2, 8, 4, 5, 3, 34],
         "B000W100W111W122W130S100W200W211S200W320S300D200E410W420W401E430F100E500",
         "B000W400W413W440W100E400E410E420E430E300S400S500S100F100F300F400D100D300D400D500D900R400R110R4?0Y000C000L000\
-         Q100Q300Q400Q500Q200Q600Q?00Q000W510R500K410K520K4n0K5o0K110K910",
+         Q100Q300Q400Q500Q200Q600Q?00Q000W510R500K410K520K4n0K5o0K110K910Na10NB40N130N350N440Na20N020Ua00Ma00U300",
     ),
     // blocks that wait, not by their numbers, after others that were released; of 34 blocks, so that two free words have some
     (
         [2, 17, 4, 4, 3, 70],
         "B000W100W111W122W130W101W110Y000W121S100W201W212W202E220W231W231W230D100",
         "B000W200W211W222W232W204W243W?00E200E210E220E230E240E100S200S100S300F100F200D200D100D300D?00R200R210R2?0R130Y000C000L000\
-         Q200Q100Q300Q?00W201Y000L000K210K220K2n0K2o0K200K110",
+         Q200Q100Q300Q?00W201Y000L000K210K220K2n0K2o0K200K110Na20NB20N120N320N420Na10N010Ua00Ma00M300",
     ),
     // full: a block on a page, the others wait
     (
         [1, 3, 2, 2, 1, 8],
         "B000W100W100W100",
         "B000W100W110W120W103W200W?00W101W112E100E110E120E200S100S200S?00F100F200D100D200D?00R100R110R120R200Y000C000L000W100Y000C000L000\
-         Q100Q200Q?00E100D100K110K120K1n0K1o0K100K210",
+         Q100Q200Q?00E100D100K110K120K1n0K1o0K100K210Na10NB10N110N310N410Na20N020Ua00Ma00M300",
     ),
     // every block waits
     (
         [1, 3, 2, 2, 1, 8],
         "B000W100W100W100E100",
         "B000W100W110W120W103W200W?00W101W112E100E110E120E200S100S200S?00F100F200D100D200D?00R100R110R120R200Y000C000L000W100Y000C000L000\
-         Q100Q200Q?00E100D100K110K120K1n0K1o0K100K210",
+         Q100Q200Q?00E100D100K110K120K1n0K1o0K100K210Na10NB10N110N310N410Na20N020Ua00Ma00M300",
     ),
     // a line with a window, and a seal that will delete three records of it and pass over one that is forked, which has a window too
     ([2, 8, 4, 8, 3, 40], "B000W100W111W122S100W200W211S200W300S300W400W411E420S400F200W600W500W511K520K610", OF_WINDOWS),
@@ -685,12 +702,28 @@ const SUBJECTS: [([u64; 6], &str, &str); 12] = [
         [1, 4, 2, 3, 2, 10],
         "B000W100S100W200S200W311K310",
         "B000W300W310W320W303W100W?00W301W312E300E310E320E200S300S200S900F100F200F300D100D200D300D900R300R110R320R200Y000C000L000S300L000\
-         Q100Q200Q300Q900K310K320K3n0K3o0K100K210K910",
+         Q100Q200Q300Q900K310K320K3n0K3o0K100K210K910Na10NB30N120N330N420Na90N090Ua00Ma00M300",
+    ),
+    // a line with a window and names: its seal moves one of the longest, deletes two records and passes over a named one, and over one that is forked too
+    ([2, 8, 4, 8, 3, 40], "B000W100W111W122S100W200W211S200W300S300W400W411E420S400F200W600W500W511K520K610Na30Nb20NC30N150Nf40Ng60Uf00", OF_WINDOWS),
+    // the same with a log that lacks a word for it
+    (
+        [1, 12, 4, 7, 3, 26],
+        "B000W100W111W122S100W200W211S200W300S300W400W411E420S400F200W600W500W511K520Na30Nb20NC30N150Y000Y000Y000Y000Y000Y000Y000Y000Y000Y000Y000Y000",
+        OF_WINDOWS,
+    ),
+    // as many names as there can be, most of them on a record that is forked, one on each that is open
+    (
+        [1, 4, 2, 4, 8, 10],
+        "B000W100S100F100Na10Nb10Nc10Nd10Ne10Nf10Ng10Nh10Ni10Nj10Nk10Nl10Nm10Nn10No10Np10Nq10Nr10Ns10Nt10Nu10Nv10Nw10Nx10Ny10Nz10\
+         NA10NB10NC10ND10NE20NF30",
+        "B000W200W210W220W300W311W100W203W?00E300E200E210E100E900S200S300S100S800F100F200F700D100D200D300D900R200R110R2?0R400Y000C000L000\
+         Q100Q200Q300Q900Q?00K210K320K2n0K3o0K110K910N110N120NF30N310N?90UE00Uz00MF00MA00MX00",
     ),
 ];
 
 pub fn printed(answers: &mut dyn Answers) -> String {
-    let mut report = Report { answers, text: String::new(), last: None, cases: 0, counts: [0; 16], sums: [0, 0], random: 1 };
+    let mut report = Report { answers, text: String::new(), last: None, cases: 0, counts: [0; 19], sums: [0, 0], random: 1 };
     for (i, (six, script, asks)) in SUBJECTS.into_iter().enumerate() {
         let subject = Subject::made(six, script, asks, &mut report);
         match i {
@@ -699,6 +732,12 @@ pub fn printed(answers: &mut dyn Answers) -> String {
             5 => subject.listed(&mut report),
             8 => subject.waits(&mut report),
             10 | 11 => subject.windowed(&mut report),
+            12 => {
+                subject.meant(&mut report);
+                subject.names(&mut report);
+            }
+            13 => subject.windowed(&mut report),
+            14 => subject.full_of_names(&mut report),
             _ => subject.all(&mut report),
         }
     }

@@ -1,8 +1,13 @@
 //! Scripts made at random from a seed: forks of forks, deletes in the middle of a line, lines that lose their first record again and again, by deletes
-//! and by windows, windows with forks in them, long deadlists, full stores, stores that are full of blocks that wait, many barriers and few, full logs,
-//! full record tables, estimates of deletes, bad lines, scripts longer than what is read. `reference reached` counts them.
+//! and by windows, windows with forks and names in them, long deadlists, full stores, stores that are full of blocks that wait, many barriers and few,
+//! full logs, full record tables, as many names as there can be, estimates of deletes, bad lines and bad names, scripts longer than what is read.
+//! `reference reached` counts them.
 use crate::store::{Geometry, Store};
-use calls::Call;
+use calls::{Call, Command, Naming};
+pub use names::naming;
+use names::{any_name, free_name, name_on};
+
+mod names;
 
 /// A small generator of numbers (xorshift).
 pub struct Dice(u64);
@@ -73,7 +78,8 @@ pub fn most(d: &mut Dice) -> u32 {
     }
 }
 
-/// A call on a store with these records, with weights: `grow` leans towards new records and writes, else towards deletes. It sets no window.
+/// A call on a store with these records, with weights: `grow` leans towards new records and writes, else towards deletes. It sets no window and has no
+/// name.
 pub fn call(d: &mut Dice, g: &[u32; 6], numbers: &[u32], grow: bool) -> Call {
     let r = record(d, numbers);
     let page = if d.below(40) == 0 { g[2] + d.below(2) } else { d.below(g[2]) };
@@ -110,6 +116,8 @@ enum Mood {
     Fork,
     /// the pages of one open record written again and again, until each block is on a page or waits
     Rewrite,
+    /// names for one sealed record, until there are as many as there can be
+    Name,
 }
 
 const MOODS: [Mood; 11] =
@@ -121,11 +129,15 @@ const WITH_WINDOWS: [Mood; 9] =
 /// How often a barrier is put in front of a call: one in so many times, or never, so that there are only those that the calls lean to.
 const BARRIERS: [Option<u32>; 5] = [None, None, Some(3), Some(8), Some(30)];
 
-/// A store, whether its lines get windows, and whether its last call was refused.
+/// Of the calls with a name one in so many takes one off, or there are none: names are few, or so many that there is no room for another.
+const UNNAMES: [Option<u32>; 7] = [None, None, None, None, Some(2), Some(3), Some(16)];
+
+/// A store, whether its lines get windows and its records names, and whether its last call was refused.
 struct Course {
     g: [u32; 6],
     barriers: Option<u32>,
     windows: bool,
+    unnames: Option<u32>,
     store: Store,
     refused: bool,
 }
@@ -134,25 +146,55 @@ impl Course {
     fn new(d: &mut Dice, shape: fn(&mut Dice) -> [u32; 6]) -> Course {
         let g = shape(d);
         let store = Store::new(Geometry::new(g).expect("inside the limits"));
-        Course { g, barriers: d.one_of(&BARRIERS), windows: d.below(2) == 0, store, refused: false }
+        Course { g, barriers: d.one_of(&BARRIERS), windows: d.below(2) == 0, unnames: d.one_of(&UNNAMES), store, refused: false }
     }
 
     fn mood(&self, d: &mut Dice) -> Mood {
-        if self.windows {
+        if self.unnames.is_some() && d.below(12) == 0 {
+            Mood::Name
+        } else if self.windows {
             d.one_of(&WITH_WINDOWS)
         } else {
             d.one_of(&MOODS)
         }
     }
 
-    /// Makes a call, after a barrier, a K or a Q where it is its time, and adds the lines.
-    fn add(&mut self, d: &mut Dice, asks: &mut Dice, c: Call, lines: &mut Vec<Vec<u8>>) {
+    /// Makes a call, after those that are to come before it, and adds the lines.
+    fn add(&mut self, d: &mut Dice, asks: &mut Dice, c: Command<'static>, lines: &mut Vec<Vec<u8>>) {
+        let before = if let Command::Unnamed(c) = c { self.before(d, asks, c) } else { vec![] };
+        for next in before.into_iter().chain([c]) {
+            self.refused = self.store.call(next).is_err();
+            lines.push(next.line());
+        }
+    }
+
+    /// A barrier, a K, a call with a name and a Q, each where it is its time; or what makes a window meet the end of the log.
+    fn before(&self, d: &mut Dice, asks: &mut Dice, c: Call) -> Vec<Command<'static>> {
         let barrier = self.barriers.filter(|&n| d.below(n) == 0).map(|_| Call::Barrier);
         let window = if self.windows { self.retained(d, c) } else { None };
-        for next in barrier.into_iter().chain(window).chain(self.asked(asks, c)).chain([c]) {
-            self.refused = self.store.call(next).is_err();
-            lines.push(next.to_string().into_bytes());
+        let named = self.unnames.and_then(|n| self.named(d, c, n));
+        let asked = self.asked(asks, c).map(Command::from);
+        let cornered = if let Call::Seal(r) = c { self.cornered(d, r) } else { None };
+        cornered.unwrap_or_else(|| barrier.into_iter().chain(window).map(Command::from).chain(named).chain(asked).collect())
+    }
+
+    /// In front of an S of r, now and then where few log words are left: the least window; where records have names, one on the oldest sealed record of the
+    /// line, most of the time; and barriers until fewer words are left than the S is to write. None where it writes none.
+    fn cornered(&self, d: &mut Dice, r: u32) -> Option<Vec<Command<'static>>> {
+        let unused = self.store.unused();
+        if !self.windows || unused > 32 || d.below(4) > 0 {
+            return None;
         }
+        let mut before = vec![Command::from(Call::Retain(r, 1))];
+        if self.unnames.is_some() && d.below(4) > 0 {
+            before.push(Command::Naming(Naming::Attach(self.sealed_before(r).first().copied()?), free_name(d, &self.store)));
+        }
+        let mut copy = self.store.clone();
+        before.iter().for_each(|&c| drop(copy.call(c)));
+        let written = copy.call(Call::Seal(r)).map_or(0, |given| given.len() as u32 / 2);
+        let barriers = (written > 0).then(|| unused.saturating_sub(d.below(written)))?;
+        before.extend(vec![Command::from(Call::Barrier); barriers as usize]);
+        Some(before)
     }
 
     /// The open records, by rising numbers.
@@ -164,7 +206,18 @@ impl Course {
         &self.store.lines[self.store.line_of(n)].records
     }
 
-    fn next(&self, d: &mut Dice, mood: Mood, at: u32) -> Call {
+    fn next(&self, d: &mut Dice, mood: Mood, at: u32) -> Command<'static> {
+        match (mood, self.unnames) {
+            (Mood::Name, Some(unnames)) => {
+                let sealed = self.store.records.iter().filter(|(_, record)| !record.open).map(|(&n, _)| n);
+                let most = sealed.max_by_key(|&s| self.store.names_of(s));
+                naming(d, &self.store, most.unwrap_or(self.store.last), unnames)
+            }
+            _ => self.next_unnamed(d, mood, at).into(),
+        }
+    }
+
+    fn next_unnamed(&self, d: &mut Dice, mood: Mood, at: u32) -> Call {
         let youngest = self.open().last().copied();
         match (mood, youngest) {
             (Mood::Roll, Some(n)) => self.room(d, 5, 1).unwrap_or_else(|| self.roll(d, n)),
@@ -244,6 +297,31 @@ impl Course {
         }
     }
 
+    /// A call with a name in front of a call. Some of the time it is on the record of the call: before a D a name is taken off it or put on; before an S one
+    /// is put on it, to move, or on a sealed record of its line, to be passed over; before an F on the base. Else now and then on any.
+    fn named(&self, d: &mut Dice, next: Call, unnames: u32) -> Option<Command<'static>> {
+        let any = record(d, &self.store.numbers());
+        let on = match (next, d.below(24)) {
+            (Call::Delete(r), 0..=17) if self.store.names_of(r) > 0 => {
+                return name_on(&self.store, r).map(|name| Command::Naming(Naming::Detach, name))
+            }
+            (Call::Seal(r), 0..=2) if !self.sealed_before(r).is_empty() => d.one_of(&self.sealed_before(r)),
+            (Call::Seal(r) | Call::Fork(r) | Call::Delete(r), 18..=20) => r,
+            (_, 21) => return Some(naming(d, &self.store, any, unnames)),
+            _ => return None,
+        };
+        Some(Command::Naming(Naming::Attach(on), any_name(d, &self.store, false)))
+    }
+
+    /// The sealed records in the line of r, oldest first; none where r is not in the store.
+    fn sealed_before(&self, r: u32) -> Vec<u32> {
+        if self.store.records.contains_key(&r) {
+            self.store.sealed(r)
+        } else {
+            vec![]
+        }
+    }
+
     /// A Q in front of a call: every other time of the record that a D is to delete; else now and then, more often where the log is nearly full, of
     /// any record, or of a number that may have none.
     fn asked(&self, d: &mut Dice, next: Call) -> Option<Call> {
@@ -281,29 +359,36 @@ impl Course {
 }
 
 /// A line with one of its bytes replaced by any byte.
-fn spoiled(d: &mut Dice, line: String) -> Vec<u8> {
-    let mut bytes = line.into_bytes();
-    let at = d.below(bytes.len() as u32) as usize;
-    bytes[at] = d.below(256) as u8;
-    bytes
+fn spoiled(d: &mut Dice, mut line: Vec<u8>) -> Vec<u8> {
+    let at = d.below(line.len() as u32) as usize;
+    line[at] = d.below(256) as u8;
+    line
 }
 
-/// A script; one in twenty is longer than what the runner reads, one in twenty has many pages and blocks. Its Qs, which change nothing, have dice of
-/// their own.
-pub fn script(seed: u64) -> Vec<u8> {
-    let (mut d, mut asks) = (Dice::new(seed), Dice::new(!seed));
-    let is_large = d.below(20) == 0;
-    let mut course = Course::new(&mut d, if is_large { large } else { geometry });
-    let mut lines = vec![store_line(&course.g).into_bytes()];
-    let mut mood = Mood::Grow;
-    let count = if is_large {
+/// How many times a line or a call with those before it is added: one script in twenty is longer than what the runner reads.
+fn length(d: &mut Dice, is_large: bool) -> u32 {
+    if is_large {
         2_000 + d.below(2_000)
     } else if d.below(20) == 0 {
         12_000
     } else {
         40 + d.below(1500)
-    };
-    for at in 0..count {
+    }
+}
+
+/// Lines before there is a store.
+const EARLY: [&str; 6] = ["B", "N a 1", "N A 1", "U", "M a", "K 1 0"];
+
+/// A script; one in twenty has many pages and blocks, and one in twenty lines before there is a store. Its Qs, which change nothing, have dice of their
+/// own.
+pub fn script(seed: u64) -> Vec<u8> {
+    let (mut d, mut asks) = (Dice::new(seed), Dice::new(!seed));
+    let is_large = d.below(20) == 0;
+    let mut course = Course::new(&mut d, if is_large { large } else { geometry });
+    let mut lines: Vec<Vec<u8>> = if d.below(20) == 0 { EARLY.map(Vec::from).into() } else { vec![] };
+    lines.push(store_line(&course.g).into_bytes());
+    let mut mood = Mood::Grow;
+    for at in 0..length(&mut d, is_large) {
         if d.below(if is_large { 300 } else { 40 }) == 0 {
             mood = course.mood(&mut d);
         }
@@ -311,7 +396,9 @@ pub fn script(seed: u64) -> Vec<u8> {
             0..=1 => lines.push(d.one_of(&BAD).into()),
             2 => lines.push("W 1 0 0".repeat(1 + d.below(20) as usize).into_bytes()),
             3 => lines.push(store_line(&[1, 4, 2, 4, 8, 9]).into_bytes()),
-            5 => lines.push(spoiled(&mut d, Call::Write(1, 0, 0).to_string())),
+            5 => lines.push(spoiled(&mut d, b"W 1 0 0".to_vec())),
+            6 => lines.push(names::no_call(&mut d)),
+            7 => lines.push(spoiled(&mut d, b"N easter 1".to_vec())),
             4 if !is_large && d.below(6) == 0 => {
                 course = Course::new(&mut d, geometry);
                 lines.push(store_line(&course.g).into_bytes());

@@ -2,8 +2,8 @@
 //! Soundness is decided the crude way, by the rules' sentences: every pair of records, every page of every record, sets of blocks.
 use crate::damaged::Answers;
 use crate::log::{read_every, words_of};
-use crate::store::{Geometry, Line, Record, Reply, Store};
-use calls::Call;
+use crate::store::{Geometry, Line, Record, Reply, Store, LETTERS, NAMES};
+use calls::{Call, Command};
 use std::collections::{BTreeMap, BTreeSet};
 
 pub const WAITING: usize = 11;
@@ -15,6 +15,8 @@ pub const BEFORE: usize = 320;
 pub const BASE: usize = 384;
 pub const LENGTH: usize = 448;
 pub const WINDOW: usize = 576;
+/// of each slot: how many names are on its record
+pub const NAMED: usize = 640;
 
 /// Tables and log of any length.
 #[derive(Clone, PartialEq)]
@@ -52,6 +54,11 @@ pub fn wait_at(g: &Geometry, i: usize) -> usize {
     birth_at(g, 3 * g.blocks() as usize) + i
 }
 
+/// Where a row of the names begins: the link of its record, the length of the name, and from number 8 on its letters.
+pub fn title_at(i: usize) -> usize {
+    768 + 40 * i
+}
+
 /// A record; links are slots.
 struct Row {
     number: u32,
@@ -60,9 +67,28 @@ struct Row {
     base: Option<usize>,
     /// means nothing in a sealed record
     window: u32,
+    named: u32,
     pages: Vec<Option<u32>>,
     /// the deadlist, in the order of joining
     list: Vec<u32>,
+}
+
+/// A row of the names that is in use: the slot of its record, and the letters.
+struct Title {
+    on: usize,
+    length: u32,
+    letters: Vec<u32>,
+}
+
+impl Title {
+    fn is_name(&self) -> bool {
+        (1..=LETTERS as u32).contains(&self.length) && self.letters.iter().all(|x| (97..=122).contains(x))
+    }
+
+    /// The name of a row that has one.
+    fn name(&self) -> Vec<u8> {
+        self.letters.iter().map(|&x| x as u8).collect()
+    }
 }
 
 /// Tables read into rows; links may still lead anywhere.
@@ -70,6 +96,8 @@ struct Tables<'a> {
     g: Geometry,
     t: &'a [u32],
     rows: BTreeMap<usize, Row>,
+    /// the rows of the names that are in use, by their places
+    titles: BTreeMap<usize, Title>,
     births: Vec<u32>,
     /// the waiting list, in the order of freeing
     waiting: Vec<u32>,
@@ -91,9 +119,17 @@ fn row_of(g: &Geometry, t: &[u32], slot: usize) -> Row {
         before: link(t[BEFORE + slot]),
         base: link(t[BASE + slot]),
         window: t[WINDOW + slot],
+        named: t[NAMED + slot],
         pages: pages.iter().map(|&x| x.checked_sub(1)).collect(),
         list: list.to_vec(),
     }
+}
+
+/// A name longer than it may be is read as far as the longest goes, and refused in any case.
+fn title_of(t: &[u32], i: usize) -> Option<Title> {
+    let row = &t[title_at(i)..title_at(i + 1)];
+    let letters = &row[8..][..(row[1] as usize).min(LETTERS)];
+    link(row[0]).map(|on| Title { on, length: row[1], letters: letters.to_vec() })
 }
 
 fn rows_of(g: Geometry, t: &[u32]) -> Tables<'_> {
@@ -102,7 +138,8 @@ fn rows_of(g: Geometry, t: &[u32]) -> Tables<'_> {
     let blocks = g.blocks() as usize;
     let births = t[birth_at(&g, 0)..][..blocks].to_vec();
     let waiting = t[wait_at(&g, 0)..][..(t[WAITING] as usize).min(blocks)].to_vec();
-    Tables { g, t, rows, births, waiting }
+    let titles = (0..NAMES).filter_map(|i| title_of(t, i).map(|title| (i, title))).collect();
+    Tables { g, t, rows, titles, births, waiting }
 }
 
 impl Tables<'_> {
@@ -166,6 +203,18 @@ impl Tables<'_> {
         alone && self.rows.iter().all(|(a, x)| self.rows.iter().all(|(b, y)| a == b || pair_sound(x, y)))
     }
 
+    /// A name is on a record in the store, and no other row has it; a record has as many as its count says, and an open one has one at most.
+    fn titles_sound(&self) -> bool {
+        let alone = self.titles.values().all(|title| self.rows.contains_key(&title.on) && title.is_name());
+        let others = |i: usize| self.titles.iter().filter(move |(&j, _)| j != i).map(|(_, title)| title);
+        let once = self.titles.iter().all(|(&i, title)| others(i).all(|other| other.letters != title.letters));
+        let counted = self.rows.iter().all(|(&slot, row)| {
+            let names = self.titles.values().filter(|title| title.on == slot).count();
+            row.named as usize == names && (!row.open || names <= 1)
+        });
+        alone && once && counted
+    }
+
     /// Held blocks are those on pages, each on one page number only.
     fn pages_sound(&self) -> bool {
         let last = self.g.blocks();
@@ -227,6 +276,7 @@ impl Tables<'_> {
     fn sound(&self, log: &[u8]) -> bool {
         self.header_sound()
             && self.records_sound()
+            && self.titles_sound()
             && self.pages_sound()
             && self.births_sound()
             && self.deadlists_sound()
@@ -274,6 +324,7 @@ impl Tables<'_> {
         }
         store.freed = self.waiting.clone();
         store.waiting = self.waiting.iter().copied().collect();
+        store.names = self.titles.values().map(|title| (title.name(), self.rows[&title.on].number)).collect();
         for (&slot, row) in &self.rows {
             let record = Record { open: row.open, pages: row.pages.clone(), dead: self.shards(&row.list) };
             store.records.insert(row.number, record);
@@ -318,7 +369,7 @@ impl Answers for Predicted {
         made(&Geometry::new(*six).expect("inside the limits"), memory);
     }
 
-    fn call(&mut self, six: &[u64; 6], memory: &mut Memory, lent: [usize; 3], c: Call) -> Reply {
+    fn call(&mut self, six: &[u64; 6], memory: &mut Memory, lent: [usize; 3], c: Command) -> Reply {
         call(six, memory, lent, c)
     }
 }
@@ -333,7 +384,7 @@ fn made(g: &Geometry, memory: &mut Memory) {
 }
 
 /// The reply to a call on lent memory, which becomes what the call leaves.
-fn call(six: &[u64; 6], memory: &mut Memory, lent: [usize; 3], c: Call) -> Reply {
+fn call(six: &[u64; 6], memory: &mut Memory, lent: [usize; 3], c: Command) -> Reply {
     let g = Geometry::new(*six).ok_or(2u32)?;
     if lent[0] < tables_needed(&g) || lent[1] < log_needed(&g) || lent[2] < result_needed(&g) {
         return Err(3);
@@ -347,7 +398,7 @@ fn call(six: &[u64; 6], memory: &mut Memory, lent: [usize; 3], c: Call) -> Reply
     let mut steps = store.clone();
     let given = store.call(c)?;
     match c {
-        Call::Seal(r) => steps.seal_in_steps(r, |step| lay(step, memory)).map(|_| ())?,
+        Command::Unnamed(Call::Seal(r)) => steps.seal_in_steps(r, |step| lay(step, memory)).map(|_| ())?,
         _ => lay(&store, memory),
     }
     Ok(given)
@@ -360,6 +411,7 @@ fn lay(store: &Store, memory: &mut Memory) {
     let places = places_after(&tables, store);
     lay_header(store, memory);
     lay_records(store, &places, &mut memory.tables);
+    lay_titles(&tables, store, &places, &mut memory.tables);
     for n in store.numbers() {
         lay_list(&store.g, places[&n], &list_after(&tables, store, n), &mut memory.tables);
     }
@@ -438,11 +490,29 @@ fn lay_records(store: &Store, places: &Places, t: &mut [u32]) {
         t[NUMBER + slot] = n;
         t[BEFORE + slot] = if at == 0 { 0 } else { link_to(places, line.records[at - 1]) };
         t[BASE + slot] = link_to(places, line.base);
+        t[NAMED + slot] = store.names_of(n) as u32;
         if record.open {
             t[WINDOW + slot] = line.window;
         }
         for (page, b) in record.pages.iter().enumerate() {
             t[pages_at(slot) + page] = b.map_or(0, |b| b + 1);
+        }
+    }
+}
+
+/// A name keeps its row, where only its link may change; a new one takes the first row that is empty.
+fn lay_titles(tables: &Tables, store: &Store, places: &Places, t: &mut [u32]) {
+    let mut left = store.names.clone();
+    for (&i, title) in &tables.titles {
+        t[title_at(i)] = left.remove(&title.name()).map_or(0, |n| link_to(places, n));
+    }
+    assert!(left.len() < 2, "a call puts one name on at most");
+    for (name, n) in left {
+        let at = (0..NAMES).find(|i| !tables.titles.contains_key(i)).map(title_at).expect("a row is empty");
+        t[at] = link_to(places, n);
+        t[at + 1] = name.len() as u32;
+        for (i, letter) in name.into_iter().enumerate() {
+            t[at + 8 + i] = u32::from(letter);
         }
     }
 }

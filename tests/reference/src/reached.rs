@@ -1,6 +1,6 @@
 //! What scripts made from seeds reach: how many of the scripts, and how many of their lines.
-use calls::Call;
-use reference::store::{Reply, Store};
+use calls::{Call, Command, Naming};
+use reference::store::{Reply, Store, LETTERS, NAMES};
 use reference::{generate, script};
 use std::collections::{BTreeMap, BTreeSet};
 use std::process::exit;
@@ -24,6 +24,7 @@ type Reached = Vec<(bool, &'static str)>;
 /// What there was before a call.
 #[derive(Default)]
 struct Before {
+    /// the call before, if it had no name
     call: Option<Call>,
     records: BTreeSet<u32>,
     /// the last records of all lines, and the windows of those
@@ -35,11 +36,11 @@ struct Before {
 
 impl Before {
     /// After a line: a store line, if accepted, begins a store in which no block ever waited.
-    fn go_on(&mut self, store: &Store, call: Option<Call>, reply: &Reply) {
+    fn go_on(&mut self, store: &Store, call: Option<Command>, reply: &Reply) {
         if call.is_none() && reply.is_ok() {
             self.waited.clear();
         }
-        self.call = call;
+        self.call = if let Some(Command::Unnamed(c)) = call { Some(c) } else { None };
         self.records = store.records.keys().copied().collect();
         self.lasts = store.lines.iter().map(|line| (line.records[line.records.len() - 1], line.window)).collect();
         self.waited.extend(&store.waiting);
@@ -63,25 +64,83 @@ fn refused(store: &Store, c: Call, number: u32, before: &Before) -> Reached {
     match c {
         Call::Seal(r) => reached.extend(not_sealed(store, r, number)),
         Call::Retain(r, _) => reached.extend(not_retained(store, r, number)),
+        Call::Delete(r) | Call::Estimate(r) => reached.extend(not_deleted(store, c, r, number)),
         _ => {}
     }
     reached
 }
 
-/// An S that is refused, which leaves the store as it was. The first record that its window would delete is the oldest of its line without a fork.
+/// An S that is refused, which leaves the store as it was. Its window would delete the oldest of the line's sealed records without a fork or a name.
 fn not_sealed(store: &Store, r: u32, number: u32) -> Reached {
     if number != 11 && number != 14 {
         return vec![];
     }
     let sealed = store.sealed(r);
-    let window = store.lines[store.line_of(r)].window;
-    let too_many = window > 0 && sealed.len() as u32 >= window;
-    let first = sealed.into_iter().find(|&s| too_many && !store.is_forked(s));
-    let frees = |s: u32| store.clone().call(Call::Estimate(s)).expect("a record without a fork")[0];
+    let window = store.lines[store.line_of(r)].window as usize;
+    let surplus = if window == 0 { 0 } else { (sealed.len() + 1).saturating_sub(window) };
+    let go: Vec<u32> = sealed.iter().copied().filter(|&s| !store.stays(s)).take(surplus).collect();
+    let frees = |s: &u32| store.clone().call(Call::Estimate(*s)).expect("a record without a fork or a name")[0];
     vec![
-        (number == 11 && first.is_some(), REFUSED_11),
+        (number == 11 && !go.is_empty(), REFUSED_11),
         (number == 14, REFUSED_14),
-        (number == 14 && first.is_some_and(|s| frees(s) <= store.unused()), "S refused by 14, with room for its first delete"),
+        (number == 14 && go.first().is_some_and(|s| frees(s) <= store.unused()), "S refused by 14, with room for its first delete"),
+        (number == 14 && sealed.iter().any(|&s| is_named_alone(store, s) && go.last() > Some(&s)), NAMED_14),
+    ]
+}
+
+/// A record that only its names keep.
+fn is_named_alone(store: &Store, r: u32) -> bool {
+    store.names_of(r) > 0 && !store.is_forked(r)
+}
+
+/// A D or Q of record r.
+fn not_deleted(store: &Store, c: Call, r: u32, number: u32) -> Reached {
+    let is_delete = matches!(c, Call::Delete(_));
+    vec![
+        (number == 18 && is_delete, D_18),
+        (number == 18 && !is_delete, Q_18),
+        (number == 18 && store.records[&r].open, "D or Q of an open record refused by 18"),
+        (number == 10 && store.names_of(r) > 0 && is_delete, D_10_NAMED),
+        (number == 10 && store.names_of(r) > 0 && !is_delete, Q_10_NAMED),
+    ]
+}
+
+/// A call with a name that is refused.
+fn not_named(store: &Store, naming: Naming, name: &[u8], number: u32) -> Reached {
+    let Naming::Attach(r) = naming else {
+        let reasons = if naming == Naming::Detach { [U_16, U_17] } else { [M_16, M_17] };
+        return vec![(number == 16, reasons[0]), (number == 17, reasons[1]), (name.len() == 78, "a name of 78 bytes refused by 16")];
+    };
+    let is_open = store.records.get(&r).map(|record| record.open);
+    let second = is_open == Some(true) && store.names_of(r) > 0;
+    let on = store.names.get(name);
+    vec![
+        (number == 16, N_16),
+        (number == 16 && is_open.is_none(), "N refused by 16, its record not there"),
+        (number == 16 && name.len() == LETTERS + 1, "N of 33 letters refused by 16"),
+        (number == 8, N_8),
+        (number == 8 && on.is_some(), "N refused by 8, its name in use"),
+        (number == 17, N_17),
+        (number == 17 && on.is_some(), N_IN_USE),
+        (number == 17 && on == Some(&r), "N refused by 17, its name on the same record"),
+        (number == 17 && on.is_none() && second, N_SECOND),
+        (number == 17 && on.is_none() && !second, N_33),
+    ]
+}
+
+/// A call with a name that is done.
+fn named_so(store: &Store, naming: Naming, name: &[u8]) -> Reached {
+    let Naming::Attach(r) = naming else {
+        return vec![(naming == Naming::Detach, "U that takes a name off"), (naming == Naming::Resolve, "M of a name in use")];
+    };
+    let is_open = store.records[&r].open;
+    vec![
+        (is_open, "N on an open record"),
+        (!is_open, "N on a sealed record"),
+        (!is_open && store.names_of(r) > 1, "N on a sealed record that has a name"),
+        (store.is_forked(r), "N on a forked record"),
+        (name.len() == LETTERS, "N of 32 letters"),
+        (store.names.len() == NAMES, "N that is the thirty-second"),
     ]
 }
 
@@ -197,7 +256,10 @@ fn sealed(store: &Store, r: u32, freed: usize, before: &Before) -> Reached {
     let rolled = line.base == 0 && line.records.len() > 5 && line.records[0] > 6;
     let stay = store.sealed(r);
     let gone: Vec<u32> = before.records.iter().copied().filter(|n| !store.records.contains_key(n)).collect();
-    let passed = stay.iter().any(|&s| store.is_forked(s) && gone.last() > Some(&s));
+    let passed = |stays: &dyn Fn(u32) -> bool| stay.iter().any(|&s| stays(s) && gone.last() > Some(&s));
+    let above = line.window > 0 && stay.len() as u32 > line.window;
+    let is_forked_alone = |s: &u32| store.is_forked(*s) && store.names_of(*s) == 0;
+    let mixed = stay.iter().any(|&s| is_named_alone(store, s)) && stay.iter().any(is_forked_alone);
     vec![
         (rolled, "S in a line of 6 or more that lost its first"),
         (store.records.len() > 31, "S with 32 records or more"),
@@ -206,8 +268,12 @@ fn sealed(store: &Store, r: u32, freed: usize, before: &Before) -> Reached {
         (gone.len() > 1, S_TWO),
         (gone.len() > 3, "S that deletes 4 or more"),
         (!gone.is_empty() && line.base > 0, "S that deletes in a fork's line"),
-        (passed, S_PASSES),
-        (line.window > 0 && stay.len() as u32 > line.window, S_ABOVE),
+        (passed(&|s| store.is_forked(s)), S_PASSES),
+        (passed(&|s| is_named_alone(store, s)), S_PASSES_NAMED),
+        (above, S_ABOVE),
+        (above && mixed, S_MIXED),
+        (store.names_of(store.last) > 0, S_MOVES),
+        (store.names_of(store.last) > 0 && !gone.is_empty(), "S that moves a name and deletes"),
         (freed > 1, "S that frees 2 or more"),
         (freed > 31, "S that frees 32 or more"),
         (freed > 0 && store.unused() == 0, "S whose frees fill the log"),
@@ -217,7 +283,11 @@ fn sealed(store: &Store, r: u32, freed: usize, before: &Before) -> Reached {
 const S_TWO: &str = "S that deletes 2 or more";
 const S_PASSES: &str = "S that passes over a forked record";
 const S_ABOVE: &str = "S that stops above its window";
+const S_PASSES_NAMED: &str = "S that passes over a named record without a fork";
+const S_MIXED: &str = "S that stops above its window, at forked records and at named ones";
+const S_MOVES: &str = "S that moves a name";
 const REFUSED_14: &str = "S refused by 14";
+const NAMED_14: &str = "S refused by 14, whose window passes over a named record";
 const REFUSED_11: &str = "S refused by 11, though its window would make room";
 const K_AGAIN: &str = "K that replaces a window";
 const K_FORK: &str = "K in a fork's line";
@@ -225,8 +295,52 @@ const K_15: &str = "K refused by 15";
 const K_8: &str = "K refused by 8";
 const K_9: &str = "K refused by 9";
 
+const N_16: &str = "N refused by 16";
+const N_8: &str = "N refused by 8";
+const N_17: &str = "N refused by 17";
+const N_IN_USE: &str = "N refused by 17, its name in use";
+const N_SECOND: &str = "N refused by 17, a second name on an open record";
+const N_33: &str = "N refused by 17, a thirty-third name";
+const U_16: &str = "U refused by 16";
+const U_17: &str = "U refused by 17";
+const M_16: &str = "M refused by 16";
+const M_17: &str = "M refused by 17";
+const D_18: &str = "D refused by 18";
+const Q_18: &str = "Q refused by 18";
+const D_10_NAMED: &str = "D refused by 10 of a forked and named record";
+const Q_10_NAMED: &str = "Q refused by 10 of a forked and named record";
+
 /// What more than one script of a hundred has to reach.
-const WANTED: [&str; 10] = [S_TWO, S_PASSES, S_ABOVE, REFUSED_14, REFUSED_11, K_AGAIN, K_FORK, K_15, K_8, K_9];
+const WANTED: [&str; 28] = [
+    S_TWO,
+    S_PASSES,
+    S_ABOVE,
+    REFUSED_14,
+    REFUSED_11,
+    K_AGAIN,
+    K_FORK,
+    K_15,
+    K_8,
+    K_9,
+    S_PASSES_NAMED,
+    S_MIXED,
+    S_MOVES,
+    NAMED_14,
+    N_16,
+    N_8,
+    N_17,
+    N_IN_USE,
+    N_SECOND,
+    N_33,
+    U_16,
+    U_17,
+    M_16,
+    M_17,
+    D_18,
+    Q_18,
+    D_10_NAMED,
+    Q_10_NAMED,
+];
 
 /// What a call, its reply and the store after it are an instance of.
 fn instances(store: &Store, c: Call, reply: &Reply, before: &Before) -> Reached {
@@ -240,6 +354,7 @@ fn instances(store: &Store, c: Call, reply: &Reply, before: &Before) -> Reached 
         Call::Estimate(r) => estimated(store, r, given),
         Call::Seal(r) => sealed(store, r, given.len() / 2, before),
         Call::Retain(r, _) => retained(store, r, before),
+        Call::Fork(r) => vec![(store.names_of(r) > 0, "F of a named record")],
         _ => vec![],
     };
     if let Call::Write(_, _, kind) = c {
@@ -258,7 +373,14 @@ fn of_script(text: &[u8]) -> BTreeMap<&'static str, u64> {
     let mut before = Before::default();
     script::each_reply(text, |store, call, reply| {
         let Some(store) = store else { return };
-        let reached = call.map_or(vec![], |c| instances(store, c, reply, &before));
+        let reached = match call {
+            None => vec![],
+            Some(Command::Unnamed(c)) => instances(store, c, reply, &before),
+            Some(Command::Naming(naming, name)) => match reply {
+                Ok(_) => named_so(store, naming, name),
+                Err(number) => not_named(store, naming, name, *number),
+            },
+        };
         for (_, name) in reached.into_iter().filter(|x| x.0) {
             *here.entry(name).or_default() += 1;
         }

@@ -1,11 +1,11 @@
 //! Scripts: lines, calls, replies.
 use crate::store::{Geometry, Reply, Store};
-use calls::Call;
+use calls::{Call, Command, Naming};
 
 /// What a line asks for.
-pub enum Line {
+pub enum Line<'t> {
     Store([u32; 6]),
-    Call(Call),
+    Call(Command<'t>),
 }
 
 fn number(word: &[u8]) -> Option<u32> {
@@ -16,15 +16,18 @@ fn number(word: &[u8]) -> Option<u32> {
     std::str::from_utf8(word).ok()?.parse().ok()
 }
 
-pub fn parse(line: &[u8]) -> Option<Line> {
+pub fn parse(line: &[u8]) -> Option<Line<'_>> {
     if line.is_empty() || line.len() > 80 {
         return None;
+    }
+    if let [b'N' | b'U' | b'M', b' ', rest @ ..] = line {
+        return naming_of(line[0], rest).map(Line::Call);
     }
     let mut words = line.split(|&b| b == b' ');
     let head = words.next()?;
     let numbers: Vec<u32> = words.map(number).collect::<Option<_>>()?;
     match *head {
-        [letter] => call_of(letter, &numbers).map(Line::Call),
+        [letter] => call_of(letter, &numbers).map(|c| Line::Call(c.into())),
         _ if head == b"store" => numbers.try_into().ok().map(Line::Store),
         _ => None,
     }
@@ -35,6 +38,19 @@ fn call_of(letter: u8, numbers: &[u32]) -> Option<Call> {
     let mut three = [0; 3];
     three.get_mut(..numbers.len())?.copy_from_slice(numbers);
     Call::of(letter, three).filter(|c| c.takes() == numbers.len())
+}
+
+/// The call of a letter that has a name, which ends at a space or at the line's end, and what follows its first space. N alone has a number too.
+fn naming_of(letter: u8, rest: &[u8]) -> Option<Command<'_>> {
+    let end = rest.iter().position(|&b| b == b' ').unwrap_or(rest.len());
+    let (name, after) = rest.split_at(end);
+    let naming = match (letter, after) {
+        (b'N', [b' ', digits @ ..]) => Naming::Attach(number(digits)?),
+        (b'U', []) => Naming::Detach,
+        (b'M', []) => Naming::Resolve,
+        _ => return None,
+    };
+    (!name.is_empty()).then_some(Command::Naming(naming, name))
 }
 
 /// The replies to a script.
@@ -55,7 +71,7 @@ pub fn logs(text: &[u8]) -> Vec<u8> {
 }
 
 /// Runs a script; `seen` gets the store after each line, if there is one, the call and the reply.
-pub fn each_reply(text: &[u8], mut seen: impl FnMut(Option<&Store>, Option<Call>, &Reply)) {
+pub fn each_reply(text: &[u8], mut seen: impl FnMut(Option<&Store>, Option<Command>, &Reply)) {
     let text = &text[..text.len().min(65_536)];
     let mut store: Option<Store> = None;
     let mut lines: Vec<&[u8]> = text.split(|&b| b == b'\n').collect();
@@ -83,10 +99,10 @@ pub fn each_reply(text: &[u8], mut seen: impl FnMut(Option<&Store>, Option<Call>
 }
 
 /// A reply as a line; a block and its birth have a colon between them. W, E, D and R give blocks, and S after the new number.
-fn put(out: &mut Vec<u8>, call: Option<Call>, reply: &Reply) {
+fn put(out: &mut Vec<u8>, call: Option<Command>, reply: &Reply) {
     let first_block = match call {
-        Some(Call::Write(..) | Call::Erase(..) | Call::Delete(_) | Call::Read(..)) => 0,
-        Some(Call::Seal(_)) => 1,
+        Some(Command::Unnamed(Call::Write(..) | Call::Erase(..) | Call::Delete(_) | Call::Read(..))) => 0,
+        Some(Command::Unnamed(Call::Seal(_))) => 1,
         _ => usize::MAX,
     };
     match reply {

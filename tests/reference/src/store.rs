@@ -2,7 +2,8 @@
 //! Deadlists are kept only for the order in which a delete gives its blocks, and checked against the crude walk.
 //! A freed block waits in a set that an accepted Y or C empties; after each accepted call no page may have a block of it.
 //! A window is the loop of its order: after a seal the oldest record that may go is deleted, again and again, as long as too many are left.
-use calls::Call;
+//! Names are a map from bytes to records; how many a record has is counted there each time.
+use calls::{Call, Command, Naming};
 use std::collections::{BTreeMap, BTreeSet};
 
 #[derive(Clone, Copy)]
@@ -73,11 +74,22 @@ pub struct Store {
     pub counter: u32,
     pub writes: u32,
     pub log: Vec<u64>,
+    /// the names, each with the record that it is on
+    pub names: BTreeMap<Vec<u8>, u32>,
     /// where the last call was a Q: its record and what it said
     asked: Option<(u32, Reply)>,
 }
 
 pub type Reply = Result<Vec<u32>, u32>;
+
+/// How many names a store has at most, and how many letters a name.
+pub const NAMES: usize = 32;
+pub const LETTERS: usize = 32;
+
+/// A name is 1 to 32 letters a to z.
+fn is_name(bytes: &[u8]) -> bool {
+    (1..=LETTERS).contains(&bytes.len()) && bytes.iter().all(u8::is_ascii_lowercase)
+}
 
 impl Store {
     pub fn new(g: Geometry) -> Store {
@@ -93,6 +105,7 @@ impl Store {
             counter: 0,
             writes: 0,
             log: Vec::new(),
+            names: BTreeMap::new(),
             asked: None,
         }
     }
@@ -124,6 +137,16 @@ impl Store {
 
     pub fn is_forked(&self, r: u32) -> bool {
         self.lines.iter().any(|l| l.base == r)
+    }
+
+    /// How many names are on a record.
+    pub fn names_of(&self, r: u32) -> usize {
+        self.names.values().filter(|&&n| n == r).count()
+    }
+
+    /// Whether a window passes over a record: it has a fork or a name on it.
+    pub fn stays(&self, r: u32) -> bool {
+        self.is_forked(r) || self.names_of(r) > 0
     }
 
     /// The sealed records of the line of r, oldest first.
@@ -245,20 +268,53 @@ impl Store {
     }
 
     /// A call. What a Q said is held to a D of the same record straight after it.
-    pub fn call(&mut self, c: Call) -> Reply {
+    pub fn call<'n>(&mut self, c: impl Into<Command<'n>>) -> Reply {
         let (asked, unused) = (self.asked.take(), self.unused());
-        let reply = self.perform(c);
+        let (c, reply) = match c.into() {
+            Command::Unnamed(c) => (Some(c), self.perform(c)),
+            Command::Naming(naming, name) => (None, self.perform_on(naming, name)),
+        };
         match (c, asked) {
-            (Call::Estimate(r), _) => self.asked = Some((r, reply.clone())),
-            (Call::Delete(r), Some((n, said))) if n == r => kept(&said, &reply, unused, unused - self.unused()),
+            (Some(Call::Estimate(r)), _) => self.asked = Some((r, reply.clone())),
+            (Some(Call::Delete(r)), Some((n, said))) if n == r => kept(&said, &reply, unused, unused - self.unused()),
             _ => {}
         }
         match reply {
-            Ok(_) => self.check_waiting(),
+            Ok(_) => {
+                self.check_waiting();
+                self.check_names();
+            }
             Err(13) => self.check_full(),
             _ => {}
         }
         reply
+    }
+
+    /// A call with a name, which is any bytes.
+    fn perform_on(&mut self, naming: Naming, name: &[u8]) -> Reply {
+        if !is_name(name) {
+            return Err(16);
+        }
+        match naming {
+            Naming::Attach(r) => {
+                let second = self.open(r)? && self.names_of(r) > 0;
+                if self.names.contains_key(name) || second || self.names.len() == NAMES {
+                    return Err(17);
+                }
+                self.names.insert(name.to_vec(), r);
+                Ok(vec![])
+            }
+            Naming::Detach => self.names.remove(name).map(|_| vec![]).ok_or(17),
+            Naming::Resolve => self.names.get(name).map(|&r| vec![r]).ok_or(17),
+        }
+    }
+
+    /// There are not too many names, each is one and on a record in the store, and an open record has one at most.
+    fn check_names(&self) {
+        assert!(self.names.len() <= NAMES && self.names.keys().all(|name| is_name(name)), "names are few");
+        let mut open: Vec<u32> = self.names.values().copied().filter(|r| self.records[r].open).collect();
+        open.sort();
+        assert!(open.windows(2).all(|two| two[0] != two[1]), "an open record has one name at most");
     }
 
     fn perform(&mut self, c: Call) -> Reply {
@@ -333,31 +389,32 @@ impl Store {
         Ok(given)
     }
 
-    /// r is sealed, and an open record follows it. Gives the new number.
+    /// r is sealed, and an open record follows it, which gets its name. Gives the new number.
     fn seal_record(&mut self, r: u32) -> u32 {
         let pages = self.records[&r].pages.clone();
         self.records.get_mut(&r).unwrap().open = false;
         let n = self.open_record(pages);
         let line = self.line_of(r);
         self.lines[line].records.push(n);
+        self.names.values_mut().filter(|on| **on == r).for_each(|on| *on = n);
         n
     }
 
-    /// While more sealed records are in the line than its window has: the oldest of them that may go. A forked one may not, nor the newest, r.
+    /// While more sealed records are in the line than its window has: the oldest of them that may go. A forked or a named one may not, nor the newest, r.
     fn too_old(&self, r: u32) -> Option<u32> {
         let (sealed, window) = (self.sealed(r), self.lines[self.line_of(r)].window);
         if window == 0 || sealed.len() as u32 <= window {
             return None;
         }
-        sealed.into_iter().find(|&s| s != r && !self.is_forked(s))
+        sealed.into_iter().find(|&s| s != r && !self.stays(s))
     }
 
-    /// At most as many sealed records as the window has are left in the line of r, which was just sealed, or only forked ones and r.
+    /// At most as many sealed records as the window has are left in the line of r, which was just sealed, or only forked or named ones and r.
     fn check_window(&self, r: u32) {
         let (sealed, window) = (self.sealed(r), self.lines[self.line_of(r)].window);
         assert_eq!(sealed.last(), Some(&r), "the newest sealed record stays");
         let few = sealed.len() as u32 <= window;
-        assert!(few || sealed.iter().all(|&s| s == r || self.is_forked(s)), "a window leaves no more than it may");
+        assert!(few || sealed.iter().all(|&s| s == r || self.stays(s)), "a window leaves no more than it may");
     }
 
     fn fork(&mut self, r: u32) -> Reply {
@@ -421,11 +478,20 @@ impl Store {
         mine.filter(|b| !self.records.iter().any(|(&n, x)| n != r && x.pages.contains(&Some(*b)))).collect()
     }
 
-    fn delete(&mut self, r: u32) -> Reply {
+    /// What refuses a D of r, the log apart.
+    fn may_go(&self, r: u32) -> Result<(), u32> {
         self.open(r)?;
         if self.is_forked(r) {
             return Err(10);
         }
+        if self.names_of(r) > 0 {
+            return Err(18);
+        }
+        Ok(())
+    }
+
+    fn delete(&mut self, r: u32) -> Reply {
+        self.may_go(r)?;
         let p = self.pred(r);
         let follower = self.follower(r);
         let freed: Vec<u32> = match follower {
@@ -464,10 +530,7 @@ impl Store {
     /// Blocks and words the crude way: each block that only r has is a free, and each free a word. Shards: the births above r's pred that blocks on
     /// the deadlist of the record that follows r have.
     fn estimate(&self, r: u32) -> Reply {
-        self.open(r)?;
-        if self.is_forked(r) {
-            return Err(10);
-        }
+        self.may_go(r)?;
         let (p, mine) = (self.pred(r), self.only_on(r));
         let births = |blocks: &[u32]| blocks.iter().map(|b| self.births[b]).filter(|&v| v > p).collect::<BTreeSet<u32>>();
         let shards = self.follower(r).map_or(0, |n| {

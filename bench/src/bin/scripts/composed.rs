@@ -1,6 +1,6 @@
 //! A script in the making: every line is also done by a store, so that the next can depend on it.
 use bench::store::{Geometry, Store};
-use calls::Call;
+use calls::{Call, Command};
 use reference::generate::{store_line, Dice};
 
 /// What the runner reads at most.
@@ -22,12 +22,13 @@ impl Composed {
     }
 
     /// Adds a call; once there is no room for it, the script is full and stays as it is.
-    pub fn call(&mut self, c: Call) {
-        let line = c.to_string();
+    pub fn call<'n>(&mut self, c: impl Into<Command<'n>>) {
+        let c = c.into();
+        let line = c.line();
         self.full |= self.text.len() + 1 + line.len() > LIMIT;
         if !self.full {
             self.text.push(b'\n');
-            self.text.extend(line.bytes());
+            self.text.extend(line);
             self.store.call(c);
         }
     }

@@ -1,6 +1,6 @@
 //! Scripts of several kinds, each as near to 65,536 bytes as whole lines allow.
 use crate::composed::{Composed, LIMIT};
-use calls::Call;
+use calls::{Call, Command, Naming};
 use reference::generate::{call, geometry, record, script, Dice};
 
 const PER_KIND: u64 = 6;
@@ -117,6 +117,29 @@ fn window(c: &mut Composed) {
 fn written_and_kept(c: &mut Composed) {
     written(c);
     c.call(Call::Retain(1, 32));
+}
+
+/// A name for a record.
+fn name(r: u32) -> [u8; 6] {
+    let letter = |n: u32| b'a' + (n % 26) as u8;
+    [b'n', b'a', b'm', b'e', letter(r / 26), letter(r)]
+}
+
+/// Seals in a line with a window, and 24 names: every other record that is sealed gets one, and the oldest name comes off; until then the window passes over
+/// its record. Two names are asked for after each seal.
+fn named(c: &mut Composed) {
+    let r = c.newest();
+    sealed(c);
+    if r.is_multiple_of(2) {
+        c.call(Command::Naming(Naming::Attach(r), &name(r)));
+        if c.store.name_count() > 24 {
+            c.call(Command::Naming(Naming::Detach, &name(r - 48)));
+        }
+    }
+    for _ in 0..2 {
+        let asked = (r & !1).saturating_sub(2 * c.dice.below(24));
+        c.call(Command::Naming(Naming::Resolve, &name(asked)));
+    }
 }
 
 /// 64 records in lines that fork: where the table is full one goes, else a seal or a fork; writes and reads between. A barrier where the two writes have
@@ -241,6 +264,7 @@ pub fn kinds() -> Vec<Kind> {
         several("listed writes, 1,792 blocks dead", |s| composed(s, largest, written, listed)),
         several("window of 32 snapshots", |s| composed(s, largest, written, window)),
         several("window of 32 snapshots, by K", |s| composed(s, largest, written_and_kept, sealed)),
+        several("window of 32 by K, 24 names", |s| composed(s, largest, written_and_kept, named)),
         several("64 records with forks", |s| composed(s, largest, written_and_sealed, forks)),
         several("deletes at 256 pages", |s| composed(s, largest, written_and_sealed, wide_deletes)),
         several("nearly full stores", |s| composed(s, largest, nearly_all, far)),

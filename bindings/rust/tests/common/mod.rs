@@ -1,6 +1,6 @@
 //! What the tests share: memory full of marks, calls by number, stored scripts, numbers at random.
 #![allow(dead_code)]
-use sogvect::{raw, Block, Call, Geometry, Kind, Record, Refusal, Space, Store, SCRIPT_LOG, SCRIPT_OUT, SCRIPT_TABLES};
+use sogvect::{raw, Block, Call, Command, Geometry, Kind, Naming, Record, Refusal, Space, Store, SCRIPT_LOG, SCRIPT_OUT, SCRIPT_TABLES};
 use std::fs::{read, read_to_string};
 
 /// What marks bytes that no call may change.
@@ -55,9 +55,19 @@ impl Tested for Space {
     }
 }
 
-/// Each call once, on a record and a page.
-pub fn every_call(n: u32, page: u32) -> [Call; 12] {
+/// Each call without a name once, on a record and a page.
+pub fn every_unnamed(n: u32, page: u32) -> [Call; Call::LETTERS.len()] {
     Call::LETTERS.map(|letter| Call::of(letter, [n, page, 1]).expect("the letter of a call"))
+}
+
+/// A name of the small store, and one that it has not.
+pub const EASTER: &[u8] = b"easter";
+pub const NEW: &[u8] = b"new";
+
+/// Each call once: a new name on the record, and a name that the small store has.
+pub fn every_call(n: u32, page: u32) -> Vec<Command<'static>> {
+    let namings = [(Naming::Attach(n), NEW), (Naming::Detach, EASTER), (Naming::Resolve, EASTER)];
+    every_unnamed(n, page).map(Command::from).into_iter().chain(namings.map(|(naming, name)| Command::Naming(naming, name))).collect()
 }
 
 /// The numbers of blocks: two each.
@@ -66,7 +76,16 @@ fn pairs(blocks: impl IntoIterator<Item = Block>) -> Vec<u32> {
 }
 
 /// The result's numbers, from what the typed function gave.
-pub fn numbers(store: &mut Store<'_>, call: Call) -> Result<Vec<u32>, Refusal> {
+pub fn numbers<'n>(store: &mut Store<'_>, call: impl Into<Command<'n>>) -> Result<Vec<u32>, Refusal> {
+    match call.into() {
+        Command::Unnamed(call) => numbers_unnamed(store, call),
+        Command::Naming(Naming::Attach(n), name) => store.name(name, Record(n)).map(|()| vec![]),
+        Command::Naming(Naming::Detach, name) => store.unname(name).map(|()| vec![]),
+        Command::Naming(Naming::Resolve, name) => store.resolve(name).map(|record| vec![record.0]),
+    }
+}
+
+fn numbers_unnamed(store: &mut Store<'_>, call: Call) -> Result<Vec<u32>, Refusal> {
     Ok(match call {
         Call::Begin => vec![store.begin()?.0],
         Call::Write(n, page, kind) => {
@@ -121,13 +140,32 @@ pub fn bare_letter(m: &mut Space, g: Geometry, letter: u32, [x, y, z]: [u32; 3],
     }
 }
 
+/// The bare function of a call with a name; the first two have no count.
+fn bare_naming(m: &mut Space, g: Geometry, naming: Naming, name: &[u8], count: &mut usize) -> u32 {
+    let Geometry { arenas, per, pages, records, turn, words } = g;
+    let (t, l, o, n) = (m.tables.len(), m.log.len(), m.out.len(), name.len());
+    let (tables, log, out, name) = (m.tables.as_mut_ptr(), m.log.as_ptr(), m.out.as_mut_ptr(), name.as_ptr());
+    // SAFETY: three vectors, a slice and a count, each lent once.
+    unsafe {
+        match naming {
+            Naming::Attach(record) => raw::sogvect_name(arenas, per, pages, records, turn, words, tables, t, log, l, out, o, name, n, record),
+            Naming::Detach => raw::sogvect_unname(arenas, per, pages, records, turn, words, tables, t, log, l, out, o, name, n),
+            Naming::Resolve => raw::sogvect_resolve(arenas, per, pages, records, turn, words, tables, t, log, l, out, o, name, n, count),
+        }
+    }
+}
+
 /// A call on the bare function.
-pub fn bare(m: &mut Space, g: Geometry, call: Call, count: &mut usize) -> u32 {
-    bare_letter(m, g, u32::from(call.letter()), call.numbers(), count)
+pub fn bare<'n>(m: &mut Space, g: Geometry, call: impl Into<Command<'n>>, count: &mut usize) -> u32 {
+    match call.into() {
+        Command::Unnamed(call) => bare_letter(m, g, u32::from(call.letter()), call.numbers(), count),
+        Command::Naming(naming, name) => bare_naming(m, g, naming, name, count),
+    }
 }
 
 /// The call is refused with this number and changes nothing, not even the count.
-pub fn refused(m: &mut Space, g: Geometry, call: Call, number: u32) {
+pub fn refused<'n>(m: &mut Space, g: Geometry, call: impl Into<Command<'n>>, number: u32) {
+    let call = call.into();
     let before = m.clone();
     let mut count = usize::MAX - 5;
     assert_eq!(bare(m, g, call, &mut count), number, "{call:?} of {g:?}");
@@ -141,7 +179,7 @@ pub fn refused(m: &mut Space, g: Geometry, call: Call, number: u32) {
 pub const SMALL: Geometry = Geometry { arenas: 2, per: 3, pages: 5, records: 6, turn: 7, words: 20 };
 
 /// A small store with a fork, a delete, deadlists and free blocks: records 1 (sealed, forked), 2 (sealed), 4 (open, after 2), 5 (open, fork of 1).
-/// Block 4 was freed after the last barrier, so that it waits. The line of 4 has a window of 2: its seal deletes 2.
+/// Block 4 was freed after the last barrier, so that it waits. The line of 4 has a window of 2: its seal deletes 2. 1 has the name easter, and 5 a.
 pub fn small() -> Space {
     let mut m = made(SMALL);
     let s = &mut m.store(SMALL);
@@ -165,6 +203,8 @@ pub fn small() -> Space {
     ] {
         numbers(s, call).unwrap_or_else(|e| panic!("{call:?}: {e}"));
     }
+    s.name(EASTER, Record(1)).expect("a name is put on 1");
+    s.name(b"a", Record(5)).expect("a name is put on 5");
     m
 }
 
