@@ -16,6 +16,8 @@ use Rattle.model.specs.SoundStore.{SoundStore}
 use Rattle.model.specs.Actions.{slotOf}
 use Rattle.model.specs.Layout.{viewOf}
 use Rattle.script.specs.Spoken.{Spoken, makes, asks, nothing}
+use Rattle.script.specs.declared.parse.Parsed.{Parsed}
+use Rattle.script.specs.declared.parse.Parsed.the-variants.{Store, Asks, Named}
 use Rattle.script.specs.declared.parse.Six.{Six}
 use Rattle.tables.specs.Hints.{noted}
 use Rattle.tables.specs.Ready.{recordOf}
@@ -65,6 +67,13 @@ pub record Kept (s : Session) (t bytes numbers : List ℕ) : Type 0 where
   pub out : mostOut ≤ length numbers
   pub inside : 0 < s .made → Inside (s .g)
   pub sound : 0 < s .made → SoundStore (s .g) t bytes
+
+-- a line that is no call of a letter and numbers
+abbrev pub Uncalled : Parsed → Type 0
+Uncalled (Store x) = Unit {0}
+Uncalled (Asks c) = ⊥
+Uncalled (Named c e) = Unit {0}
+Uncalled Parsed.No = Unit {0}
 
 -- an answer that gives at most 4,097 numbers
 abbrev pub Few : Answer → Type 0

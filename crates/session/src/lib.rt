@@ -7,7 +7,7 @@ ghost use Rattle.model.specs.Command.{command, commandOn};
 ghost use Rattle.model.specs.Memory.{lent};
 ghost use Rattle.script.specs.Spoken.{makes, asks, spokenAt};
 ghost use Rattle.script.specs.Said.{NameIn};
-ghost use Rattle.session.specs.Step.{noStore, stepReply, stepMemory, stepSession, stepHints, Kept, Few, Stepping};
+ghost use Rattle.session.specs.Step.{noStore, stepReply, stepMemory, stepSession, stepHints, Kept, Uncalled, Few, Stepping};
 use answer::Answer;
 use engine::names::name;
 use engine::names::record_named;
@@ -148,6 +148,34 @@ fn name_line(
     Stepped { session: s, answer }
 }
 
+// A line that is no call of a letter and numbers. `step` tells it apart by one test: with an arm for each kind of line in one place the calls that scripts
+// have most would take more instructions.
+fn other_line(
+    s: Session,
+    said: Parsed,
+    t: &mut [u32],
+    log: &[u8],
+    out: &mut [u32],
+    hints: &mut [u8; 1024],
+    text: &[u8],
+    at: usize,
+) -> Stepped
+    requires { ⌜ Kept s (now t) (now log) (now out) × (NameIn (now text) at said (length (now text)) × Uncalled said) ⌝ }
+    ensures line { λ r. ⌜ Stepping s (lent (now (t .entry)) (now (log .entry)) (now (out .entry))) (spokenAt (now (text .entry)) at said) r
+        (lent (now (t .exit)) (now (log .entry)) (now (out .exit))) ⌝ }
+    ensures hints { λ r. ⌜ now (hints .exit) ≡ stepHints s (now (t .entry)) (spokenAt (now (text .entry)) at said) (now (hints .entry)) ⌝ }
+{
+    if let Parsed::Store(x) = said {
+        return store_line(s, x, t, log, out);
+    }
+    let Parsed::Named(c, e) = said else {
+        return refuse(s, 1);
+    };
+    let from = at + 2;
+    let end = at + wide(e);
+    name_line(s, c, &text[from..end], t, log, out, hints)
+}
+
 // One line, by what it says; it begins at `at` in the text, where its name stands, if it has one. Of the hints, where records may stand, nothing is asked.
 pub fn step(
     s: Session,
@@ -174,16 +202,8 @@ pub fn step(
     ensures few { λ r. ⌜ Few (r .answer) ⌝ }
     ensures hints { λ r. ⌜ now (hints .exit) ≡ stepHints s (now (t .entry)) (spokenAt (now (text .entry)) at said) (now (hints .entry)) ⌝ }
 {
-    if let Parsed::Store(x) = said {
-        return store_line(s, x, t, log, out);
-    }
-    if let Parsed::Named(c, e) = said {
-        let from = at + 2;
-        let end = at + wide(e);
-        return name_line(s, c, &text[from..end], t, log, out, hints);
-    }
     let Parsed::Asks(c) = said else {
-        return refuse(s, 1);
+        return other_line(s, said, t, log, out, hints, text, at);
     };
     call_line(s, c, t, log, out, hints)
 }
