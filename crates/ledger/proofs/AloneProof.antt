@@ -5,18 +5,21 @@ use mathlib.Core.Bool.{true, false}
 use mathlib.Core.List.{List, [], _∷_, _++_, map}
 use Prim.Native.Nat.{ℕ, _+_, _≤_}
 use lib.ListN.{length}
-use Rattle.answer.specs.Reply.{Reply, accepted, refused}
+use Rattle.answer.specs.Reply.{accepted, refused}
 use Rattle.answer.specs.Refusal.{NoneBefore}
 use Rattle.geometry.specs.declared.Geometry.{Geometry}
 use Rattle.geometry.specs.Limits.{Inside, blocks}
+use Rattle.log.specs.Runs.{Covered}
+use Rattle.model.specs.Queue.{roundedUp}
+use Rattle.model.specs.Held.{tally}
 use Rattle.model.specs.Calls.{result}
-use Rattle.model.specs.Book.{Book, OnPage, enter}
+use Rattle.model.specs.Book.{Book, Some, OnPage, enter}
 use Rattle.model.specs.Results.{numbersOf}
 use Rattle.model.specs.State.{State, fresh}
 use Rattle.model.specs.Memory.{makeAfter}
-use Rattle.model.specs.History.{Entry, events, entryOf, told, bookFrom, book, stateFrom, historyFrom, unsynced}
+use Rattle.model.specs.History.{Entry, events, entryOf, told, bookFrom, book, stateFrom, historyFrom, queuedIn, unsynced, Standing}
 use Rattle.model.specs.NameBook.{HasName, OnceNamed, InBook, OpenIn, SealMoved}
-use Rattle.model.specs.HistoryFacts.{HistoryFacts, givenIn, freedIn, different, Sealed, Names, LastGave, ResolveIs}
+use Rattle.model.specs.HistoryFacts.{HistoryFacts, givenIn, freedIn, keptCount, Sealed, Names, LastGave, runsOfPairs, Reclaims, turnsIn, ResolveIs}
 use Rattle.model.specs.Model.{Screened, screenedConditions, answer, modelAfter, model}
 use Rattle.model.specs.Command.{Command}
 use Rattle.model.proofs.ByNumber.{earlier-iff}
@@ -109,13 +112,21 @@ module _ (g : Geometry) (inside : Inside g) where
         record {
           full = λ w r x k e.
               let i = W .full (plain w) r x k e in
-              let n = none-told L T (side .0) (side .1) w 13 in (
-                λ a. let q = i .0 (same-answer w ∙ a) in (n .0 (q .0), λ b l. subst (λ h. OnPage (book (g .pages) h) b ⊎ (unsynced h b ≡ true)) H (q .1 b l)),
-                λ q. sym (same-answer w) ∙ i .1 (n .1 (q .0), λ b l. subst (λ h. OnPage (book (g .pages) h) b ⊎ (unsynced h b ≡ true)) (sym H) (q .1 b l)),
+              let n = none-told L T (side .0) (side .1) w 13 in
+              let kept : ℕ → List Entry → Type 0 = λ b h. OnPage (book (g .pages) h) b ⊎ ((queuedIn (g .pages) h b ≡ true) ⊎ (unsynced h b ≡ true)) in (
+                λ a. let q = i .0 (same-answer w ∙ a) in (n .0 (q .0), λ b l. subst (kept b) H (q .1 b l)),
+                λ q. sym (same-answer w) ∙ i .1 (n .1 (q .0), λ b l. subst (kept b) (sym H) (q .1 b l)),
               );
           gives = λ w r x k l e a.
-              let q = W .gives (plain w) r x k l e (same-answer w ∙ a) in
-              (q .0, q .1, q .2, q .3, λ p. q .4 (subst (λ h. OnPage (book (g .pages) h) (q .0)) (sym H) p), subst (λ h. unsynced h (q .0) ≡ false) H (q .5));
+              let q = W .gives (plain w) r x k l e (same-answer w ∙ a) in (
+                q .0,
+                q .1,
+                q .2,
+                q .3,
+                λ p. q .4 (subst (λ h. OnPage (book (g .pages) h) (q .0)) (sym H) p),
+                subst (λ h. queuedIn (g .pages) h (q .0) ≡ false) H (q .5),
+                subst (λ h. unsynced h (q .0) ≡ false) H (q .6),
+              );
           frees = λ xs ys b e. W .frees xs ys b (ap events H ∙ e);
         }
 
@@ -123,8 +134,12 @@ module _ (g : Geometry) (inside : Inside g) where
   facts before =
       let W = history-facts g inside (plains before) in
       let H = side before .2 in
+      let entry : (i : Command) → entryOf (clerk g) (L before) i ≡ entryOf (model g) (T before) (plain i) =
+      λ i j. record { call = i; answer = sym (same-answer before i) j } in
       record {
-        held = subst (λ h. givenIn (events h) ≡ freedIn (events h) + different (g .pages) (blocks g) (book (g .pages) h)) H (W .held);
+        given-less-freed = λ b.
+            subst (λ h. Standing b (events h) ↔ (OnPage (book (g .pages) h) b ⊎ (queuedIn (g .pages) h b ≡ true))) H (W .given-less-freed b);
+        held = subst (λ h. givenIn (events h) ≡ freedIn (events h) + keptCount (g .pages) (blocks g) h) H (W .held);
         sealed = λ more v w r x l m ev ew s av aw.
             W .sealed (plains more) (plain v) (plain w) r x l m ev ew (subst (λ h. Sealed (book (g .pages) h) r) (sym H) s) (same-answer before v ∙ av)
             (subst (λ k. answer g (stateFrom (model g) (fresh g) k) (plain w) ≡ accepted m) (plains-append before more) (same-answer (before ++ more) w ∙ aw));
@@ -132,11 +147,24 @@ module _ (g : Geometry) (inside : Inside g) where
             W .room (plain c) (plain i) l ec (same-answer before c ∙ ac)
             (subst (λ k. answer g (stateFrom (model g) (fresh g) k) (plain i) ≡ refused 14) (plains-append before (c ∷ [])) (same-answer (before ++ (c ∷ [])) i ∙ e));
         birth-is = λ i b v n.
-            let e : entryOf (clerk g) (L before) i ≡ entryOf (model g) (T before) (plain i) = λ j. record { call = i; answer = sym (same-answer before i) j } in
             subst (LastGave b v) (ap (historyFrom (model g) (fresh g)) (sym (plains-append before (i ∷ []))) ∙ side (before ++ (i ∷ [])) .2)
-            (W .birth-is (plain i) b v (subst (Names b v) e n));
+            (W .birth-is (plain i) b v (subst (Names b v) (entry i) n));
         given-after-barrier = λ xs ys zs e f b s. W .given-after-barrier xs ys zs e f b (H ∙ s);
         listed-after-barrier = λ xs ys zs e f b s. W .listed-after-barrier xs ys zs e f b (H ∙ s);
+        turn-frees-queued = λ i b n.
+            subst (λ h. queuedIn (g .pages) h b ≡ true) H (W .turn-frees-queued (plain i) b (subst (Reclaims b) (entry i) n));
+        kept-exactly = λ i l b e a m.
+            subst (λ h. Covered b (runsOfPairs l) ↔ ((OnPage (book (g .pages) h) b → ⊥) × (queuedIn (g .pages) h b ≡ false) × (unsynced h b ≡ false))) H
+            (W .kept-exactly (plain i) l b e (same-answer before i ∙ a) m);
+        turns = λ more k p c b q.
+            let now : List Entry = historyFrom (clerk g) Rattle.ledger.specs.Ledger.fresh before in
+            let later : historyFrom (model g) (T before) (plains more) ≡ historyFrom (clerk g) (L before) more =
+            beside more (L before) (T before) (side before .0) (side before .1) .2 in
+            subst (Some (Reclaims b)) later
+            (W .turns (plains more) k p
+            (subst (λ h. roundedUp (tally (queuedIn (g .pages) h) (blocks g)) k ≤ turnsIn k (historyFrom (model g) (T before) (plains more))) (sym H)
+            (subst (λ h. roundedUp (tally (queuedIn (g .pages) now) (blocks g)) k ≤ turnsIn k h) (sym later) c))
+            b (subst (λ h. queuedIn (g .pages) h b ≡ true) (sym H) q));
         resolve-is = λ i l e v n.
             subst (λ h. ResolveIs (book (g .pages) h .names) l (says g (L before) i)) H
             (subst (ResolveIs (book (g .pages) (historyFrom (model g) (fresh g) (plains before)) .names) l) (same-answer before i)

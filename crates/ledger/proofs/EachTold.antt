@@ -2,15 +2,16 @@
 use mathlib.Core.Path.{_≡_, refl, sym, ap, _∙_, subst}
 use mathlib.Core.Bool.{cond}
 use mathlib.Core.List.{List, [], _∷_, _++_, map, flatMap}
-use Prim.Native.Nat.{ℕ, suc}
+use Prim.Native.Nat.{ℕ}
 use native.Mathlib.Omega.{arith}
+use lib.ListN.{take}
 use Rattle.answer.specs.Reply.{accepted}
 use Rattle.answer.specs.Refusal.{Condition, NoneHolds, Ordered}
 use Rattle.geometry.specs.declared.Geometry.{Geometry}
 use Rattle.geometry.specs.Limits.{Inside}
 use Rattle.log.specs.Word.{released}
-use Rattle.model.specs.Lists.{keepIf, afterFirst}
-use Rattle.model.specs.Results.{Item, plain, born, bornIn, oneThenBorn, blocksIn, itemsOf, numbersOf}
+use Rattle.model.specs.Lists.{keepIf}
+use Rattle.model.specs.Results.{Item, plain, born, bornIn, blocksIn, itemsOf, numbersOf}
 use Rattle.model.specs.Book.{Book, accept}
 use Rattle.model.specs.State.{State}
 use Rattle.model.specs.Calls as model
@@ -19,26 +20,28 @@ use Rattle.model.specs.History.{firstGiven, eventsOf}
 use Rattle.model.specs.Crash.{isC}
 use Rattle.model.specs.declared.Spelling.{Spelling}
 use Rattle.model.specs.Command.{Command}
-use Rattle.model.specs.Command.{Begin, Write, Erase, Seal, Fork, Delete, Read, Barrier, Compress, FreeList, Estimate, Retain, Attach, Detach, Resolve}
+use Rattle.model.specs.Command.{Begin, Write, Erase, Seal, Fork, Delete, Read, Barrier, Compress, FreeList, Estimate, Retain, Reclaim}
+use Rattle.model.specs.Command.{Attach, Detach, Resolve}
 use Rattle.model.proofs.ByNumber.{none-at}
 use Rattle.model.proofs.Fine.{Fine}
-use Rattle.model.proofs.Closing.{closing-first, closing-12}
 use Rattle.ledger.specs.BookReading.{blockOn, carriers}
-use Rattle.ledger.specs.Ledger.{Ledger, withBirths, isFree, young, freedBy, picked, runsIn, afterKill, afterGiving, afterDelete, afterClearing, closed}
+use Rattle.ledger.specs.Ledger.{Ledger, withBirths, isFree, young, picked, runsIn, afterKill, afterGiving, afterDelete, afterTurn, afterClearing}
 use Rattle.ledger.specs.Ledger.{account, refusalsOf, blockGiven, keeps}
 use Rattle.ledger.proofs.Tells.{Tells, Answered, Keeping, unmoved, still-told, list-answered}
 use Rattle.ledger.proofs.CallsTold.{barrier-answered, barrier-kept, compress-answered, compress-kept, compressed-told, read-answered}
 use Rattle.ledger.proofs.KillTold.{kill-told, erase-answered}
 use Rattle.ledger.proofs.WriteTold.{picked-told, write-answered}
 use Rattle.ledger.proofs.OpenTold.{begin-answered, fork-answered}
-use Rattle.ledger.proofs.DeleteTold.{freed-told, delete-answered}
+use Rattle.ledger.proofs.DeleteTold.{delete-answered}
 use Rattle.ledger.proofs.EstimateTold.{estimate-answered}
 use Rattle.ledger.proofs.GrowKept.{begin-kept, fork-kept}
-use Rattle.ledger.proofs.SealTold.{closed-freed, closed-log, seal-answered, seal-kept}
+use Rattle.ledger.proofs.SealTold.{closed-log, seal-answered, seal-kept}
 use Rattle.ledger.proofs.RetainTold.{retain-answered, retain-kept}
 use Rattle.ledger.proofs.NamingTold.{attach-answered, attach-kept, detach-answered, detach-kept, resolve-answered}
 use Rattle.ledger.proofs.KillKept.{erase-kept, write-kept}
 use Rattle.ledger.proofs.DeleteKept.{delete-kept}
+use Rattle.ledger.proofs.QueuePairs.{items-entries}
+use Rattle.ledger.proofs.TurnTold.{turn-frees, turn-answered, turn-kept}
 
 -- its log words are the model's
 abbrev pub Words : Command → Type 0
@@ -86,6 +89,7 @@ module _ (c : Command) {s : Spelling} {cs : Geometry → State → List Conditio
         given = z g L .1 j .given;
         log = z g L .1 j .log ++ z g L .0 j;
         waiting = z g L .1 j .waiting;
+        queue = z g L .1 j .queue;
       } in
       subst (λ (U : State). Tells g (keeps g L c) U) (sym left) (subst (λ (M : Ledger). Tells g M T) (sym same) (still-told g L T t))
 
@@ -120,7 +124,7 @@ items-plain (n ∷ ns) = ap {B = List Item} (λ l. plain n ∷ l) (items-plain n
 -- ── each call ──
 
 pub told : (c : Command) → Told c
-unfolding account afterKill afterGiving afterDelete afterClearing itemsOf numbersOf bornIn oneThenBorn afterFirst blockGiven blocksIn
+unfolding account afterKill afterGiving afterDelete afterTurn afterClearing itemsOf numbersOf bornIn blockGiven blocksIn
 told Begin = record {
   answered = begin-answered;
   keeping = begin-kept;
@@ -133,7 +137,7 @@ told Begin = record {
 told (Write r x k) = record {
   answered = write-answered r x k;
   keeping = write-kept r x k;
-  words = λ g L T inside fine t n. rw (kill-told g L T inside fine t r x (none-at (conditions g T (Write r x k)) n 8), picked-told g L T inside t k);
+  words = λ g L T inside fine t n. rw (kill-told g L T inside fine t r x (none-at (conditions g T (Write r x k)) n 8), picked-told g L T inside fine t k);
   log = λ g L. refl;
   items = λ g L. ap {B = List Item} (λ l. born (picked g L k) r ∷ l) (items-born L (keepIf (young L r) (blockOn (L .book) r x)));
   block = λ g L B. refl;
@@ -151,9 +155,9 @@ told (Erase r x) = record {
 told (Seal r) = record {
   answered = seal-answered r;
   keeping = seal-kept r;
-  words = λ g L T inside fine t n. ap (map released) (closed-freed g inside L T fine t r (closing-first g T r n) (closing-12 g T r n));
+  words = λ g L T inside fine t n. refl;
   log = closed-log r;
-  items = λ g L. ap {B = List Item} (λ l. plain (suc (L .book .last)) ∷ l) (items-born L (closed g L r .freed));
+  items = λ g L. refl;
   block = λ g L B. refl;
   ordered = λ g L. omega arith;
 }
@@ -169,9 +173,9 @@ told (Fork r) = record {
 told (Delete r) = record {
   answered = delete-answered r;
   keeping = delete-kept r;
-  words = λ g L T inside fine t n. ap (map released) (freed-told g L T inside fine t r (none-at (conditions g T (Delete r)) n 8));
+  words = λ g L T inside fine t n. refl;
   log = λ g L. refl;
-  items = λ g L. items-born L (freedBy g L r);
+  items = λ g L. refl;
   block = λ g L B. refl;
   ordered = λ g L. omega arith;
 }
@@ -189,7 +193,7 @@ told Barrier = record {
 told Compress = record {
   answered = compress-answered;
   keeping = compress-kept;
-  words = λ g L T inside fine t n. compressed-told g L T t;
+  words = λ g L T inside fine t n. compressed-told g L T fine t;
   log = λ g L. refl;
   items = λ g L. refl;
   block = λ g L B. refl;
@@ -203,6 +207,15 @@ told (Retain r k) = record {
   words = λ g L T inside fine t n. refl;
   log = λ g L. refl;
   items = λ g L. refl;
+  block = λ g L B. refl;
+  ordered = λ g L. omega arith;
+}
+told (Reclaim k) = record {
+  answered = turn-answered k;
+  keeping = turn-kept k;
+  words = λ g L T inside fine t n. ap (map released) (turn-frees g L T t k);
+  log = λ g L. refl;
+  items = λ g L. items-entries (take k (L .queue));
   block = λ g L B. refl;
   ordered = λ g L. omega arith;
 }

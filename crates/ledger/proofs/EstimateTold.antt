@@ -1,4 +1,4 @@
--- Q answered as the ledger says: the blocks that a deletion would free, its words, and the shards that it would empty.
+-- Q answered as the ledger says: the blocks that a deletion would queue, no words, and the shards that it would empty.
 use mathlib.Core.Path.{_≡_, refl, sym, ap, _∙_, subst}
 use mathlib.Core.Bool.{Bool, false, not}
 use mathlib.Core.List.{List, [], _∷_}

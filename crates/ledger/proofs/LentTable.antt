@@ -2,8 +2,7 @@
 -- at each call, the replies are the listing's, and the used log has the listing's words, as bytes, before C and after it.
 use mathlib.Core.Path.{_≡_, refl, sym, ap, _∙_}
 use mathlib.Core.List.{List, [], _∷_, _++_}
-use Prim.Native.Nat.{ℕ, _+_, _*_, _≤_}
-use native.Mathlib.Omega.{arith}
+use Prim.Native.Nat.{_+_, _*_, _≤_}
 use lib.ListN.{length}
 use borrow.Author.Tests.{le-ltb}
 use Rattle.answer.specs.Reply.{Reply, accepted, refused}
@@ -62,7 +61,7 @@ module _ (g : Geometry) (M : Memory) (e : makeReply g M ≡ accepted []) where
 -- ── the listing ──
 
 module _ (M : Memory) (e : makeReply small M ≡ accepted []) (l : List Own) (r : Roomy small l) where
-  -- the table's fifteen calls; its first line, the making, is e
+  -- the table's seventeen calls; its first line, the making, is e
   pub replies-are : calls l ≡ both → repliesOn small (makeAfter small M) l ≡ outputs
   unfolding answers
   replies-are c = replies-told small M e l r ∙ ap (replies small fresh) c ∙ table

@@ -27,9 +27,9 @@ names-lines =
     -- one of its two names is taken off
     ∷ ("U lent", "+") ∷ ("M lent", "- 17") ∷ ("U lent", "- 17") ∷ ("D 1", "- 18")
     -- the other: now it goes
-    ∷ ("U advent", "+") ∷ ("W 2 0 0", "+ 1:2") ∷ ("Q 1", "+ 1 1 1") ∷ ("D 1", "+ 0:1")
+    ∷ ("U advent", "+") ∷ ("W 2 0 0", "+ 1:2") ∷ ("Q 1", "+ 1 0 1") ∷ ("D 1", "+") ∷ ("T 64", "+ 0:1")
     -- an open record with a name; what comes after it has none
-    ∷ ("D 2", "- 18") ∷ ("U easter", "+") ∷ ("D 2", "+ 1:2") ∷ ("B", "+ 4") ∷ ("M easter", "- 17") ∷ ("N easter 4", "+") ∷ ("M easter", "+ 4")
+    ∷ ("D 2", "- 18") ∷ ("U easter", "+") ∷ ("D 2", "+") ∷ ("T 64", "+ 1:2") ∷ ("B", "+ 4") ∷ ("M easter", "- 17") ∷ ("N easter 4", "+") ∷ ("M easter", "+ 4")
     ∷ []
 
 pub names : Goes names-lines
@@ -43,13 +43,13 @@ window-lines =
     -- 1 has a name and 2 is the newest: two stay, though the window is 1
     ∷ ("W 2 0 0", "+ 1:2") ∷ ("S 2", "+ 3") ∷ ("R 1 0", "+ 0:1") ∷ ("R 2 0", "+ 1:2")
     -- 1 is passed over, 2 goes
-    ∷ ("W 3 0 0", "+ 2:3") ∷ ("S 3", "+ 4 1:2") ∷ ("R 2 0", "- 8") ∷ ("M easter", "+ 1")
+    ∷ ("W 3 0 0", "+ 2:3") ∷ ("S 3", "+ 4") ∷ ("T 64", "+ 1:2") ∷ ("R 2 0", "- 8") ∷ ("M easter", "+ 1")
     -- 1 counts: of 1, 3 and 4 one is to go
     ∷ ("K 4 2", "+") ∷ ("N yule 4", "+") ∷ ("S 4", "+ 5") ∷ ("R 3 0", "- 8") ∷ ("M yule", "+ 5")
     -- the name of 4 moved, so 4 may go
     ∷ ("S 5", "+ 6") ∷ ("R 4 0", "- 8") ∷ ("M yule", "+ 6") ∷ ("M easter", "+ 1")
     -- without its name 1 goes, then 5
-    ∷ ("U easter", "+") ∷ ("K 6 1", "+") ∷ ("S 6", "+ 7 0:1") ∷ ("R 1 0", "- 8") ∷ ("R 5 0", "- 8") ∷ ("M yule", "+ 7")
+    ∷ ("U easter", "+") ∷ ("K 6 1", "+") ∷ ("S 6", "+ 7") ∷ ("T 64", "+ 0:1") ∷ ("R 1 0", "- 8") ∷ ("R 5 0", "- 8") ∷ ("M yule", "+ 7")
     ∷ []
 
 pub windowed : Goes window-lines

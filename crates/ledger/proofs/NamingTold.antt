@@ -89,6 +89,7 @@ attach-kept l r g L T inside fine t n =
       marks = t .marks;
       used = omega (arith, t .used, length-append (L .log) []);
       waiting = t .waiting;
+      queue = t .queue;
       windows = f .windows (L .book) 0 (t .book) (t .windows);
       names = f .sides (L .book) 0 (t .book) (t .names);
     }
@@ -114,6 +115,7 @@ detach-kept l g L T inside fine t n =
       marks = t .marks;
       used = omega (arith, t .used, length-append (L .log) []);
       waiting = t .waiting;
+      queue = t .queue;
       windows = f .windows (L .book) 0 (t .book) (t .windows);
       names = f .sides (L .book) 0 (t .book) (t .names);
     }

@@ -8,7 +8,7 @@ use native.Mathlib.Omega.{arith}
 use lib.Dec.{leb, ltb}
 use lib.ListN.{length, getD}
 use borrow.Author.Tests.{eq-eqb, ne-eqb, eqb-true, eqb-false, lt-leb, le-leb, le-ltb}
-use Rattle.answer.proofs.Cases.{cases, lt?}
+use Rattle.answer.proofs.Cases.{cases}
 use Rattle.geometry.specs.declared.Geometry.{Geometry}
 use Rattle.geometry.specs.Limits.{Inside, blocks}
 use Rattle.choice.specs.Words.{bit, wordOf}
@@ -17,14 +17,15 @@ use Rattle.choice.proofs.Births.{word-lt, word-bit}
 use Rattle.model.specs.Held.{available}
 use Rattle.model.specs.Lists.{In}
 use Rattle.model.specs.State.{State, withUsed, synced, WaitingFits}
-use Rattle.model.specs.Layout.{birthCell, waitCell, need, freeWord, stateOf, stored, headerNumber}
+use Rattle.model.specs.Layout.{waitCell, need, freeWord, stateOf, stored, headerNumber}
 use Rattle.model.specs.Memory.{Memory}
 use Rattle.model.specs.SoundStore.{SoundStore}
 use Rattle.model.proofs.ListFacts.{in?}
 use Rattle.model.proofs.Waiting.{available-is, is-available}
 use Rattle.model.proofs.Keeps.{sound-fine}
-use Rattle.model.proofs.LayoutFacts.{by-address, stored-header, stored-column, stored-spare, stored-page, stored-list, stored-birth, stored-wait, stored-beyond}
-use Rattle.model.proofs.StoredFacts.{wait-other, stored-free}
+use Rattle.model.proofs.LayoutFacts.{by-address, stored-header, stored-column, stored-spare, stored-page, stored-list, stored-birth, stored-queue}
+use Rattle.model.proofs.LayoutFacts.{stored-queue-birth, stored-wait, stored-beyond}
+use Rattle.model.proofs.StoredFacts.{row-other, stored-free}
 use Rattle.model.proofs.Restored.{stored-state}
 use Rattle.ledger.specs.Touched.{Released}
 
@@ -57,10 +58,10 @@ no-bit T b w h e =
 freed-again : (T : State) (n b : ℕ) → WaitingFits T → (available (synced (withUsed T n)) b ≡ true) ↔ ((available T b ≡ true) ⊎ In b (T .waiting))
 freed-again T n b w =
     let U : State = synced (withUsed T n) in (
-      λ e. cases (in? b (T .waiting)) (λ i. inr i) (λ d. inl (is-available T b (available-is U b e .0) d)),
+      λ e. cases (in? b (T .waiting)) (λ i. inr i) (λ d. inl (is-available T b (available-is U b e .0) (available-is U b e .2) d)),
       λ o. cases o
-          (λ e. is-available U b (available-is T b e .0) (λ i. i))
-          (λ i. is-available U b (w .unborn b i) (λ j. j)),
+          (λ e. is-available U b (available-is T b e .0) (available-is T b e .2) (λ i. i))
+          (λ i. is-available U b (w .unborn b i) (w .unqueued b i) (λ j. j)),
     )
 
 -- ── the tables, stored ──
@@ -89,11 +90,9 @@ module _ (g : Geometry) (inside : Inside g) (M : Memory) (s : SoundStore g (M .t
   said : (i : ℕ) → getD (stored g T t) i 0 ≡ getD t i 0
   said i = ap (λ (l : List ℕ). getD l i 0) (stored-state g t (s .made) (s .free) room)
 
-  -- behind the births all stays as it stands, the blocks that waited too: they are read no more
-  waited : (i : ℕ) → birthCell (g .records) (blocks g) ≤ i → i < need g → getD (stored g U t) i 0 ≡ getD t i 0
-  waited i l h =
-      let a : ℕ = waitCell (g .records) (blocks g) 0 in
-      stored-wait g U t room i l h ∙ wait-other [] t a i (cases (lt? i a) (λ k. inl k) (λ k. inr (omega arith)))
+  -- the blocks that waited stay as they stand: they are read no more
+  waited : (i : ℕ) → waitCell (g .records) (blocks g) 0 ≤ i → i < need g → getD (stored g U t) i 0 ≡ getD t i 0
+  waited i l h = stored-wait g U t room i l h ∙ row-other [] t (waitCell (g .records) (blocks g) 0) i (inr (omega arith))
 
   others : (i : ℕ) → (i ≡ 9 → ⊥) → (i ≡ 11 → ⊥) → (i < 64) ⊎ (128 ≤ i) → getD (stored g U t) i 0 ≡ getD t i 0
   others =
@@ -105,6 +104,8 @@ module _ (g : Geometry) (inside : Inside g) (M : Memory) (s : SoundStore g (M .t
         page = λ k x hk hx a b c. stored-page g U t room k x hk hx ∙ sym (stored-page g T t room k x hk hx) ∙ said _;
         list = λ k i hk hi a b c. stored-list g U t room k i hk hi ∙ sym (stored-list g T t room k i hk hi) ∙ said _;
         birth = λ b hb x y z. stored-birth g U t room b hb ∙ sym (stored-birth g T t room b hb) ∙ said _;
+        queue = λ i l h a b c. stored-queue g U t room i l h ∙ sym (stored-queue g T t room i l h) ∙ said i;
+        queueBirth = λ b hb x y z. stored-queue-birth g U t room b hb ∙ sym (stored-queue-birth g T t room b hb) ∙ said _;
         wait = λ i l h a b c. waited i l h;
         beyond = λ i h a b c. stored-beyond g U t i h;
       })

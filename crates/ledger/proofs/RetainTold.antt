@@ -59,6 +59,7 @@ retain-kept r k g L T inside fine t n =
       marks = t .marks;
       used = omega (arith, t .used, length-append (L .log) []);
       waiting = t .waiting;
+      queue = t .queue;
       windows = f .windows (L .book) 0 (t .book) (t .windows);
       names = f .sides (L .book) 0 (t .book) (t .names);
     }

@@ -1,8 +1,8 @@
--- S: the ledger's loop takes the records that the window takes, in the same order; so the call is answered as the ledger says.
+-- S: the ledger's loop takes the records that the window takes, in the same order; so what the call leaves is what the ledger keeps, its queue too.
 use mathlib.Core.Path.{_≡_, refl, sym, ap, ap₂, _∙_, subst}
 use mathlib.Core.Bool.{Bool, true, false, cond, not, _&&_, _||_}
 use mathlib.Core.Logic.{inl}
-use mathlib.Core.List.{List, [], _∷_, _++_, map}
+use mathlib.Core.List.{List, [], _∷_, map}
 use Prim.Native.Nat.{ℕ, zero, suc, pred, _+_, _-_, _≤_, _<_}
 use native.Mathlib.Omega.{arith}
 use lib.Dec.{eqb, ltb, leb}
@@ -12,53 +12,47 @@ use Rattle.answer.specs.Refusal.{NoneHolds}
 use Rattle.answer.proofs.Cases.{cases, either, lt?}
 use Rattle.geometry.specs.declared.Geometry.{Geometry}
 use Rattle.geometry.specs.Limits.{Inside}
-use Rattle.log.specs.Word.{released}
 use Rattle.model.specs.Lists.{In, Once, keepIf, onFirst}
 use Rattle.model.specs.Results.{numbersOf}
 use Rattle.model.specs.View.{View}
 use Rattle.model.specs.Effects.{grow, close, seal}
-use Rattle.model.specs.Held.{frees}
-use Rattle.model.specs.Actions.{Action, doS, doD, Asks, done, forked, vacant, slotOf, delete}
-use Rattle.model.specs.State.{State, withUsed, withNotes, WindowsFit}
-use Rattle.model.specs.Window.{steps, freesAlong, older, sealedOf, bare, victims, trimming, sealing, actedAll}
-use Rattle.model.specs.Calls.{slot, noRecord, isForked, isNamed, windowOf, sealedNotes, closes, freedClosing, acted}
+use Rattle.model.specs.Actions.{doS, doD, Asks, done, forked, vacant, slotOf, delete}
+use Rattle.model.specs.State.{State, withView, withNotes, QueueFits, WaitingFits}
+use Rattle.model.specs.Window.{steps, AsksAlong, older, sealedOf, bare, victims, sealing, queueing}
+use Rattle.model.specs.Calls.{closing, refusalsBy, slot, undeletable, windowOf, sealedNotes, closes}
 use Rattle.model.specs.Book.{Rec, Line, Book, inRecs, recSealed, recOut, windowWith, sealedIn}
 use Rattle.model.specs.Book.{namesMoved, sealedWith, anyRec, forkAmong, mayLeave, takenOut, recsOut, trimmed, accept}
-use Rattle.model.specs.Command.{Seal}
+use Rattle.model.specs.Command.{Seal, Delete}
 use Rattle.model.proofs.Agree.{Agree}
 use Rattle.model.proofs.TabFacts.{put-same, put-other}
 use Rattle.model.proofs.DoneSound.{spare, done-sound, miss}
 use Rattle.model.proofs.Sizes.{done-sized}
-use Rattle.model.proofs.BirthStays.{Gives}
-use Rattle.model.proofs.Waiting.{acted-waits}
 use Rattle.model.proofs.BookFacts.{seal-grown, agree-sealed}
 use Rattle.model.proofs.ListFacts.{of-keep}
 use Rattle.model.proofs.WindowLine.{line-short, older-live, older-less}
 use Rattle.model.proofs.WindowDelete.{cut}
 use Rattle.model.proofs.WindowAlong.{head-live, head-free, head-not}
 use Rattle.model.proofs.WindowFacts.{bare-is, loose, sealed-length, victims-are, first, next-loose, next-length, take-none}
-use Rattle.model.proofs.WindowMoves.{acted-none, acted-next}
+use Rattle.model.proofs.WindowMoves.{Giveless}
+use Rattle.model.proofs.Queueing.{queueing-fits, queueing-waits, queueing-none, queueing-quiet, queueing-step}
 use Rattle.model.proofs.WindowSeal.{seal-sealed, seal-num}
 use Rattle.model.proofs.WindowBook.{OpenNext, NamedAlike, OlderNamed, older-named, just-live, book-sealed, book-loose, book-takes, next-open}
 use Rattle.model.proofs.WindowBook.{next-numbers, next-named}
 use Rattle.model.proofs.Windows.{WindowsAgree, fit-done, windows-sealed}
 use Rattle.model.proofs.NameBook.{named-alike}
-use Rattle.model.proofs.NameActions.{NamesFit, NamesTold, names-kept-done, sides-kept-done}
+use Rattle.model.proofs.NameActions.{NamesTold, names-kept-done, sides-kept-done}
 use Rattle.model.proofs.Asked.{Unrefused}
-use Rattle.model.proofs.Fine.{Fine, named-slot}
-use Rattle.model.proofs.Closing.{closing-first, closing-12, seals, closing-book, closing-agrees, closing-windows}
+use Rattle.model.proofs.Fine.{Fine, named-slot, effect-fine}
+use Rattle.model.proofs.Closing.{closing-first, closing-12, seals, closing-asks, closing-giveless, closing-book, closing-agrees, closing-windows}
 use Rattle.ledger.specs.BookReading.{lineIn, isThere, baseAmong, forkOn, sealedOn, windowOn, hasName}
-use Rattle.ledger.specs.Ledger.{Ledger, freedBy, takeOut, mayGo, Trimmed, untrimmed, freedFirst}
-use Rattle.ledger.specs.Ledger.{trimmedTo, afterSeal, closed, afterDelete, account, says, keeps}
+use Rattle.ledger.specs.Ledger.{Ledger, takeOut, mayGo, trimmedTo, afterSeal, closed, afterDelete, account, says, keeps}
 use Rattle.ledger.proofs.Numbers.{numbersIn, Full}
-use Rattle.ledger.proofs.Tells.{Tells, Answered, Keeping, births-told}
+use Rattle.ledger.proofs.Tells.{Tells, Answered, Keeping}
 use Rattle.ledger.proofs.NamesRead.{has-alike}
 use Rattle.ledger.proofs.CallsTold.{there-told}
 use Rattle.ledger.proofs.KillTold.{sealed-told}
 use Rattle.ledger.proofs.OpenTold.{table-told}
-use Rattle.ledger.proofs.RisingFacts.{append-nil}
-use Rattle.ledger.proofs.DeleteTold.{freed-told}
-use Rattle.ledger.proofs.GrowKept.{sealed-once, sealed-full, grown-lists, none-freed}
+use Rattle.ledger.proofs.GrowKept.{sealed-once, sealed-full, grown-lists}
 use Rattle.ledger.proofs.DeleteKept.{taken-told}
 
 -- ── the line, as the ledger reads it ──
@@ -94,24 +88,6 @@ may-leave B m h = ap₂ (λ (p q : Bool). not p && not q) (fork-same m (B .lines
 
 -- ── a state that the deletes meet ──
 
--- an action that gives no block keeps a state fine
-acted-fine : (g : Geometry) (T : State) (a : Action) → Fine g T → Asks (T .view) a →
-    ((c : ℕ) → Gives a c → ⊥) → done (T .view) a .last ≤ 999999 →
-    WindowsFit (done (T .view) a) (T .notes) → NamesFit (done (T .view) a) (T .notes) → Fine g (acted T a 0)
-unfolding acted
-acted-fine g T a R q n l w f =
-    let z = done-sized (T .view) a in
-    record {
-      sound = done-sound (T .view) a (R .sound) q;
-      slots = z .slots ∙ R .slots;
-      pages = z .pages ∙ R .pages;
-      blocks = z .blocks ∙ R .blocks;
-      range = record { last = l; marks = R .range .marks; counter = R .range .counter; writes = R .range .writes; used = omega (arith, R .range .used) };
-      waits = acted-waits T a (R .sound) q (R .waits) (λ c y i. n c y) 0;
-      windows = w;
-      names = f;
-    }
-
 -- a record is found by its number
 slot-of : (g : Geometry) → Inside g → (T : State) → Fine g T → (v : ℕ) → 0 < T .view .num v →
     (eqb (slotOf (T .view) (T .view .num v)) 0 ≡ false) × (slot T (T .view .num v) ≡ v)
@@ -125,18 +101,18 @@ slot-of g inside T R v h =
 -- ── the loop ──
 
 -- what the loop leaves where it takes the records in the slots vs
-record Turned (g : Geometry) (L : Ledger) (T : State) (vs : List ℕ) (E : Trimmed) : Type 0 where
-  freed : E .freed ≡ freesAlong (T .view) (map doD vs)
-  book : E .ledger .book ≡ recsOut (L .book) (map (T .view .num) vs)
-  tells : Tells g (E .ledger) (actedAll T (map doD vs) 0)
+record Turned (g : Geometry) (L : Ledger) (T : State) (vs : List ℕ) (E : Ledger) : Type 0 where
+  book : E .book ≡ recsOut (L .book) (map (T .view .num) vs)
+  asks : AsksAlong (T .view) (map doD vs)
+  tells : Tells g E (queueing T (map doD vs))
 
-none-turned : (g : Geometry) (L : Ledger) (T : State) → Tells g L T → Turned g L T [] (untrimmed L)
-unfolding freesAlong recsOut
-none-turned g L T t = record {
-  freed = refl;
-  book = refl;
-  tells = subst (Tells g L) (sym (acted-none T 0 ∙ ap (withUsed T) (let z : T .used + 0 ≡ T .used = omega arith in z))) t;
-}
+none-turned : (g : Geometry) (L : Ledger) (T : State) → Tells g L T → Turned g L T [] L
+unfolding recsOut
+none-turned g L T t = record { book = refl; asks = tt; tells = subst (Tells g L) (sym (queueing-none T)) t }
+
+deletes-giveless : (vs : List ℕ) → Giveless (map doD vs)
+deletes-giveless [] = tt
+deletes-giveless (v ∷ vs) = (λ c g. g, deletes-giveless vs)
 
 module _ (g : Geometry) (inside : Inside g) where
   -- the loop's tests, of the store
@@ -159,16 +135,16 @@ module _ (g : Geometry) (inside : Inside g) where
         (λ i m. may-leave (L .book) m (t .full) i) ∙
         book-loose (T .view) (R .sound) names (L .book) s (t .book) O N
 
-  loop-ends : (k n r : ℕ) (L : Ledger) → length (sealedOn (L .book) r) ≤ n → trimmedTo g (suc k) L n r ≡ untrimmed L
+  loop-ends : (k n r : ℕ) (L : Ledger) → length (sealedOn (L .book) r) ≤ n → trimmedTo g (suc k) L n r ≡ L
   unfolding trimmedTo
   loop-ends k n r L h = rw (le-ltb n (length (sealedOn (L .book) r)) h)
 
-  loop-stuck : (k n r : ℕ) (L : Ledger) → mayGo (L .book) r ≡ [] → trimmedTo g (suc k) L n r ≡ untrimmed L
+  loop-stuck : (k n r : ℕ) (L : Ledger) → mayGo (L .book) r ≡ [] → trimmedTo g (suc k) L n r ≡ L
   unfolding trimmedTo onFirst
   loop-stuck k n r L e = cases (either (ltb n (length (sealedOn (L .book) r)))) (λ y. rw (y, e)) (λ y. rw y)
 
   loop-turn : (k n r m : ℕ) (c : List ℕ) (L : Ledger) → n < length (sealedOn (L .book) r) → mayGo (L .book) r ≡ m ∷ c →
-      trimmedTo g (suc k) L n r ≡ freedFirst (freedBy g L m) (trimmedTo g k (takeOut g L m) n r)
+      trimmedTo g (suc k) L n r ≡ trimmedTo g k (takeOut g L m) n r
   unfolding trimmedTo onFirst
   loop-turn k n r m c L h e = rw (lt-ltb n (length (sealedOn (L .book) r)) h, e)
 
@@ -180,7 +156,7 @@ module _ (g : Geometry) (inside : Inside g) where
     turn-slot : slot T m ≡ v
     turn-slot = slot-of g inside T R v (q .0) .1
 
-    turn-none : NoneHolds (noRecord T m ∷ isForked T m ∷ isNamed T m ∷ [])
+    turn-none : NoneHolds (undeletable T m)
     turn-none = (
       slot-of g inside T R v (q .0) .0,
       (
@@ -189,16 +165,11 @@ module _ (g : Geometry) (inside : Inside g) where
       ),
     )
 
-    turn-tells : Tells g (takeOut g L m) (acted T (doD v) 0)
-    turn-tells = subst (λ u. Tells g (takeOut g L m) (acted T (doD u) 0)) turn-slot (taken-told g L T inside R t m turn-none)
+    turn-tells : Tells g (takeOut g L m) (queueing T (doD v ∷ []))
+    turn-tells = subst (λ u. Tells g (takeOut g L m) (queueing T (doD u ∷ []))) turn-slot (taken-told g L T inside R t m turn-none)
 
-    turn-fine : Fine g (acted T (doD v) 0)
-    unfolding delete
-    turn-fine = acted-fine g T (doD v) R q (λ c y. y) (omega (arith, cut (T .view) (R .sound) v (q .0) (q .1) .last, R .range .last))
-        (fit-done (T .view) (doD v) (T .notes) (R .sound) q (R .windows)) (names-kept-done (T .view) (doD v) (T .notes) (R .sound) q bare (R .names))
-
-    turn-freed : freedBy g L m ≡ frees (T .view) (doD v)
-    turn-freed = freed-told g L T inside R t m (turn-none .0) ∙ ap (λ u. frees (T .view) (doD u)) turn-slot
+    turn-fine : Fine g (queueing T (doD v ∷ []))
+    turn-fine = subst (λ u. Fine g (queueing T (doD u ∷ []))) turn-slot (effect-fine g inside T R (Delete m) turn-none)
 
   -- the first that may go has no name, by the counts `names` that the window reads: so it has none by those of the store
   turn-bare : (names : ℕ → ℕ) (s v : ℕ) (c : List ℕ) (L : Ledger) (T : State) → Fine g T → Tells g L T → OpenNext (T .view) s →
@@ -216,7 +187,7 @@ module _ (g : Geometry) (inside : Inside g) where
   turns : (names : ℕ → ℕ) (n s : ℕ) (c : List ℕ) (k : ℕ) (L : Ledger) (T : State) → Fine g T → Tells g L T → OpenNext (T .view) s →
       OlderNamed (T .view) names s (L .book) → loose (T .view) names s ≡ c →
       length (sealedOf (T .view) s) ≤ k → Turned g L T (take (length (sealedOf (T .view) s) - n) c) (trimmedTo g k L n (T .view .num s))
-  unfolding acted freesAlong recsOut
+  unfolding queueing steps recsOut
   turns names n s c zero L T R t O N e h = absurd (let z : ⊥ = omega (arith, sealed-length (T .view) s) in z)
   turns names n s [] (suc k) L T R t O N e h =
       subst (λ vs. Turned g L T vs (trimmedTo g (suc k) L n (T .view .num s))) (sym (take-none (length (sealedOf (T .view) s) - n)))
@@ -234,7 +205,7 @@ module _ (g : Geometry) (inside : Inside g) where
       let G = cut K S v (q .0) (q .1) in
       let d : length (sealedOf K s) - n ≡ suc (length (sealedOf (delete K v) s) - n) = omega (arith, next-length K names s v c S hs e) in
       let vs : List ℕ = take (length (sealedOf (delete K v) s) - n) c in
-      let T′ : State = acted T (doD v) 0 in
+      let T′ : State = queueing T (doD v ∷ []) in
       let L′ : Ledger = takeOut g L (K .num v) in
       let ih : Turned g L′ T′ vs (trimmedTo g k L′ n (K .num s)) =
       subst (λ r. Turned g L′ T′ vs (trimmedTo g k L′ n r)) (G .num s (head-not K s v [] M))
@@ -245,9 +216,10 @@ module _ (g : Geometry) (inside : Inside g) where
       (subst (Turned g L T (v ∷ vs))
       (sym (loop-turn k n (K .num s) (K .num v) (map (K .num) c) L (omega arith) (may-go L T R t s O names N ∙ ap (map (K .num)) e)))
       (record {
-        freed = ap₂ {C = List ℕ} (λ (a b : List ℕ). a ++ b) (turn-freed L T R t v q none) (ih .freed);
         book = ih .book ∙ ap (recsOut (recOut (L .book) (K .num v))) (next-numbers K names s v c S hs e (length (sealedOf (delete K v) s) - n));
-        tells = subst (Tells g (trimmedTo g k L′ n (K .num s) .ledger)) (sym (acted-next T (doD v) (map doD vs) 0 0)) (ih .tells);
+        asks = (q, ih .asks);
+        tells = subst (Tells g (trimmedTo g k L′ n (K .num s)))
+            (sym (queueing-step T (doD v) (map doD vs) S (q, ih .asks) (λ c y. y, deletes-giveless vs))) (ih .tells);
       })))
       (λ l.
       let d : length (sealedOf K s) - n ≡ 0 = omega arith in
@@ -262,7 +234,7 @@ module _ (g : Geometry) (inside : Inside g) where
 
     -- the store after the seal
     abbrev sealedState : State
-    sealedState = withNotes (acted T (doS (slot T r)) 0) (sealedNotes T r)
+    sealedState = withNotes (withView T (done (T .view) (doS (slot T r)))) (sealedNotes T r)
 
     pub asks : Asks (T .view) (doS (slot T r))
     asks = seals g inside T R r n
@@ -270,12 +242,17 @@ module _ (g : Geometry) (inside : Inside g) where
     pub named : T .view .num (slot T r) ≡ r
     named = named-slot g inside T R r (n .eight) .1
 
-    pub sealed-fine : leb 999999 (T .view .last) ≡ false → Fine g (withNotes (acted T (doS (slot T r)) 0) (sealedNotes T r))
-    unfolding acted seal grow close
+    -- the seal queues nothing
+    quiet : queueing T (doS (slot T r) ∷ []) ≡ withView T (done (T .view) (doS (slot T r)))
+    quiet = queueing-quiet T (doS (slot T r)) refl
+
+    pub sealed-fine : leb 999999 (T .view .last) ≡ false → Fine g (withNotes (withView T (done (T .view) (doS (slot T r)))) (sealedNotes T r))
+    unfolding seal grow close
     sealed-fine h =
         let K = T .view in
         let z = done-sized K (doS (slot T r)) in
-        let w = acted-waits T (doS (slot T r)) (R .sound) asks (R .waits) (λ c y i. y) 0 in
+        let q = subst QueueFits quiet (queueing-fits T (doS (slot T r) ∷ []) (R .sound) (asks, tt) (λ c y. y, tt) (R .queue)) in
+        let w = subst WaitingFits quiet (queueing-waits T (doS (slot T r) ∷ []) (R .sound) (asks, tt) (λ c y. y, tt) (R .waits)) in
         record {
           sound = done-sound K (doS (slot T r)) (R .sound) asks;
           slots = z .slots ∙ R .slots;
@@ -286,9 +263,10 @@ module _ (g : Geometry) (inside : Inside g) where
             marks = R .range .marks;
             counter = R .range .counter;
             writes = R .range .writes;
-            used = omega (arith, R .range .used);
+            used = R .range .used;
           };
-          waits = record { below = w .below; unborn = w .unborn; once = w .once };
+          queue = record { below = q .below; once = q .once; births = q .births; given = q .given; unborn = q .unborn };
+          waits = record { below = w .below; unborn = w .unborn; unqueued = w .unqueued; once = w .once };
           windows = fit-done K (doS (slot T r)) (T .notes) (R .sound) asks (R .windows);
           names = names-kept-done K (doS (slot T r)) (T .notes) (R .sound) asks tt (R .names);
         }
@@ -300,8 +278,8 @@ module _ (g : Geometry) (inside : Inside g) where
         subst (λ (m : ℕ). NamesTold (done (T .view) (doS (slot T r))) (sealedNotes T r) (namesMoved (L .book .names) m (L .book .last + 1))) named
         (sides-kept-done (T .view) (doS (slot T r)) (T .notes) (L .book) (R .sound) asks tt (t .book) (t .names))
 
-    pub sealed-tells : Tells g (afterSeal L r) (withNotes (acted T (doS (slot T r)) 0) (sealedNotes T r))
-    unfolding acted seal grow close
+    pub sealed-tells : Tells g (afterSeal L r) (withNotes (withView T (done (T .view) (doS (slot T r)))) (sealedNotes T r))
+    unfolding seal grow close
     sealed-tells =
         let K = T .view in
         let f : ℕ = pred (vacant K) in
@@ -316,8 +294,9 @@ module _ (g : Geometry) (inside : Inside g) where
           counter = t .counter;
           turn = t .turn;
           marks = t .marks;
-          used = omega (arith, t .used);
-          waiting = none-freed g L T R t;
+          used = t .used;
+          waiting = t .waiting;
+          queue = t .queue;
           windows = subst (λ (m : ℕ). WindowsAgree (done K (doS (slot T r))) (sealedNotes T r) (recSealed (L .book) m)) named
               (windows-sealed K (slot T r) f (T .notes) (L .book) (R .sound) (asks .0) (asks .1) (spare K (asks .2) .1) (t .book) (t .windows));
           names = sealed-names;
@@ -345,19 +324,19 @@ module _ (g : Geometry) (inside : Inside g) where
         (older-named (T .view) (T .notes .names) (L .book) (slot T r) (R .sound) asks (t .book) alike)
 
     closed-turned : leb 999999 (T .view .last) ≡ false →
-        Turned g (afterSeal L r) (withNotes (acted T (doS (slot T r)) 0) (sealedNotes T r))
+        Turned g (afterSeal L r) (withNotes (withView T (done (T .view) (doS (slot T r)))) (sealedNotes T r))
         (victims (done (T .view) (doS (slot T r))) (T .notes .names) (windowOf T r) (slot T r)) (closed g L r)
-    unfolding closed acted victims
+    unfolding closed victims
     closed-turned h =
         subst (λ w. Turned g (afterSeal L r) sealedState (victims K′ (T .notes .names) (windowOf T r) (slot T r))
-        (cond (eqb w 0) (untrimmed (afterSeal L r)) (trimmedTo g (g .records) (afterSeal L r) w r))) (sym window-told)
+        (cond (eqb w 0) (afterSeal L r) (trimmedTo g (g .records) (afterSeal L r) w r))) (sym window-told)
         (go (windowOf T r))
       where
         K′ : View
         K′ = done (T .view) (doS (slot T r))
 
         go : (w : ℕ) → Turned g (afterSeal L r) sealedState (victims (done (T .view) (doS (slot T r))) (T .notes .names) w (slot T r))
-            (cond (eqb w 0) (untrimmed (afterSeal L r)) (trimmedTo g (g .records) (afterSeal L r) w r))
+            (cond (eqb w 0) (afterSeal L r) (trimmedTo g (g .records) (afterSeal L r) w r))
         go zero = none-turned g (afterSeal L r) sealedState sealed-tells
         go (suc w) =
             let F = sealed-fine h in
@@ -373,14 +352,9 @@ module _ (g : Geometry) (inside : Inside g) where
             sealedState F sealed-tells next older-alike refl
             (omega (arith, line-short (done (T .view) (doS (slot T r))) (F .sound) (slot T r) live, F .slots)))))
 
-    -- THE BLOCKS FREED, one delete after another
-    pub closed-freed : leb 999999 (T .view .last) ≡ false → closed g L r .freed ≡ freedClosing T r
-    unfolding acted sealing freesAlong
-    closed-freed h = closed-turned h .freed
-
     -- THE LOOP TAKES OUT WHAT THE BOOK'S OWN STEP TAKES OUT, in the same order
-    pub closed-book : leb 999999 (T .view .last) ≡ false → (b : ℕ) → closed g L r .ledger .book ≡ accept (g .pages) (L .book) (Seal r) b
-    unfolding acted trimmed
+    pub closed-book : leb 999999 (T .view .last) ≡ false → (b : ℕ) → closed g L r .book ≡ accept (g .pages) (L .book) (Seal r) b
+    unfolding trimmed
     closed-book h b =
         let K = T .view in
         let L′ : View = done K (doS (slot T r)) in
@@ -393,7 +367,7 @@ module _ (g : Geometry) (inside : Inside g) where
         closing-book g inside T R r n (L .book) (g .pages) b (t .book) (t .windows)
 
 -- the loop leaves the log
-loop-log : (g : Geometry) (k n r : ℕ) (L : Ledger) → trimmedTo g k L n r .ledger .log ≡ L .log
+loop-log : (g : Geometry) (k n r : ℕ) (L : Ledger) → trimmedTo g k L n r .log ≡ L .log
 unfolding trimmedTo afterDelete onFirst
 loop-log g zero n r L = refl
 loop-log g (suc k) n r L =
@@ -401,12 +375,12 @@ loop-log g (suc k) n r L =
     (λ y. rw y (one (λ m. loop-log g k n r (takeOut g L m)) (mayGo (L .book) r)))
     (λ y. rw y)
   where
-    one : ((m : ℕ) → trimmedTo g k (takeOut g L m) n r .ledger .log ≡ L .log) → (l : List ℕ) →
-        onFirst l (untrimmed L) (λ m. freedFirst (freedBy g L m) (trimmedTo g k (takeOut g L m) n r)) .ledger .log ≡ L .log
+    one : ((m : ℕ) → trimmedTo g k (takeOut g L m) n r .log ≡ L .log) → (l : List ℕ) →
+        onFirst l L (λ m. trimmedTo g k (takeOut g L m) n r) .log ≡ L .log
     one h [] = refl
     one h (m ∷ l) = h m
 
-keeps-log : (g : Geometry) (L : Ledger) (r : ℕ) → closed g L r .ledger .log ≡ L .log
+keeps-log : (g : Geometry) (L : Ledger) (r : ℕ) → closed g L r .log ≡ L .log
 unfolding closed
 keeps-log g L r = cases (either (eqb (windowOn (L .book) r) 0)) (λ y. rw y) (λ y. rw y (loop-log g (g .records) (windowOn (L .book) r) r (afterSeal L r)))
 
@@ -417,27 +391,32 @@ closed-log r g L = keeps-log g L r
 pub seal-answered : (r : ℕ) → Answered (Seal r)
 unfolding says account numbersOf
 seal-answered r g L T inside fine t =
+    let none : ltb (g .words - length (closed g L r .log)) 0 ≡ false = le-ltb (g .words - length (closed g L r .log)) 0 (omega arith) in
     let there : not (isThere (L .book) r) ≡ eqb (slotOf (T .view) r) 0 = there-told (T .view) (L .book) r (fine .sound) (t .book) in
-    let used : leb 999999 (L .book .last) ≡ leb 999999 (T .view .last) = ap (leb 999999) (t .book .last) in
-    rw (there, table-told g L T fine t, used)
+    rw (none, there, table-told g L T fine t)
     (cases (either (eqb (slotOf (T .view) r) 0)) (λ y. rw y)
-    (λ a. rw (a, sealed-told g L T inside fine t r a)
-    (cases (either (eqb (T .view .isOpen (slot T r)) 0)) (λ y. rw y)
-    (λ b. rw b (cases (either (eqb (vacant (T .view)) 0)) (λ y. rw y)
-    (λ c. rw c (cases (either (leb 999999 (T .view .last))) (λ y. rw y)
-    (λ d.
-    let freed = closed-freed g inside L T fine t r (record { eight = a; nine = b; eleven = c }) d in
-    rw (d, keeps-log g L r, freed, births-told g L T t (freedClosing T r), t .used, t .book .last)))))))))
+    (λ a. rw (a, sealed-told g L T inside fine t r a, t .book .last)))
+
+-- what the seal and the window's deletes leave, all at once and one after another
+pub closed-tells : (g : Geometry) (L : Ledger) (T : State) → Inside g → Fine g T → Tells g L T → (r : ℕ) → NoneHolds (refusalsBy g T (closing r)) →
+    Tells g (closed g L r) (withNotes (queueing T (closes T r)) (sealedNotes T r))
+unfolding queueing sealing
+closed-tells g L T inside fine t r n =
+    let m = closing-first g T r n in
+    let w = closed-turned g inside L T fine t r m (closing-12 g T r n) in
+    let K′ : View = done (T .view) (doS (slot T r)) in
+    let vs : List ℕ = victims K′ (T .notes .names) (windowOf T r) (slot T r) in
+    let one : queueing T (closes T r) ≡ queueing (withView T K′) (map doD vs) =
+    queueing-step T (doS (slot T r)) (map doD vs) (fine .sound) (closing-asks g inside T fine r m) (closing-giveless g inside T fine r m) ∙
+    ap (λ (U : State). queueing U (map doD vs)) (quiet g inside L T fine t r m) in
+    subst (λ (U : State). Tells g (closed g L r) (withNotes U (sealedNotes T r))) (sym one) (w .tells)
 
 pub seal-kept : (r : ℕ) → Keeping (Seal r)
-unfolding keeps account actedAll acted sealing steps freesAlong
+unfolding keeps account queueing
 seal-kept r g L T inside fine t n =
     let m = closing-first g T r n in
-    let h = closing-12 g T r n in
-    let w = closed-turned g inside L T fine t r m h .tells in
-    let f = closed-freed g inside L T fine t r m h in
-    let e = closed-book g inside L T fine t r m h 0 in
-    let K′ : View = done (T .view) (doS (slot T r)) in
+    let w = closed-tells g L T inside fine t r n in
+    let e = closed-book g inside L T fine t r m (closing-12 g T r n) 0 in
     record {
       book = closing-agrees g inside T fine r m (L .book) (g .pages) 0 (t .book) (t .windows) (alike g inside L T fine t r m);
       once = subst (λ (B : Book). Once (numbersIn (B .lines))) e (w .once);
@@ -447,14 +426,9 @@ seal-kept r g L T inside fine t n =
       counter = w .counter;
       turn = w .turn;
       marks = w .marks;
-      used = omega (
-        arith,
-        w .used,
-        length-append (closed g L r .ledger .log) (map released (closed g L r .freed)),
-        ap (λ (l : List ℕ). length (map released l)) f,
-      );
-      waiting = w .waiting ∙
-          ap {B = List ℕ} (λ (l : List ℕ). l ++ freesAlong K′ (trimming K′ (T .notes .names) (windowOf T r) (slot T r))) (append-nil (T .waiting));
+      used = omega (arith, w .used, length-append (closed g L r .log) []);
+      waiting = w .waiting;
+      queue = w .queue;
       windows = closing-windows g inside T fine r m (L .book) (g .pages) 0 (t .book) (t .windows) (alike g inside L T fine t r m);
       names = subst (λ (B : Book). NamesTold (steps (T .view) (closes T r)) (sealedNotes T r) (B .names)) e (w .names);
     }

@@ -1,5 +1,6 @@
 -- A USE FOR EACH PART OF `every-sound-told` AND `every-tables-told`, on the second memory of `Unreached`: what is answered there, and what is left.
--- Record 3 is sealed, 5 follows it, 7 is a fork on it and 8 is empty; the table is full; there are two arenas, and block 0 waits. 3 has the name b, and 8 a.
+-- Record 3 is sealed, 5 follows it, 7 is a fork on it and 8 is empty; the table is full; there are two arenas, block 4 is queued and block 0 waits. 3 has the
+-- name b, and 8 a.
 use mathlib.Core.Path.{_≡_, refl, sym, ap, _∙_, subst}
 use mathlib.Core.Bool.{true, false, or-true, true≢false}
 use mathlib.Core.List.{List, [], _∷_, _++_, flatMap}
@@ -23,21 +24,22 @@ use Rattle.model.specs.Results.{numbersOf}
 use Rattle.model.specs.Names.{sameName}
 use Rattle.model.specs.Book.{Line, NameOn, Book, inRecs, inLines}
 use Rattle.model.specs.NameBook.{HasName}
-use Rattle.model.specs.Layout.{field, numbers, viewOf, titlesOf, notesOf, stateOf}
+use Rattle.model.specs.Layout.{field, numbers, viewOf, titlesOf, notesOf, queueOf, stateOf}
 use Rattle.model.specs.Memory.{Memory, usedLog, allConditions, reply, after}
 use Rattle.model.specs.SoundStore.{SoundStore}
 use Rattle.model.specs.Demand.{Request, metBy, Own, withOut, run}
 use Rattle.model.specs.Command.{Command}
-use Rattle.model.specs.Command.{Begin, Write, Erase, Delete, Read, Attach}
+use Rattle.model.specs.Command.{Begin, Write, Erase, Delete, Read, Reclaim, Attach}
 use Rattle.model.proofs.NameBytes.{same-not}
 use Rattle.model.proofs.NameBook.{named-in}
 use Rattle.ledger.specs.BookReading.{lineIn, isThere, pageBlock, baseOf, baseAmong, carriersAmong, carriers, hasName}
 use Rattle.ledger.specs.Ledger.{Ledger, rising, among, change, without, isHeld, isFree, withBirths, arena, young, joins, afterKill, afterGiving}
-use Rattle.ledger.specs.Ledger.{isName, arenasFrom, fromMark, candidates, picked, account, refusalsOf, says, keeps}
+use Rattle.ledger.specs.Ledger.{isName, blocksOf, afterTurn, arenasFrom, fromMark, candidates, picked, account, refusalsOf, says, keeps}
 use Rattle.ledger.specs.Told.{SameBlocks, outAfter, saysTo, stepTo, stepsTo, logTo, logAlong}
 use Rattle.ledger.specs.SoundTold.{SameRecord, SameRecords, SameStore, SoundTold, TablesTold}
 use Rattle.ledger.proofs.NamesRead.{has-alike}
 use Rattle.ledger.proofs.LogMeaning.{is-bytes}
+use Rattle.ledger.proofs.QueuePairs.{entry-blocks}
 use Rattle.ledger.proofs.OwnToldProof.{roomy-says}
 use Rattle.ledger.proofs.SoundTold.{every-sound-told, every-tables-told}
 use Rattle.ledger.proofs.Uses.{placed}
@@ -181,17 +183,22 @@ module _ (L : Ledger) (same : SameStore forked L (stateOf forked forked-tables))
     rw (its .deadlists 2 (omega arith), rec-7 .pages 1, rec-7 .base, rec-7 .pred, born .2),
   )
 
-  -- blocks 2, 3, 4 and 7 are free: 1, 5 and 6 are held, and 0 waits
-  free-are : keepIf (isFree L) (rising 0 8) ≡ 2 ∷ 3 ∷ 4 ∷ 7 ∷ []
+  -- `queue`: block 4 is queued, with birth 4
+  queue-is : L .queue ≡ (4, 4) ∷ []
+  unfolding stateOf queueOf field numbers
+  queue-is = its .queue
+
+  -- blocks 2, 3 and 7 are free: 1, 5 and 6 are on pages, 4 is queued, and 0 waits
+  free-are : keepIf (isFree L) (rising 0 8) ≡ 2 ∷ 3 ∷ 7 ∷ []
   unfolding keepIf rising isFree isHeld among stateOf viewOf field numbers
   free-are =
       let b = its .births in
-      rw (b 0, b 1, b 2, b 3, b 4, b 5, b 6, b 7, its .waiting)
+      rw (b 0, b 1, b 2, b 3, b 4, b 5, b 6, b 7, queue-is, its .waiting)
 
   -- `counter`, `marks`: the counter is 1, so kind 0 is arena 1, and kind 1 arena 0; each mark stands at its arena's last block
   free : (isFree L 7 ≡ true) × (isFree L 3 ≡ true)
   unfolding isFree isHeld among stateOf viewOf field numbers
-  free = (rw (its .births 7, its .waiting), rw (its .births 3, its .waiting))
+  free = (rw (its .births 7, queue-is, its .waiting), rw (its .births 3, queue-is, its .waiting))
 
   picked-7 : picked forked L 0 ≡ 7
   unfolding picked candidates arenasFrom keepIf rising flatMap stateOf viewOf field
@@ -222,7 +229,7 @@ module _ (L : Ledger) (same : SameStore forked L (stateOf forked forked-tables))
 
   free-then : isFree then 3 ≡ true
   unfolding isFree isHeld among without change keeps account afterGiving afterKill keepIf pageBlock stateOf viewOf field numbers
-  free-then = rw (picked-7, rec-8 .pages 0, its .births 3, its .waiting)
+  free-then = rw (picked-7, rec-8 .pages 0, its .births 3, queue-is, its .waiting)
 
   writes-then : then .writes ≡ suc (L .writes)
   unfolding keeps account afterGiving afterKill
@@ -234,8 +241,17 @@ module _ (L : Ledger) (same : SameStore forked L (stateOf forked forked-tables))
       let first : (then .writes / 3 + 0) % 2 ≡ 0 = omega (arith, writes-then, same .choice .counter, same .choice .writes) in
       rw (first, mark-then, same .choice .marks 0 (omega arith), free-then)
 
-  -- `used`: its word is the fourth
-  placed-then : (log : List ℕ) → placed forked L (Write 8 0 0) log ≡ writeAt log 24 (bytesOf (0x1_c001 ∷ []))
+  -- T 64 frees block 4, which waits after block 0; nothing is queued any more
+  says-T : says forked L (Reclaim 64) ≡ accepted (4 ∷ 4 ∷ [])
+  unfolding says account numbersOf afterTurn stateOf
+  says-T = rw (queue-is, same .used)
+
+  frees-4 : (keeps forked L (Reclaim 64) .queue ≡ []) × (keeps forked L (Reclaim 64) .waiting ≡ 0 ∷ 4 ∷ [])
+  unfolding keeps account afterTurn stateOf numbers
+  frees-4 = (rw queue-is, rw (queue-is, its .waiting))
+
+  -- `used`: its word is the fifth
+  placed-then : (log : List ℕ) → placed forked L (Write 8 0 0) log ≡ writeAt log 32 (bytesOf (0x1_c001 ∷ []))
   unfolding account afterGiving afterKill keepIf pageBlock stateOf viewOf field
   placed-then log = rw (same .used, rec-8 .pages 0, picked-7)
 
@@ -327,6 +343,22 @@ module _ (out : List ℕ) (long : 80 ≤ length out) where
         sym (left .births 1) ∙ ap (λ (K : Ledger). K .birth 1) same ∙ birth,
       )
 
+  -- `queue`: T 64 gives block 4 with its birth; it waits after block 0, and nothing is queued any more
+  pub T-frees : (reply forked (withOut N out) (Reclaim 64) ≡ accepted (4 ∷ 4 ∷ [])) ×
+      (stateOf forked (run forked N (asks (Reclaim 64) ∷ []) .tables) .waiting ≡ 0 ∷ 4 ∷ []) ×
+      (stateOf forked (run forked N (asks (Reclaim 64) ∷ []) .tables) .queue .list ≡ [])
+  T-frees =
+      let e = says-T L (told-there .same) now in
+      let (queue, waiting) = frees-4 L (told-there .same) now in
+      let left = told-there .told (asks (Reclaim 64) ∷ []) .blocks in
+      let Q = stateOf forked (run forked N (asks (Reclaim 64) ∷ []) .tables) .queue in
+      let same = is-kept (Reclaim 64) (4 ∷ 4 ∷ []) e in (
+        is-said (Reclaim 64) (accepted (4 ∷ 4 ∷ [])) e,
+        sym (left .waiting) ∙ ap (λ (K : Ledger). K .waiting) same ∙ waiting,
+        sym (entry-blocks (Q .birth) (Q .list)) ∙
+            ap (λ (q : List (ℕ × ℕ)). blocksOf q) (sym (left .queue) ∙ ap (λ (K : Ledger). K .queue) same ∙ queue),
+      )
+
   -- `base`, `pred`, `deadlists`: after E 5 0 block 5 stands on the deadlist of record 5, after block 6
   pub E-joins : (s : ℕ) → let K = stateOf forked (run forked N (asks (Erase 5 0) ∷ []) .tables) .view in K .num s ≡ 5 → K .list s ≡ 6 ∷ 5 ∷ []
   E-joins s e =
@@ -362,8 +394,8 @@ module _ (out : List ℕ) (long : 80 ≤ length out) where
       ap (λ (M : Ledger). picked forked M 0) (is-kept (Write 8 0 0) (7 ∷ 8 ∷ []) (says-W L (told-there .same) now .0)) ∙
       picked-then L (told-there .same) now
 
-  -- `log`, `used`: its word stands after the three that are used, and every other byte is as it was
-  pub W-logs : (run forked N W .log ≡ writeAt forked-log 24 (bytesOf (0x1_c001 ∷ []))) ×
+  -- `log`, `used`: its word stands after the four that are used, and every other byte is as it was
+  pub W-logs : (run forked N W .log ≡ writeAt forked-log 32 (bytesOf (0x1_c001 ∷ []))) ×
       (usedLog (stateOf forked (run forked N W .tables)) (run forked N W .log) ≡ forked-words ++ bytesOf (0x1_c001 ∷ []))
   unfolding logAlong logTo stepsTo stateOf
   W-logs =
@@ -393,8 +425,8 @@ module _ (i : Request) (c : i .call ≡ Write 8 0 0) (n : NoneBefore 5 (allCondi
   pub lent-W-gives : reply forked (metBy forked-tables i) (i .call) ≡ accepted (7 ∷ 8 ∷ [])
   lent-W-gives = lent-there .told .told .says [] i n ∙ ap (says forked lent-ledger) c ∙ says-W lent-ledger (lent-there .same) lent-now .0
 
-  -- its word is the fourth of that log, and of the buffer two numbers are changed
-  pub lent-W-leaves : (after forked (metBy forked-tables i) (i .call) .log ≡ writeAt (i .log) 24 (bytesOf (0x1_c001 ∷ []))) ×
+  -- its word is the fifth of that log, and of the buffer two numbers are changed
+  pub lent-W-leaves : (after forked (metBy forked-tables i) (i .call) .log ≡ writeAt (i .log) 32 (bytesOf (0x1_c001 ∷ []))) ×
       (after forked (metBy forked-tables i) (i .call) .out ≡ 7 ∷ 8 ∷ drop 2 (i .out))
   unfolding outAfter
   lent-W-leaves = (

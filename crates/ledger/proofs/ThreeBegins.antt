@@ -1,14 +1,14 @@
 -- WHERE 3 BEGINS, to the byte: "tables or the store's own log space shorter than the geometry needs, or a result buffer under 2 × N + 64 numbers" (7.1).
 -- For every geometry inside the limits and every memory that is long enough elsewhere: one number or byte less is refused with 3, the exact length is not.
 use mathlib.Core.Path.{_≡_, refl}
-use mathlib.Core.Bool.{Bool, true, false, cond, _||_}
+use mathlib.Core.Bool.{Bool, true, false, _||_}
 use mathlib.Core.List.{List, [], _∷_}
 use Prim.Native.Nat.{ℕ, suc, _+_, _*_, _≤_, _<_}
 use native.Mathlib.Omega.{arith}
 use lib.Dec.{ltb}
 use lib.ListN.{length}
 use borrow.Author.Tests.{lt-ltb, le-ltb}
-use Rattle.answer.specs.Reply.{Reply, accepted, refused}
+use Rattle.answer.specs.Reply.{accepted, refused}
 use Rattle.geometry.specs.declared.Geometry.{Geometry}
 use Rattle.geometry.specs.Limits.{Inside, blocks}
 use Rattle.geometry.proofs.Made.{inside-fits}

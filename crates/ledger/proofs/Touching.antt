@@ -16,8 +16,8 @@ use Rattle.geometry.specs.declared.Geometry.{Geometry}
 use Rattle.log.specs.Word.{writeAt, bytesOf}
 use Rattle.log.proofs.Writing.{write-none}
 use Rattle.model.specs.State.{State, Notes, withUsed, withNotes, synced}
-use Rattle.model.specs.Calls.{Account, looking, opening, freeing, closing, placing, marking, renewing, account, renews, wordsBy, leftBy, resultBy, result}
-use Rattle.model.specs.Calls.{written, effect, logged}
+use Rattle.model.specs.Calls.{Account, looking, opening, freeing, closing, removing, reclaiming, placing, marking, renewing, account, renews, wordsBy, leftBy}
+use Rattle.model.specs.Calls.{resultBy, result, written, effect, logged}
 use Rattle.model.specs.Held.{waits, available}
 use Rattle.model.specs.Names.{Titles}
 use Rattle.model.specs.Layout.{need, stateOf, stored, headerNumber, titleNumber, noteNumber, freeWord}
@@ -26,7 +26,7 @@ use Rattle.model.specs.Command.{Command}
 use Rattle.model.proofs.Fine.{effect-fine}
 use Rattle.model.proofs.Keeps.{accepted-is, sound-fine}
 use Rattle.model.proofs.LayoutFacts.{by-address, stored-length, stored-header, stored-column, stored-spare, stored-page, stored-list, stored-birth}
-use Rattle.model.proofs.LayoutFacts.{stored-wait, stored-beyond}
+use Rattle.model.proofs.LayoutFacts.{stored-queue, stored-queue-birth, stored-wait, stored-beyond}
 use Rattle.model.proofs.Midway.{midway-length, by-length, by-beyond}
 use Rattle.model.proofs.Restored.{stored-state}
 use Rattle.model.proofs.ResultSize.{accepted-short}
@@ -112,6 +112,8 @@ module _ (g : Geometry) (M : Memory) (c : Command) (l : List ℕ) (e : reply g M
         page = λ k x hk hx o. stored-page g U t room k x hk hx ∙ sym (stored-page g T t room k x hk hx) ∙ said _;
         list = λ k i hk hi o. stored-list g U t room k i hk hi ∙ sym (stored-list g T t room k i hk hi) ∙ said _;
         birth = λ b hb o. stored-birth g U t room b hb ∙ sym (stored-birth g T t room b hb) ∙ said _;
+        queue = λ i a b o. stored-queue g U t room i a b ∙ sym (stored-queue g T t room i a b) ∙ said i;
+        queueBirth = λ b hb o. stored-queue-birth g U t room b hb ∙ sym (stored-queue-birth g T t room b hb) ∙ said _;
         wait = λ i a b o. stored-wait g U t room i a b ∙ sym (stored-wait g T t room i a b) ∙ said i;
         beyond = λ i a o. stored-beyond g U t i a;
       }))
@@ -179,7 +181,9 @@ by-kind g M c (looking s cs res note) l d e = (
 )
 by-kind g M c (opening cs a) l d e = write-none (M .log) _
 by-kind g M c (freeing cs a) l d e = subst (WordsIn g M) d (words g M c l e)
-by-kind g M c (closing r) l d e = subst (WordsIn g M) d (words g M c l e)
+by-kind g M c (closing r) l d e = write-none (M .log) _
+by-kind g M c (removing r) l d e = write-none (M .log) _
+by-kind g M c (reclaiming k) l d e = subst (WordsIn g M) d (words g M c l e)
 by-kind g M c (placing r x k) l d e = subst (WordsIn g M) d (words g M c l e)
 by-kind g M c marking l d e = (
   subst (WordsIn g M) d (words g M c l e),

@@ -13,24 +13,24 @@ use Rattle.log.specs.Marks.{markRun, heldIn}
 use Rattle.log.specs.Read.{byCode, firstWord, byProgress, readLog, free, ended}
 use Rattle.log.specs.Tool.{readable, marksOf}
 use Rattle.model.specs.Table.{put, via, firstLink, all}
-use Rattle.model.specs.Held.{held, waits, available, tally}
+use Rattle.model.specs.Held.{onPages, queued, held, waits, available, tally}
 use Rattle.model.specs.Lists.{elem, below?, rows, onPage}
 use Rattle.model.specs.Check.{imp, once?, takes?, prev?, base?, two?, linked?, like?, fits?, page?}
 use Rattle.model.specs.Check.{ownAt, owns, allOwn, goneAt, gone, list?, slot?, empty?, good?}
 use Rattle.model.specs.Names.{letters, validName, sameName}
 use Rattle.model.specs.NamesAgree.{owned}
-use Rattle.model.specs.Layout.{freeWord, field, numbers, viewOf, titlesOf, notesOf, stateOf}
-use Rattle.model.specs.Memory.{numbers?, range?, logHolds?, waiting?, windows?, otherName?, row?, count?, names?, free?, sound?}
+use Rattle.model.specs.Layout.{freeWord, field, numbers, viewOf, titlesOf, notesOf, queueOf, stateOf}
+use Rattle.model.specs.Memory.{numbers?, range?, logHolds?, queue?, waiting?, windows?, otherName?, row?, count?, names?, free?, sound?}
 use Rattle.model.specs.SoundStore.{SoundStore}
 use Rattle.model.proofs.SoundTest.{sound-iff}
 use Rattle.ledger.proofs.PaperTable.{small}
 
 -- the test, open
 unfoldable tested : Geometry → List ℕ → List ℕ → Bool
-unfolding wordOf words heldIn readLog firstWord byCode byProgress free ended readable marksOf markRun all held waits available elem below? rows onPage imp
-    once? takes? prev? base? two? linked? like? fits? page? ownAt owns allOwn goneAt gone list? slot? empty? good? freeWord field numbers viewOf stateOf
-    numbers? range? logHolds? waiting? windows? free? sound? put via firstLink Rattle.model.specs.Check.marksOf tally letters validName sameName owned titlesOf
-    notesOf otherName? row? count? names?
+unfolding wordOf words heldIn readLog firstWord byCode byProgress free ended readable marksOf markRun all onPages queued held waits available elem below?
+    rows onPage imp once? takes? prev? base? two? linked? like? fits? page? ownAt owns allOwn goneAt gone list? slot? empty? good? freeWord field numbers
+    viewOf queueOf stateOf numbers? range? logHolds? queue? waiting? windows? free? sound? put via firstLink Rattle.model.specs.Check.marksOf tally letters
+    validName sameName owned titlesOf notesOf otherName? row? count? names?
 tested g t log = sound? g t log
 
 -- six numbers as in `store 1 4 2 4 8 10`; the last number used is 2, slot 0 has the open record 2 with no page; the mark of arena 0 stands at 3, though no
@@ -52,17 +52,18 @@ unfolding fits within
 sound-there = sound-iff small (fits-inside small refl) tables log .0 checked
 
 -- `store 2 4 2 4 3 18`, in tables that are longer than needed. Record 3 is sealed, record 5 follows it, record 7 is a fork on it, record 8 is empty;
--- the last number used is 9. Block 0 waits, though no word of the log frees it. Records 3 and 8 have names, and no row before theirs is in use
+-- the last number used is 9. Block 0 waits, though no word of the log frees it. Block 4 is queued, born in a record 4. Records 3 and 8 have names, and no
+-- row before theirs is in use
 abbrev pub forked : Geometry
 forked = geometryOf 2 4 2 4 3 18
 
 abbrev pub forked-tables : List ℕ
 forked-tables =
-    -- the counter is 1, two writes of three were made in this turn, three words are used, one block waits; both marks stand at 3
-    (2 ∷ 4 ∷ 2 ∷ 4 ∷ 3 ∷ 18 ∷ 9 ∷ 1 ∷ 2 ∷ 3 ∷ 0 ∷ 1 ∷ replicate 4 0) ++
+    -- the counter is 1, two writes of three were made in this turn, four words are used, one block is queued and one waits; both marks stand at 3
+    (2 ∷ 4 ∷ 2 ∷ 4 ∷ 3 ∷ 18 ∷ 9 ∷ 1 ∷ 2 ∷ 4 ∷ 1 ∷ 1 ∷ replicate 4 0) ++
     ((3 ∷ 3 ∷ replicate 46 0) ++
-    -- blocks 2, 3, 4 and 7 may be given
-    ((156 ∷ replicate 127 0) ++
+    -- blocks 2, 3 and 7 may be given
+    ((140 ∷ replicate 127 0) ++
     -- numbers; open or not; the record before; the base; the length of the deadlist
     ((3 ∷ 5 ∷ 7 ∷ 8 ∷ replicate 60 0) ++
     ((0 ∷ 1 ∷ 1 ∷ 1 ∷ replicate 60 0) ++
@@ -79,14 +80,18 @@ forked-tables =
     ((6 ∷ 7 ∷ replicate 254 0) ++
     ((6 ∷ 2 ∷ replicate 254 0) ++
     ((0 ∷ 7 ∷ replicate 766 0) ++
-    -- block 6 on the deadlist of record 5; births 5, 3 and 2 of blocks 1, 5 and 6; block 0 waits
+    -- block 6 on the deadlist of record 5; births 5, 3 and 2 of blocks 1, 5 and 6
     ((6 ∷ replicate 767 0) ++
-    (0 ∷ 5 ∷ 0 ∷ 0 ∷ 0 ∷ 3 ∷ 2 ∷ replicate 26 0)))))))))))))))))
+    ((0 ∷ 5 ∷ 0 ∷ 0 ∷ 0 ∷ 3 ∷ 2 ∷ 0 ∷ []) ++
+    -- block 4 is queued, with birth 4; block 0 waits
+    ((4 ∷ replicate 7 0) ++
+    (0 ∷ 0 ∷ 0 ∷ 0 ∷ 4 ∷ replicate 12 0)))))))))))))))))))
 
--- blocks 5, 6 and 1 were allocated; what follows counts for nothing, if anything follows
+-- blocks 5, 6, 1 and 4 were allocated; what follows counts for nothing, if anything follows
 abbrev pub forked-words : List ℕ
 forked-words = 0 ∷ 0 ∷ 0 ∷ 0 ∷ 0 ∷ 1 ∷ 64 ∷ 1 ∷ 0 ∷ 0 ∷ 0 ∷ 0 ∷ 0
-    ∷ 1 ∷ 128 ∷ 1 ∷ 0 ∷ 0 ∷ 0 ∷ 0 ∷ 0 ∷ 0 ∷ 64 ∷ 1 ∷ []
+    ∷ 1 ∷ 128 ∷ 1 ∷ 0 ∷ 0 ∷ 0 ∷ 0 ∷ 0 ∷ 0 ∷ 64 ∷ 1
+    ∷ 0 ∷ 0 ∷ 0 ∷ 0 ∷ 0 ∷ 1 ∷ 0 ∷ 1 ∷ []
 
 forked-checked : (rest : List ℕ) → sound? forked forked-tables (forked-words ++ rest) ≡ true
 unfolding tested

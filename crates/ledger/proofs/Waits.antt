@@ -1,8 +1,9 @@
--- "A freed block waits: it is given again, or listed by L, only once a Y or C has been accepted since" (5.6), worked by hand.
+-- "A freed block waits: it is given again, or listed by L, only once a Y or C has been accepted since" (5.6), worked by hand. A queued block waits from its T
+-- on.
 use mathlib.Core.Path.{_≡_, refl}
 use mathlib.Core.List.{[], _∷_, _++_}
 use lib.ListN.{take}
-use Rattle.ledger.proofs.Computed.{Table, Goes, prints, logged, birthsAfter, waitingAfter}
+use Rattle.ledger.proofs.Computed.{Table, Goes, prints, logged, birthsAfter, waitingAfter, queueAfter}
 
 abbrev waiting-lines : Table
 waiting-lines =
@@ -20,7 +21,7 @@ waiting-lines =
     -- S ends no wait
     ∷ ("S 1", "+ 2")
     ∷ ("W 2 1 0", "- 13")
-    -- nor does a D, here one that frees nothing
+    -- nor does a D, here one that queues nothing
     ∷ ("D 1", "+")
     ∷ ("L", "+")
     -- Y does. Five words
@@ -47,14 +48,21 @@ ending-lines =
     -- from behind block 0: 1 is held
     ∷ ("W 2 1 0", "+ 2:2")
     ∷ ("W 2 1 0", "+ 0:2 2:2")
-    -- a D's blocks wait behind 2, by rising page: every block waits
-    ∷ ("D 2", "+ 1:1 0:2")
+    -- a D's blocks are queued, by rising page: 2 waits, 1 and 0 are in the queue
+    ∷ ("D 2", "+")
     ∷ ("L", "+")
     -- nor does B end a wait
     ∷ ("B", "+ 3")
     ∷ ("W 3 0 0", "- 13")
-    -- the eighth word
+    -- the sixth word: 2 waits no more, and the queue stays
     ∷ ("Y", "+")
+    ∷ ("L", "+ 2 1")
+    -- eight words: from now on 1 and 0 wait
+    ∷ ("T 2", "+ 1:1 0:2")
+    ∷ ("L", "+ 2 1")
+    ∷ ("Y", "- 14")
+    -- nothing is held: a barrier alone
+    ∷ ("C", "+ 1")
     ∷ ("L", "+ 0 3")
     ∷ []
 
@@ -75,11 +83,17 @@ pub births-left : birthsAfter waiting-lines (0 ∷ 1 ∷ 2 ∷ []) ≡ 0 ∷ 1 �
 unfolding birthsAfter
 births-left = refl
 
--- and behind the D: nothing has a birth
-pub deleted-in-order : (waitingAfter (waiting-lines ++ take 8 ending-lines) ≡ 2 ∷ 1 ∷ 0 ∷ []) ×
+-- and behind the D: no block is on a page, and the births of the two are in the queue
+pub deleted-in-order : (waitingAfter (waiting-lines ++ take 8 ending-lines) ≡ 2 ∷ []) ×
+    (queueAfter (waiting-lines ++ take 8 ending-lines) ≡ (1, 1) ∷ (0, 2) ∷ []) ×
     (birthsAfter (waiting-lines ++ take 8 ending-lines) (0 ∷ 1 ∷ 2 ∷ []) ≡ 0 ∷ 0 ∷ 0 ∷ [])
-unfolding waitingAfter birthsAfter
-deleted-in-order = (refl, refl)
+unfolding waitingAfter queueAfter birthsAfter
+deleted-in-order = (refl, refl, refl)
+
+-- and behind the T
+pub turned-in-order : (waitingAfter (waiting-lines ++ take 14 ending-lines) ≡ 1 ∷ 0 ∷ []) × (queueAfter (waiting-lines ++ take 14 ending-lines) ≡ [])
+unfolding waitingAfter queueAfter
+turned-in-order = (refl, refl)
 
 -- the search passes over a block that waits, in its arena and then in the next one
 pub passed-over : Goes

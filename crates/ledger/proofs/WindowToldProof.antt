@@ -17,10 +17,10 @@ use Rattle.geometry.specs.Limits.{Inside}
 use Rattle.model.specs.View.{View}
 use Rattle.model.specs.Lists.{In}
 use Rattle.model.specs.Actions.{doS, done, forked, slotOf}
-use Rattle.model.specs.State.{State, withNotes}
-use Rattle.model.specs.Window.{steps, sealedOf, victims, sealing, actedAll, WindowStops}
+use Rattle.model.specs.State.{State, withView, withNotes}
+use Rattle.model.specs.Window.{steps, sealedOf, victims, sealing, queueing, WindowStops}
 use Rattle.model.specs.WindowMeans.{Took, TakesOldest}
-use Rattle.model.specs.Calls.{slot, windowOf, sealedNotes, closes, acted, conditions, result, effect}
+use Rattle.model.specs.Calls.{slot, windowOf, sealedNotes, closes, conditions, result, effect}
 use Rattle.model.specs.Book.{Book, recSealed, accept}
 use Rattle.model.specs.NameBook.{HasName}
 use Rattle.model.specs.Model.{stateAfter}
@@ -226,7 +226,7 @@ module _ (g : Geometry) (inside : Inside g) (before : List Command) (r : ℕ) (l
   last : leb 999999 (stateAfter g (map plain before) .view .last) ≡ false
   last = closing-12 g T₀ r none
 
-  loop : (b : ℕ) → closed g (after g before) r .ledger .book ≡ accept (g .pages) (after g before .book) (Seal r) b
+  loop : (b : ℕ) → closed g (after g before) r .book ≡ accept (g .pages) (after g before .book) (Seal r) b
   loop b = closed-book g inside L₀ T₀ fine tells r early last b
 
   -- the deletes move no name
@@ -240,7 +240,7 @@ module _ (g : Geometry) (inside : Inside g) (before : List Command) (r : ℕ) (l
       trimmed-names (recSealed B m) (windowOf T₀ r) m ∙ ap (λ k. recSealed B k .names) (named-slot g inside T₀ fine r (early .eight) .1)
 
   window-booked : WindowBooked (recSealed (after g before .book) r) (keeps g (after g before) (Seal r) .book) (windowOn (after g before .book) r) r
-  unfolding acted actedAll sealing steps
+  unfolding queueing sealing steps
   window-booked =
       let K₀ : View = T₀ .view in
       let s₀ : ℕ = slot T₀ r in
@@ -252,7 +252,7 @@ module _ (g : Geometry) (inside : Inside g) (before : List Command) (r : ℕ) (l
       let K₁ : View = done K₀ (doS s₀) in
       subst (λ n. WindowBooked (recSealed (L₀ .book) r) (keeps g L₀ (Seal r) .book) n r) (sym (window-told g inside L₀ T₀ fine tells r early))
       (subst (λ m. WindowBooked (recSealed (L₀ .book) r) (keeps g L₀ (Seal r) .book) n₀ m) (now-named g inside L₀ T₀ fine tells r early)
-      (booked g inside (afterSeal L₀ r) (withNotes (acted T₀ (doS s₀) 0) (sealedNotes T₀ r)) F (sealed-tells g inside L₀ T₀ fine tells r early)
+      (booked g inside (afterSeal L₀ r) (withNotes (withView T₀ (done K₀ (doS s₀))) (sealedNotes T₀ r)) F (sealed-tells g inside L₀ T₀ fine tells r early)
       (keeps g L₀ (Seal r)) (effect g T₀ (Seal r)) (effect-fine g inside T₀ fine (Seal r) none) (seal-kept r g L₀ T₀ inside fine tells none)
       names₀ n₀ s₀ (takes-oldest K₁ (steps K₀ (closes T₀ r)) names₀ n₀ s₀ (seal-takes K₀ s₀ (fine .sound) q names₀ n₀))
       (seal-stops K₀ s₀ (fine .sound) q names₀ n₀) O

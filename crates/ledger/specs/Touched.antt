@@ -9,7 +9,7 @@ use Rattle.geometry.specs.declared.Geometry.{Geometry}
 use Rattle.geometry.specs.Limits.{blocks}
 use Rattle.ledger.specs.LogMeans.{Given, Within}
 use Rattle.model.specs.Lists.{In}
-use Rattle.model.specs.Calls.{Account, looking, opening, freeing, closing, placing, marking, renewing, account}
+use Rattle.model.specs.Calls.{Account, looking, opening, freeing, closing, removing, reclaiming, placing, marking, renewing, account}
 use Rattle.model.specs.State.{Notes}
 use Rattle.model.specs.Layout.{stateOf}
 use Rattle.model.specs.Memory.{Memory, wordsUsed, reply, after}
@@ -46,8 +46,10 @@ abbrev pub TouchedAs : Geometry → Account → Memory → Memory → Type 0
 TouchedAs g (looking s cs res note) M left = (left .log ≡ M .log) × Noted (stateOf g (M .tables) .notes) (note (stateOf g (M .tables))) M left
 -- these write no log word
 TouchedAs g (opening cs a) M left = left .log ≡ M .log
+TouchedAs g (closing r) M left = left .log ≡ M .log
+TouchedAs g (removing r) M left = left .log ≡ M .log
 TouchedAs g (freeing cs a) M left = Appended M left
-TouchedAs g (closing r) M left = Appended M left
+TouchedAs g (reclaiming k) M left = Appended M left
 TouchedAs g (placing r x k) M left = Appended M left
 -- of the tables, the count of the log words, and what waited is released
 TouchedAs g marking M left = Appended M left × ((wordsUsed left ≡ suc (wordsUsed M)) × Released g M left)

@@ -26,7 +26,7 @@ after g before = steps g fresh before
 -- THE LOOP IS THE BOOK'S OWN STEP: the loop's deletes leave the book that the page book makes of an accepted S, so they take the same records
 abbrev pub WindowLoop : Type 0
 WindowLoop = (g : Geometry) → Inside g → (before : List Command) (r : ℕ) (l : List ℕ) → says g (after g before) (Seal r) ≡ accepted l →
-    closed g (after g before) r .ledger .book ≡ keeps g (after g before) (Seal r) .book
+    closed g (after g before) r .book ≡ keeps g (after g before) (Seal r) .book
 
 -- B is the book right after the seal of r, C the book after the call; n is the window of the line, 0 for none. Record m was taken out between them:
 abbrev pub TakenOut : Book → Book → ℕ → Type 0

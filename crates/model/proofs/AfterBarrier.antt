@@ -13,10 +13,10 @@ use Rattle.geometry.specs.declared.Geometry.{Geometry}
 use Rattle.geometry.specs.Limits.{Inside, blocks}
 use Rattle.log.specs.Runs.{Run, Covered, Longest, All}
 use Rattle.model.specs.Book.{Some}
-use Rattle.model.specs.Lists.{afterFirst}
 use Rattle.model.specs.Results.{blocksIn}
 use Rattle.model.specs.State.{fresh}
-use Rattle.model.specs.Calls.{Account, looking, opening, freeing, closing, placing, marking, renewing, account, pairs, result}
+use Rattle.model.specs.Calls.{Account, looking, opening, freeing, closing, removing, reclaiming, placing, marking, renewing, account, pairs}
+use Rattle.model.specs.Calls.{result}
 use Rattle.model.specs.FreeList.{freeRuns}
 use Rattle.model.specs.History.{Machine, Event, give, free, Entry, entryOf, eventsBy, eventsOf, writeEvents, stateFrom, historyFrom}
 use Rattle.model.specs.History.{wasAccepted, freedAmong, syncsBy, syncs, synced?, unsyncedAfter, unsyncedFrom, unsynced}
@@ -121,6 +121,8 @@ frees-by (looking s cs res note) l b i = refl
 frees-by (opening cs a) l b i = refl
 frees-by (freeing cs a) l b i = refl
 frees-by (closing r) l b i = refl
+frees-by (removing r) l b i = refl
+frees-by (reclaiming k) l b i = refl
 frees-by (placing r x k) l b i = refl
 frees-by marking l b i = absurd i
 frees-by renewing l b i = absurd i
@@ -176,7 +178,9 @@ gave-as : (b : ℕ) (c : Command) (A : Account) (l : List ℕ) → Is c A → So
 gave-as b c (looking s cs res note) l e i = absurd i
 gave-as b c (opening cs a) l e i = absurd i
 gave-as b c (freeing cs a) l e i = absurd (no-give b (blocksIn l) i)
-gave-as b c (closing r) l e i = absurd (no-give b (blocksIn (afterFirst l)) i)
+gave-as b c (closing r) l e i = absurd i
+gave-as b c (removing r) l e i = absurd i
+gave-as b c (reclaiming k) l e i = absurd (no-give b (blocksIn l) i)
 gave-as b c (placing r x k) l e i = subst (λ d. GaveBy b d (accepted l)) (sym e) (gives-first b r x k l i)
 gave-as b c marking l e i = absurd i
 gave-as b c renewing l e i = absurd i
@@ -195,7 +199,7 @@ same-first b c l m e = ap firstOf e
 
 -- ── what lists a block ──
 
-runs-back : (l : List Run) → runsOfPairs (pairs l) ≡ l
+pub runs-back : (l : List Run) → runsOfPairs (pairs l) ≡ l
 unfolding pairs
 runs-back [] = refl
 runs-back (r ∷ l) = ap {B = List Run} (λ m. r ∷ m) (runs-back l)
@@ -214,7 +218,7 @@ module _ (g : Geometry) (inside : Inside g) (before : List Screened) where
       (sym (ap (λ x. x .call) (A .is)) ∙ G .call) (sym (ap (λ x. x .answer) (A .is)) ∙ G .answer) in
       cases (freed-waits (λ c. false) b xs e ys i)
       (λ y. y)
-      (λ y. absurd (false≢true (sym (q .5) ∙ ap (unsynced (history g (A .calls))) (sym (same-first b (q .0) (G .rest) (q .1) (q .2))) ∙
+      (λ y. absurd (false≢true (sym (q .6) ∙ ap (unsynced (history g (A .calls))) (sym (same-first b (q .0) (G .rest) (q .1) (q .2))) ∙
       ap (λ h. unsynced h b) (A .before) ∙ y)))
 
   pub listed-after : (xs ys zs : List Entry) (e f : Entry) (b : ℕ) → history g before ≡ xs ++ (e ∷ (ys ++ (f ∷ zs))) → Frees b e → Lists b f → Some Synced ys
@@ -222,11 +226,12 @@ module _ (g : Geometry) (inside : Inside g) (before : List Screened) where
       let A = entry-of (model g) before (fresh g) (xs ++ (e ∷ ys)) f zs (p ∙ ahead xs ys zs e f) in
       let T = stateAfter g (A .calls) in
       let a = A .call in
-      let F = free-list-is g inside T (reached g inside (A .calls) .fine .sound) in
+      let R = reached g inside (A .calls) .fine in
+      let F = free-list-is g inside T (R .sound) (R .queue) in
       let w = accepted-is g T a l (sym (ap (λ x. x .answer) (A .is)) ∙ fa) .1 in
       let r : l ≡ pairs (freeRuns g T) = sym w ∙ ap (result g T) (sym (ap (λ x. x .call) (A .is)) ∙ fc) ∙ F .given in
       let c : Covered b (freeRuns g T) = subst (Covered b) (ap runsOfPairs r ∙ runs-back (freeRuns g T)) cov in
       let free? = F .covered b (covered-below (g .per) (blocks g) b _ (freeRuns g T) (F .longest .each) c) .0 c in
       cases (freed-waits (λ c. false) b xs e ys i)
       (λ y. y)
-      (λ y. absurd (free? .1 (waits-in T b (waits-reckoned g (A .calls) b ∙ ap (λ h. unsynced h b) (A .before) ∙ y))))
+      (λ y. absurd (free? .2 (waits-in T b (waits-reckoned g (A .calls) b ∙ ap (λ h. unsynced h b) (A .before) ∙ y))))

@@ -23,9 +23,9 @@ use Rattle.model.specs.Book.{Some}
 use Rattle.model.specs.Held.{held, frees}
 use Rattle.model.specs.State.{State}
 use Rattle.model.specs.Layout.{stateOf}
-use Rattle.model.specs.Window.{actedAll}
-use Rattle.model.specs.Calls.{Account, looking, opening, freeing, closing, placing, marking, renewing, account, renews, wordsBy, leftBy, freedClosing}
-use Rattle.model.specs.Calls.{writing, compressed, written, acted, given, logged, effect}
+use Rattle.model.specs.Window.{queueing}
+use Rattle.model.specs.Calls.{Account, looking, opening, freeing, closing, removing, reclaiming, placing, marking, renewing, account, renews, wordsBy}
+use Rattle.model.specs.Calls.{leftBy, firstQueued, reclaimed, writing, compressed, written, acted, given, logged, effect}
 use Rattle.model.specs.Memory.{Memory, usedLog, wordsUsed, writtenAt, reply, storedBy, after}
 use Rattle.model.specs.History.{Machine, Entry, entryOf, stateFrom, historyFrom, wasAccepted, syncsBy, syncs}
 use Rattle.model.specs.HistoryFacts.{Synced}
@@ -60,6 +60,8 @@ renews-syncs (looking s cs res note) true e = e
 renews-syncs (opening cs a) true e = e
 renews-syncs (freeing cs a) true e = e
 renews-syncs (closing r) true e = e
+renews-syncs (removing r) true e = e
+renews-syncs (reclaiming k) true e = e
 renews-syncs (placing r x k) true e = e
 renews-syncs marking true e = absurd (false≢true e)
 renews-syncs renewing true e = e
@@ -96,11 +98,13 @@ wroteAll g M (a ∷ l) = wrote g M a ++ wroteAll g (ownStore g .after M a) l
 -- ── one call ──
 
 used-by : (g : Geometry) (T : State) (A : Account) → renews A ≡ false → leftBy g T A .used ≡ T .used + length (wordsBy g T A)
-unfolding acted actedAll given logged
+unfolding acted queueing reclaimed given logged
 used-by g T (looking s cs res note) e = omega arith
 used-by g T (opening cs a) e = refl
 used-by g T (freeing cs a) e = refl
-used-by g T (closing r) e = refl
+used-by g T (closing r) e = omega arith
+used-by g T (removing r) e = omega arith
+used-by g T (reclaiming k) e = refl
 used-by g T (placing r x k) e = refl
 used-by g T marking e = refl
 used-by g T renewing e = absurd (false≢true (sym e))
@@ -108,8 +112,8 @@ used-by g T renewing e = absurd (false≢true (sym e))
 effect-used : (g : Geometry) (T : State) (c : Command) → isC c ≡ false → effect g T c .used ≡ T .used + length (written g T c)
 effect-used g T c e = used-by g T (account c) e
 
-log-joined : (g : Geometry) (i : Inside g) (T : State) (R : Rattle.model.proofs.Fine.Fine g T) (l : List ℕ) (r : Reads (g .arenas) (g .per) l (held (T .view))) (c : Command) →
-    isC c ≡ false → logAfter g i T R l r c ≡ l ++ bytesOf (written g T c)
+log-joined : (g : Geometry) (i : Inside g) (T : State) (R : Rattle.model.proofs.Fine.Fine g T) (l : List ℕ)
+    (r : Reads (g .arenas) (g .per) l (held T)) (c : Command) → isC c ≡ false → logAfter g i T R l r c ≡ l ++ bytesOf (written g T c)
 log-joined g i T R l r c e = ap (λ t. cond t (bytesOf (written g T c)) (l ++ bytesOf (written g T c))) e
 
 renews-C : (c : Command) (A : Account) → Is c A → renews A ≡ true → c ≡ Compress
@@ -117,6 +121,8 @@ renews-C c (looking s cs res note) i e = absurd (false≢true e)
 renews-C c (opening cs a) i e = absurd (false≢true e)
 renews-C c (freeing cs a) i e = absurd (false≢true e)
 renews-C c (closing r) i e = absurd (false≢true e)
+renews-C c (removing r) i e = absurd (false≢true e)
+renews-C c (reclaiming k) i e = absurd (false≢true e)
 renews-C c (placing r x k) i e = absurd (false≢true e)
 renews-C c marking i e = absurd (false≢true e)
 renews-C c renewing i e = i .0
@@ -175,7 +181,9 @@ module _ (g : Geometry) where
 
       go : (r : Reply) → reply g (withOut M (a .out)) (a .call) ≡ r → Joined M a
       go (refused k) e = record {
-        used = ap (λ t. getD t 9 0) (refused-tables N (a .call) k e) ∙ sym (ap (λ r. wordsUsed M + length (wroteBy r (written g (stateOf g (M .tables)) (a .call)))) e ∙ (let z : wordsUsed M + 0 ≡ wordsUsed M = omega arith in z));
+        used = ap (λ t. getD t 9 0) (refused-tables N (a .call) k e) ∙
+            sym (ap (λ r. wordsUsed M + length (wroteBy r (written g (stateOf g (M .tables)) (a .call)))) e ∙
+            (let z : wordsUsed M + 0 ≡ wordsUsed M = omega arith in z));
         log = ap₂ (λ t k. usedLog (stateOf g t) k) (refused-tables N (a .call) k e) (refused-log N (a .call) k e) ∙
             sym (ap (λ r. usedOf g M ++ bytesOf (wroteBy r (written g (stateOf g (M .tables)) (a .call)))) e ∙ append-nil (usedOf g M));
       }
@@ -267,7 +275,9 @@ plain-by : (g : Geometry) (T : State) (A : Account) → syncsBy A ≡ false → 
 plain-by g T (looking s cs res note) e = tt
 plain-by g T (opening cs a) e = tt
 plain-by g T (freeing cs a) e = plain-released (frees (T .view) (a T))
-plain-by g T (closing r) e = plain-released (freedClosing T r)
+plain-by g T (closing r) e = tt
+plain-by g T (removing r) e = tt
+plain-by g T (reclaiming k) e = plain-released (firstQueued T k)
 plain-by g T (placing r x k) e = (λ z. omega arith, plain-released (frees (T .view) (writing g T r x k)))
 plain-by g T marking e = absurd (false≢true (sym e))
 plain-by g T renewing e = absurd (false≢true (sym e))
@@ -300,7 +310,10 @@ ends-with x h = inr (words x, words-append x (bytesOf (barrier ∷ [])) h)
 runs-end : (l : List Run) → (ws : List ℕ) × (runsWords l ≡ ws ++ (barrier ∷ []))
 unfolding runsWords
 runs-end [] = ([], refl)
-runs-end (r ∷ l) = let w = runs-end l in (runWords (r .0) (r .1) ++ w .0, ap (λ k. runWords (r .0) (r .1) ++ k) (w .1) ∙ sym (append-assoc (runWords (r .0) (r .1)) (w .0) (barrier ∷ [])))
+runs-end (r ∷ l) =
+    let w = runs-end l in
+    let ws = runWords (r .0) (r .1) in
+    (ws ++ w .0, ap (λ k. ws ++ k) (w .1) ∙ sym (append-assoc ws (w .0) (barrier ∷ [])))
 
 -- an accepted Y or C is one of the two
 ended-by : (c : Command) (A : Account) → Is c A → (t : Bool) → (t && syncsBy A) ≡ true → ((t && renews A) ≡ true → ⊥) → (c ≡ Barrier) × (t ≡ true)
@@ -308,6 +321,8 @@ ended-by c (looking s cs res note) i true e n = absurd (false≢true e)
 ended-by c (opening cs a) i true e n = absurd (false≢true e)
 ended-by c (freeing cs a) i true e n = absurd (false≢true e)
 ended-by c (closing r) i true e n = absurd (false≢true e)
+ended-by c (removing r) i true e n = absurd (false≢true e)
+ended-by c (reclaiming k) i true e n = absurd (false≢true e)
 ended-by c (placing r x k) i true e n = absurd (false≢true e)
 ended-by c marking i true e n = (i .0, refl)
 ended-by c renewing i true e n = absurd (n refl)
@@ -324,7 +339,8 @@ module _ (g : Geometry) where
       (λ n.
       let j = joined g M a n in
       ap length (j .log) ∙ length-append (usedOf g M) (bytesOf (wrote g M a)) ∙
-      (let z : length (usedOf g M) + length (bytesOf (wrote g M a)) ≡ 8 * wordsUsed (ownStore g .after M a) = omega (arith, w, length-bytes (wrote g M a), j .used) in z))
+      (let z : length (usedOf g M) + length (bytesOf (wrote g M a)) ≡ 8 * wordsUsed (ownStore g .after M a) =
+      omega (arith, w, length-bytes (wrote g M a), j .used) in z))
 
   pub whole-run : (l : List Own) (M : Memory) → Whole g M → Whole g (run g M l)
   whole-run [] M w = w
@@ -335,7 +351,7 @@ module _ (g : Geometry) where
   synced-ends M a w y =
       cases (either (compacts? (entryOf (ownStore g) M a)))
       (λ c.
-      let r = runs-end (Rattle.log.specs.Runs.runs (g .per) (held (stateOf g (M .tables) .view)) (g .arenas * g .per)) in
+      let r = runs-end (Rattle.log.specs.Runs.runs (g .per) (held (stateOf g (M .tables))) (g .arenas * g .per)) in
       subst Ends (sym (compacted g M a c .0 ∙ ap bytesOf (r .1) ∙ bytes-append (r .0) (barrier ∷ [])))
       (ends-with (bytesOf (r .0)) (omega (arith, length-bytes (r .0)))))
       (λ n.

@@ -13,7 +13,7 @@ use Rattle.geometry.specs.Limits.{Inside, blocks}
 use Rattle.model.specs.View.{View}
 use Rattle.model.specs.Sound.{Sound}
 use Rattle.model.specs.Actions.{doS, doF, Asks, forked, vacant, slotOf}
-use Rattle.model.specs.State.{State, InRange, WaitingFits, WindowsFit}
+use Rattle.model.specs.State.{State, InRange, QueueFits, WaitingFits, WindowsFit}
 use Rattle.model.specs.NamesAgree.{NamesAgree}
 use Rattle.model.specs.Calls.{slot, writing, erasing, deleting, conditions, account, short}
 use Rattle.model.specs.Command.{Write, Erase, Fork}
@@ -41,6 +41,7 @@ pub record Fine (g : Geometry) (T : State) : Type 0 where
   pub pages : T .view .pages ≡ g .pages
   pub blocks : T .view .blocks ≡ blocks g
   pub range : InRange g T
+  pub queue : QueueFits T
   pub waits : WaitingFits T
   pub windows : WindowsFit (T .view) (T .notes)
   pub names : NamesAgree (T .view) (T .notes .titles) (T .notes .names)
@@ -83,6 +84,5 @@ module _ (g : Geometry) (inside : Inside g) (T : State) (R : Fine g T) where
       let past = none-at (conditions g T (Fork r)) n in
       (named-slot r (past 8) .0, omega (arith, ltb-false 0 (T .view .isOpen (slot T r)) (past 9)), not-zero (vacant (T .view)) (past 11))
 
-  -- (its two conditions before 14 are enough)
   pub asks-D : (r : ℕ) → eqb (slotOf (T .view) r) 0 ≡ false → ltb 0 (forked (T .view) (slot T r)) ≡ false → Asks (T .view) (deleting T r)
   asks-D r eight ten = (named-slot r eight .0, omega (arith, ltb-false 0 (forked (T .view) (slot T r)) ten))

@@ -16,12 +16,14 @@ use Rattle.model.specs.View.{View, withBirth}
 use Rattle.model.specs.Lists.{elem}
 use Rattle.model.specs.Held.{waits, available}
 use Rattle.model.specs.State.{State, withView}
-use Rattle.model.specs.Layout.{freeCell, birthCell, pageCell, listCell, need, freeWord, headerNumber, columnNumber, pageNumber, listNumber, stored}
+use Rattle.model.specs.Layout.{freeCell, birthCell, pageCell, listCell, queueBirthCell, need, freeWord, headerNumber, columnNumber, pageNumber}
+use Rattle.model.specs.Layout.{listNumber, stored}
 use Rattle.answer.proofs.Cases.{cases, either, same?}
 use Rattle.model.proofs.TabFacts.{put-at, put-other}
 use Rattle.model.proofs.DoneSound.{and-l}
 use Rattle.model.proofs.StoredFacts.{free-number}
-use Rattle.model.proofs.LayoutFacts.{stored-length, stored-header, stored-column, stored-spare, stored-page, stored-list, stored-birth, stored-wait, stored-beyond, tables-ext}
+use Rattle.model.proofs.LayoutFacts.{stored-length, stored-header, stored-column, stored-spare, stored-page, stored-list, stored-birth, stored-queue}
+use Rattle.model.proofs.LayoutFacts.{stored-queue-birth, stored-wait, stored-beyond, tables-ext}
 
 -- a word says of its numbers what they are
 pub word-ext : (p q : ℕ → Bool) (n i : ℕ) → ((j : ℕ) → i ≤ j → j < i + n → p j ≡ q j) → wordOf p i n ≡ wordOf q i n
@@ -35,8 +37,9 @@ pub word-off : (T : State) (b v k : ℕ) → (k ≡ b / 32 → ⊥) → freeWord
 unfolding freeWord available waits
 word-off T b v k n =
     let f : ℕ → ℕ = T .view .birth in
-    word-ext (λ c. eqb (put f b v c) 0 && not (elem c (T .waiting))) (λ c. eqb (f c) 0 && not (elem c (T .waiting))) (min 32 (T .view .blocks - 32 * k)) (32 * k)
-    (λ j l m. ap (λ w. eqb w 0 && not (elem j (T .waiting))) (put-other f b v j (λ e. n (let z : k ≡ b / 32 = omega arith in z))))
+    let rest : ℕ → Bool = λ c. eqb (T .queue .birth c) 0 && not (elem c (T .waiting)) in
+    word-ext (λ c. eqb (put f b v c) 0 && rest c) (λ c. eqb (f c) 0 && rest c) (min 32 (T .view .blocks - 32 * k)) (32 * k)
+    (λ j l m. ap (λ w. eqb w 0 && rest j) (put-other f b v j (λ e. n (let z : k ≡ b / 32 = omega arith in z))))
 
 module _ (g : Geometry) (T : State) (t : List ℕ) (room : need g ≤ length t) (b v : ℕ) (hb : b < blocks g) (inside : Inside g) where
   abbrev K : View
@@ -86,6 +89,11 @@ module _ (g : Geometry) (T : State) (t : List ℕ) (room : need g ≤ length t) 
             ap (λ k. getD (set s a v) (birthCell (g .records) k) 0) e ∙ getD-set-same s a v 0 (omega arith)))
             (λ n. put-other (T .view .birth) b v c n ∙
             sym (off (birthCell (g .records) c) (λ e. let z : ⊥ = omega arith in z) (λ e. n (let z : c ≡ b = omega arith in z)) ∙ stored-birth g T t room c hc));
+        queue = λ i l h. stored-queue g U t room i l h ∙
+            sym (off i (λ e. let z : ⊥ = omega arith in z) (λ e. let z : ⊥ = omega arith in z) ∙ stored-queue g T t room i l h);
+        queueBirth = λ c hc. stored-queue-birth g U t room c hc ∙
+            sym (off (queueBirthCell (g .records) (blocks g) c) (λ e. let z : ⊥ = omega arith in z) (λ e. let z : ⊥ = omega arith in z) ∙
+            stored-queue-birth g T t room c hc);
         wait = λ i l h. stored-wait g U t room i l h ∙
             sym (off i (λ e. let z : ⊥ = omega arith in z) (λ e. let z : ⊥ = omega arith in z) ∙ stored-wait g T t room i l h);
         beyond = λ i h. stored-beyond g U t i h ∙

@@ -1,7 +1,7 @@
 -- Results that name blocks, and the log words beside them (3.13).
 use mathlib.Core.Path.{_≡_, refl, sym, ap, _∙_, subst}
 use mathlib.Core.Bool.{cond}
-use mathlib.Core.List.{List, _∷_, map}
+use mathlib.Core.List.{List, [], _∷_, map}
 use Prim.Native.Nat.{ℕ, suc, _*_, _<_}
 use native.Mathlib.Omega.{arith}
 use Rattle.answer.specs.Refusal.{NoneHolds}
@@ -10,14 +10,15 @@ use Rattle.geometry.specs.Limits.{Inside}
 use Rattle.log.specs.Word.{allocated, released, writeAt, bytesOf}
 use Rattle.model.specs.View.{View}
 use Rattle.model.specs.Sound.{Sound}
-use Rattle.model.specs.Lists.{In, afterFirst}
+use Rattle.model.specs.Lists.{In}
 use Rattle.model.specs.Results.{paired, blocksIn, blocksOf}
 use Rattle.model.specs.Actions.{Action, Asks}
 use Rattle.model.specs.Held.{frees}
 use Rattle.model.specs.State.{State}
-use Rattle.model.specs.Window.{steps, actedAll}
-use Rattle.model.specs.Calls.{Account, looking, opening, freeing, closing, placing, marking, renewing, account, refusalsBy, resultBy, wordsBy, leftBy}
-use Rattle.model.specs.Calls.{spellingBy, spelling, closes, freedClosing, freedWith, slot, block, writing, written, result, acted, given}
+use Rattle.model.specs.Window.{steps, queueing}
+use Rattle.model.specs.Calls.{Account, looking, opening, freeing, closing, removing, reclaiming, placing, marking, renewing, account, refusalsBy}
+use Rattle.model.specs.Calls.{resultBy, wordsBy, leftBy, spellingBy, spelling, closes, firstQueued, freedWith, slot, block, writing, written, result}
+use Rattle.model.specs.Calls.{acted, given}
 use Rattle.model.specs.Layout.{stateOf}
 use Rattle.model.specs.Memory.{Memory, wordsUsed, writtenAt}
 use Rattle.model.specs.Births.{InStore, WithBirths, Spelled, NamedAs, BirthsInResults, wordsAs, wordsFor, LogAsBefore}
@@ -25,16 +26,16 @@ use Rattle.model.specs.Crash.{isC}
 use Rattle.model.specs.Command.{Command}
 use Rattle.model.specs.Command.{Compress}
 use Rattle.model.specs.declared.Spelling.{Spelling}
-use Rattle.model.specs.declared.Spelling.the-variants.{Numbers, Blocks, NumberAndBlocks}
+use Rattle.model.specs.declared.Spelling.the-variants.{Numbers, Blocks}
 use Rattle.model.proofs.ByNumber.{none-at}
 use Rattle.model.proofs.Facts.{born-le}
 use Rattle.model.proofs.Meaning.{sound-means}
 use Rattle.model.proofs.HeldFacts.{frees-is}
+use Rattle.model.proofs.QueueFacts.{in-first}
 use Rattle.model.proofs.ResultFacts.{blocks-in-paired}
 use Rattle.model.proofs.BirthStays.{write-birth}
 use Rattle.model.proofs.CallKinds.{none-left}
-use Rattle.model.proofs.WindowMoves.{frees-along-is}
-use Rattle.model.proofs.Closing.{closing-first, closing-asks, closing-giveless, closing-last}
+use Rattle.model.proofs.Closing.{closing-first, closing-last}
 use Rattle.model.proofs.EachCall.{Is, is, HeldIf, Fits, fits}
 use Rattle.model.proofs.Fine.{Fine, named-slot, asks-W}
 use Rattle.model.proofs.Along.{not-true, is-C}
@@ -57,26 +58,28 @@ freed-births K a l S q e = with-births K (frees K a) l S e (λ b i. frees-is K a
 spelled : (T : State) (s : Spelling) (m l : List ℕ) → Sound (T .view) → HeldIf T s m → m ≡ l → Spelled (T .view) s l
 spelled T Numbers m l S w e = tt
 spelled T Blocks m l S w e = with-births (T .view) (w .these) l S (w .numbers ∙ e) (w .held)
-spelled T NumberAndBlocks m l S w e = with-births (T .view) (w .these) (afterFirst l) S (w .numbers ∙ ap afterFirst e) (w .held)
 
 module _ (g : Geometry) (inside : Inside g) (T : State) (F : Fine g T) where
   -- by the kind
   named-as : (c : Command) (A : Account) (l : List ℕ) → Fits g T c A → NoneHolds (refusalsBy g T A) → resultBy g T A ≡ l →
-      NamedAs (T .view) (leftBy g T A .view) A l
-  unfolding given acted actedAll
+      NamedAs T (leftBy g T A) A l
+  unfolding given acted queueing
   named-as c (looking s cs res note) l f n e = spelled T s (res g T) l (F .sound) (f n .1) e
   named-as c (opening cs a) l f n e = tt
   named-as c (freeing cs a) l f n e = freed-births (T .view) (a T) l (F .sound) (f (none-left (cs g T) _ n) .asks) e
   named-as c (closing r) l f n e =
-      let m = closing-first g T r n in
-      let z : suc (T .view .last) ≡ steps (T .view) (closes T r) .last = omega (arith, closing-last g inside T F r m) in
-      let rest : List ℕ = paired (T .view .birth) (freedClosing T r) in
+      let z : suc (T .view .last) ≡ steps (T .view) (closes T r) .last = omega (arith, closing-last g inside T F r (closing-first g T r n)) in
+      record { numbers = sym e ∙ ap {B = List ℕ} (λ v. v ∷ []) z; next = sym z }
+  named-as c (removing r) l f n e = sym e
+  named-as c (reclaiming k) l f n e =
+      let was : (b : ℕ) → In b (firstQueued T k) → In b (T .queue .list) = in-first k (T .queue .list) in
       record {
-        rest = rest;
-        numbers = sym e ∙ ap {B = List ℕ} (λ v. v ∷ rest) z;
-        next = sym z;
-        freed = with-births (T .view) (freedClosing T r) rest (F .sound) refl
-            (λ b i. frees-along-is (T .view) (closes T r) (F .sound) (closing-asks g inside T F r m) (closing-giveless g inside T F r m) b .0 i .0);
+        these = firstQueued T k;
+        numbers = sym e;
+        in-queue = was;
+        above = λ b i. F .queue .births b .0 (was b i);
+        given = λ b i. F .queue .given b;
+        unborn = λ b i. F .queue .unborn b (was b i);
       }
   named-as c (placing r x k) l f n e =
       let q = asks-W g inside T F r x k n in
@@ -97,7 +100,7 @@ births-in-results g M c l e =
     let (A, i) = accepted-is g M c l e in
     let T : State = stateOf g (M .tables) in
     let F = sound-fine g (M .tables) (M .log) (A .sound) in
-    subst (λ (U : State). NamedAs (T .view) (U .view) (account c) l) (sym (accepted-state g M c l e))
+    subst (λ (U : State). NamedAs T U (account c) l) (sym (accepted-state g M c l e))
     (named-as g (A .inside) T F c (account c) l (fits g (A .inside) T F c) (A .none) i)
 
 -- ── log words ──
@@ -105,11 +108,13 @@ births-in-results g M c l e =
 -- a call's words, by the blocks of its result
 words-by : (g : Geometry) (T : State) (c : Command) (A : Account) → Is c A → (c ≡ Compress → ⊥) →
     wordsBy g T A ≡ wordsAs A (blocksOf (spellingBy A) (resultBy g T A))
-unfolding blocksOf blocksIn afterFirst
+unfolding blocksOf blocksIn
 words-by g T c (looking s cs res note) i n = refl
 words-by g T c (opening cs a) i n = refl
 words-by g T c (freeing cs a) i n = ap (map released) (sym (blocks-in-paired (T .view .birth) (frees (T .view) (a T))))
-words-by g T c (closing r) i n = ap (map released) (sym (blocks-in-paired (T .view .birth) (freedClosing T r)))
+words-by g T c (closing r) i n = refl
+words-by g T c (removing r) i n = refl
+words-by g T c (reclaiming k) i n = ap (map released) (sym (blocks-in-paired (T .queue .birth) (firstQueued T k)))
 words-by g T c (placing r x k) i n =
     ap (λ l. allocated (block g T k) ∷ map released l) (sym (blocks-in-paired (T .view .birth) (frees (T .view) (writing g T r x k))))
 words-by g T c marking i n = refl

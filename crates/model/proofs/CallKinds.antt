@@ -13,8 +13,8 @@ use Rattle.model.specs.Effects.{grow, close, erase, begin, seal, fork}
 use Rattle.model.specs.Actions.{Action, doB, doW, doE, doS, doF, doD, done, follower, vacant, delete}
 use Rattle.model.specs.Held.{frees, gives}
 use Rattle.model.specs.State.{State, Notes, bareNotes}
-use Rattle.model.specs.Calls.{Account, looking, opening, freeing, closing, placing, marking, renewing, refusalsBy}
-use Rattle.model.specs.History.{free, firstGiven}
+use Rattle.model.specs.Calls.{Account, looking, opening, freeing, closing, removing, reclaiming, placing, marking, renewing, refusalsBy}
+use Rattle.model.specs.History.{free}
 use Rattle.model.proofs.BookFacts.{erase-paged, delete-gone}
 use Rattle.model.proofs.BirthStays.{Gives}
 use Rattle.model.proofs.Moves.{gifts}
@@ -28,6 +28,8 @@ ownRefusals g T (looking s cs res note) = cs g T
 ownRefusals g T (opening cs a) = cs T
 ownRefusals g T (freeing cs a) = cs g T
 ownRefusals g T (closing r) = refusalsBy g T (closing r)
+ownRefusals g T (removing r) = refusalsBy g T (removing r)
+ownRefusals g T (reclaiming k) = refusalsBy g T (reclaiming k)
 ownRefusals g T (placing r x k) = refusalsBy g T (placing r x k)
 ownRefusals g T marking = refusalsBy g T marking
 ownRefusals g T renewing = refusalsBy g T renewing
@@ -111,7 +113,7 @@ opens K (doS s) o = absurd o
 opens K (doF s) o = record { none = λ b i. i; empty = refl; events = refl; notes = λ N. refl; last = omega arith; birth = λ b. refl }
 opens K (doD s) o = absurd o
 
--- ── an action that may free blocks, and gives none ──
+-- ── an action that may take blocks off their last page, and gives none ──
 
 abbrev pub Frees : Action → Type 0
 Frees doB = ⊥
@@ -136,7 +138,3 @@ frees-only K (doE s x) S o = record { none = λ b i. i; events = refl; notes = �
 frees-only K (doS s) S o = absurd o
 frees-only K (doF s) S o = absurd o
 frees-only K (doD s) S o = record { none = λ b i. i; events = refl; notes = λ N. refl; no-gift = refl; last = delete-gone K s (follower K s) S refl .last }
-
-pub first-frees : (l : List ℕ) → firstGiven (map free l) ≡ 0
-first-frees [] = refl
-first-frees (b ∷ l) = refl

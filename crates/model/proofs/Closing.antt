@@ -1,19 +1,16 @@
--- The call S, from the conditions before 14: its actions are ones that the stores they meet allow, and give no block.
+-- The call S, from its conditions: its actions are ones that the stores they meet allow, and give no block.
 use mathlib.Core.Path.{_≡_, sym, ap, _∙_, subst}
 use mathlib.Core.Bool.{false, cond}
-use Prim.Native.Nat.{ℕ, _+_, _≤_}
-use native.Mathlib.Omega.{arith}
+use Prim.Native.Nat.{ℕ, _+_}
 use lib.Dec.{leb}
-use lib.ListN.{length}
 use Rattle.answer.specs.Refusal.{NoneHolds}
 use Rattle.geometry.specs.declared.Geometry.{Geometry}
 use Rattle.geometry.specs.Limits.{Inside}
 use Rattle.model.specs.Effects.{seal, grow, close}
-use Rattle.model.specs.Actions.{doS, Asks, done}
-use Rattle.model.specs.Held.{heldCount}
-use Rattle.model.specs.Window.{steps, freesAlong, AsksAlong, sealing, victims}
+use Rattle.model.specs.Actions.{doS, Asks}
+use Rattle.model.specs.Window.{steps, AsksAlong}
 use Rattle.model.specs.State.{State}
-use Rattle.model.specs.Calls.{closing, refusalsBy, shortBy, slot, windowOf, sealedNotes, closes, freedClosing}
+use Rattle.model.specs.Calls.{closing, refusalsBy, slot, windowOf, sealedNotes, closes}
 use Rattle.model.specs.Book.{Book, recSealed, windowWith, trimmed, accept}
 use Rattle.model.specs.Command.{Seal}
 use Rattle.model.proofs.ByNumber.{none-at}
@@ -21,12 +18,8 @@ use Rattle.model.proofs.Agree.{Agree}
 use Rattle.model.proofs.BookFacts.{in-lines}
 use Rattle.model.proofs.WindowBook.{NamedAlike, seal-agrees}
 use Rattle.model.proofs.Windows.{WindowsAgree, seal-windows}
-use Rattle.model.proofs.HeldFacts.{held-done}
-use Rattle.model.proofs.DoneSound.{done-sound}
-use Rattle.model.proofs.WindowAlong.{frees-held}
 use Rattle.model.proofs.WindowMoves.{Giveless, sealing-giveless}
-use Rattle.model.proofs.WindowSeal.{seal-asks, seal-takes, seal-held}
-use Rattle.model.proofs.Few.{held-le}
+use Rattle.model.proofs.WindowSeal.{seal-asks, seal-takes}
 use Rattle.model.proofs.Asked.{Fine, Unrefused, named-slot, asks-S}
 
 -- an S that is not refused
@@ -38,9 +31,6 @@ module _ (g : Geometry) (T : State) (r : ℕ) (n : NoneHolds (refusalsBy g T (cl
 
   pub closing-12 : leb 999999 (T .view .last) ≡ false
   closing-12 = none-at (refusalsBy g T (closing r)) n 12
-
-  pub closing-14 : shortBy g T (closing r) ≡ false
-  closing-14 = none-at (refusalsBy g T (closing r)) n 14
 
 module _ (g : Geometry) (inside : Inside g) (T : State) (R : Fine g T) (r : ℕ) (n : Unrefused T r) where
   pub seals : Asks (T .view) (doS (slot T r))
@@ -77,17 +67,3 @@ module _ (g : Geometry) (inside : Inside g) (T : State) (R : Fine g T) (r : ℕ)
   closing-windows B P b A W N =
       subst (WindowsAgree (steps (T .view) (closes T r)) (sealedNotes T r)) (closing-book B P b A W)
       (seal-windows (T .view) (T .notes) B (windowOf T r) (slot T r) (R .sound) seals A W N)
-
-  -- what is freed was held
-  pub closing-held : heldCount (steps (T .view) (closes T r)) + length (freedClosing T r) ≡ heldCount (T .view)
-  unfolding sealing steps freesAlong
-  closing-held =
-      omega (
-        arith,
-        frees-held (victims (done (T .view) (doS (slot T r))) (T .notes .names) (windowOf T r) (slot T r)) (done (T .view) (doS (slot T r)))
-            (done-sound (T .view) (doS (slot T r)) (R .sound) seals) (closing-asks .1),
-        held-done (T .view) (doS (slot T r)) (R .sound) seals,
-      )
-
-  pub closing-few : length (freedClosing T r) ≤ T .view .blocks
-  closing-few = omega (arith, seal-held (T .view) (slot T r) (R .sound) seals (T .notes .names) (windowOf T r), held-le (T .view))

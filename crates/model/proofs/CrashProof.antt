@@ -1,7 +1,7 @@
 -- A PLUG PULLED: the log of a store, cut at any byte. The statement is `Crash` in specs/Crash.antt.
 use mathlib.Core.Path.{_≡_, refl, sym, ap, ap₂, _∙_, subst}
 use mathlib.Core.Logic.{_⊎_, inl, inr}
-use mathlib.Core.Bool.{Bool, true, false, cond, _&&_, false≢true}
+use mathlib.Core.Bool.{Bool, true, false, cond, not, _&&_, false≢true}
 use mathlib.Core.List.{List, [], _∷_, _++_, append-assoc, append-nil}
 use Prim.Native.Nat.{ℕ, zero, suc, _+_, _-_, _*_, _%_, _≤_, _<_}
 use native.Mathlib.Omega.{arith}
@@ -24,10 +24,11 @@ use Rattle.model.specs.Lists.{In, Pairwise}
 use Rattle.model.specs.Sound.{Sound}
 use Rattle.model.specs.Actions.{Action, Asks, done}
 use Rattle.model.specs.Held.{held, frees}
-use Rattle.model.specs.State.{State}
-use Rattle.model.specs.Window.{steps, freesAlong, AsksAlong, actedAll}
-use Rattle.model.specs.Calls.{Account, looking, opening, freeing, closing, placing, marking, renewing, account, renews, refusalsBy, wordsBy, leftBy}
-use Rattle.model.specs.Calls.{freed, closes, block, writing, conditions, result, acted, given, effect}
+use Rattle.model.specs.State.{State, withNotes, QueueFits}
+use Rattle.model.specs.Window.{AsksAlong, queueing}
+use Rattle.model.specs.Calls.{Account, looking, opening, freeing, closing, removing, reclaiming, placing, marking, renewing, account, renews, refusalsBy}
+use Rattle.model.specs.Calls.{wordsBy, leftBy, begunNotes, sealedNotes, freed, closes, deleting, firstQueued, reclaimed, reclaimedWords, found, block}
+use Rattle.model.specs.Calls.{writing, conditions, result, acted, given, effect}
 use Rattle.model.specs.Layout.{stateOf}
 use Rattle.model.specs.Memory.{Memory, wordsUsed, reply, makeAfter}
 use Rattle.model.specs.SoundStore.{SoundStore}
@@ -39,11 +40,14 @@ use Rattle.model.specs.Crash.{isC, compacts?, Compacts, Ended, heard, en
 use Rattle.model.specs.Command.{Command}
 use Rattle.model.specs.Command.{Write}
 use Rattle.model.proofs.ByNumber.{none-at}
-use Rattle.model.proofs.ListFacts.{in-left, in-right}
+use Rattle.model.proofs.Facts.{held-inside}
+use Rattle.model.proofs.ListFacts.{in-left, in-right, in?}
 use Rattle.model.proofs.HeldFacts.{frees-is}
 use Rattle.model.proofs.ChoiceFacts.{given-block}
 use Rattle.model.proofs.CallKinds.{none-left}
-use Rattle.model.proofs.WindowMoves.{Giveless, frees-along-is}
+use Rattle.model.proofs.Waiting.{not-in-elem}
+use Rattle.model.proofs.WindowMoves.{Giveless}
+use Rattle.model.proofs.Queueing.{held-on, held-queued, not-held, held-same, held-queueing, held-reclaimed}
 use Rattle.model.proofs.Closing.{closing-first, closing-asks, closing-giveless}
 use Rattle.model.proofs.EachCall.{Fits, fits}
 use Rattle.model.proofs.Fine.{Fine, asks-W}
@@ -79,7 +83,7 @@ abbrev pub wordsAfter : Geometry → Memory → List Own → ℕ
 wordsAfter g M l = wordsUsed (run g M l)
 
 abbrev pub heldThen : Geometry → Memory → List Own → ℕ → Bool
-heldThen g M l = held (stateOf g (run g M l .tables) .view)
+heldThen g M l = held (stateOf g (run g M l .tables))
 
 -- ── where the calls since the last C begin ──
 
@@ -89,6 +93,8 @@ renews-all (looking s cs res note) n m l e = absurd (false≢true e)
 renews-all (opening cs a) n m l e = absurd (false≢true e)
 renews-all (freeing cs a) n m l e = absurd (false≢true e)
 renews-all (closing r) n m l e = absurd (false≢true e)
+renews-all (removing r) n m l e = absurd (false≢true e)
+renews-all (reclaiming k) n m l e = absurd (false≢true e)
 renews-all (placing r x k) n m l e = absurd (false≢true e)
 renews-all marking n m l e = absurd (false≢true e)
 renews-all renewing n m l e = refl
@@ -261,13 +267,13 @@ module _ (g : Geometry) (inside : Inside g) where
   -- the used part of a sound store's log, and plain bytes after it, cut
   reads-cut : (E : Memory) → SoundStore g (E .tables) (E .log) → Whole g E → Ends (usedOf g E) → (tail : List ℕ) → NoBarrier (words tail) →
       (k : ℕ) (out : List ℕ) → 2 * blocks g + 64 ≤ length out →
-      readReply g (usedOf g E ++ take k tail) out ≡ accepted (passing (held (stateOf g (E .tables) .view)) 0 (blocks g))
+      readReply g (usedOf g E ++ take k tail) out ≡ accepted (passing (held (stateOf g (E .tables))) 0 (blocks g))
   unfolding readable heldAtEnd heldBlocks marksOf
   reads-cut E S w e tail p k out h =
       settled-judged g (usedOf g E ++ take k tail) out ∙
       ap (λ l. everyReply g l out) (settled-cut (usedOf g E) tail k (omega (arith, w)) p e) ∙
       every-accepted g (usedOf g E) out inside h (S .logged .readable) ∙
-      ap accepted (passing-ext (heldIn (marksOf g (usedOf g E))) (held (stateOf g (E .tables) .view)) 0 (blocks g) (λ i l. S .logged .marks i (omega arith)))
+      ap accepted (passing-ext (heldIn (marksOf g (usedOf g E))) (held (stateOf g (E .tables))) 0 (blocks g) (λ i l. S .logged .marks i (omega arith)))
 
   module _ (M : Memory) (S : SoundStore g (M .tables) (M .log)) (bare : wordsUsed M ≡ 0) (l : List Own) (n : ℕ) (most : n ≤ 8 * wordsAfter g M l) where
     -- nothing is used at first
@@ -348,28 +354,44 @@ module _ (g : Geometry) (inside : Inside g) where
 
 -- ── a block that was held is not given before the next barrier ──
 
--- an action keeps a block that is held or waits so
-acted-stays : (T : State) (a : Action) (k b : ℕ) → Sound (T .view) → Asks (T .view) a → (0 < T .view .birth b) ⊎ In b (T .waiting) →
-    (0 < acted T a k .view .birth b) ⊎ In b (acted T a k .waiting)
+-- a block that is held, on a page or in the queue, or waits
+abbrev Kept : ℕ → State → Type 0
+Kept b T = (held T b ≡ true) ⊎ In b (T .waiting)
+
+-- an action keeps it so
+acted-stays : (T : State) (a : Action) (k b : ℕ) → Sound (T .view) → Asks (T .view) a → Kept b T → Kept b (acted T a k)
 unfolding acted
 acted-stays T a k b S q o =
     cases o
+    (λ y. cases (held-born T b y)
     (λ h. cases (same? (done (T .view) a .birth b) 0)
     (λ e. inr (in-right b (T .waiting) (frees (T .view) a) (frees-is (T .view) a S q b .1 (h, e))))
-    (λ n. inl (omega arith)))
+    (λ n. inl (held-on (acted T a k) b (omega arith))))
+    (λ h. inl (held-queued (acted T a k) b h)))
     (λ i. inr (in-left b (T .waiting) (frees (T .view) a) i))
 
--- so do some one after another
-all-stays : (T : State) (l : List Action) (k b : ℕ) → Sound (T .view) → AsksAlong (T .view) l →
-    Giveless l → (0 < T .view .birth b) ⊎ In b (T .waiting) →
-    (0 < actedAll T l k .view .birth b) ⊎ In b (actedAll T l k .waiting)
-unfolding actedAll
-all-stays T l k b S q n o =
+-- actions that queue blocks keep it so
+queueing-stays : (T : State) (l : List Action) (b : ℕ) → Sound (T .view) → AsksAlong (T .view) l → Giveless l → Kept b T → Kept b (queueing T l)
+unfolding queueing
+queueing-stays T l b S q n o = cases o (λ y. inl (held-queueing T l S q n b ∙ y)) (λ i. inr i)
+
+-- and a turn
+turn-stays : (T : State) (k n b : ℕ) → QueueFits T → Kept b T → Kept b (reclaimed T k n)
+unfolding reclaimed
+turn-stays T k n b F o =
+    let fs = firstQueued T k in
     cases o
-    (λ h. cases (same? (steps (T .view) l .birth b) 0)
-    (λ e. inr (in-right b (T .waiting) (freesAlong (T .view) l) (frees-along-is (T .view) l S q n b .1 (h, e))))
-    (λ n. inl (omega arith)))
-    (λ i. inr (in-left b (T .waiting) (freesAlong (T .view) l) i))
+    (λ y. cases (in? b fs)
+    (λ i. inr (in-right b (T .waiting) fs i))
+    (λ i. inl (held-reclaimed T k n F b ∙ ap₂ (λ s t. s && not t) y (not-in-elem b fs i))))
+    (λ i. inr (in-left b (T .waiting) fs i))
+
+-- other notes, marks and counts change nothing of it
+same-kept : (b : ℕ) (T U : State) → U .view ≡ T .view → U .queue ≡ T .queue → U .waiting ≡ T .waiting → Kept b T → Kept b U
+same-kept b T U e d w o =
+    cases o
+    (λ y. inl (held-same T U b (ap (λ K. K .birth b) e) (ap (λ Q. Q .birth b) d) ∙ y))
+    (λ i. inr (subst (In b) (sym w) i))
 
 -- the numbers of an accepted reply
 numbersOf : Reply → List ℕ
@@ -382,38 +404,43 @@ same-list l m e = ap numbersOf e
 
 module _ (g : Geometry) (inside : Inside g) where
   module _ (T : State) (R : Fine g T) (b : ℕ) where
-    abbrev Kept : State → Type 0
-    Kept U = (0 < U .view .birth b) ⊎ In b (U .waiting)
-
-    stays-by : (c : Command) (A : Account) → Fits g T c A → NoneHolds (refusalsBy g T A) → syncsBy A ≡ false → Kept T → Kept (leftBy g T A)
+    stays-by : (c : Command) (A : Account) → Fits g T c A → NoneHolds (refusalsBy g T A) → syncsBy A ≡ false → Kept b T → Kept b (leftBy g T A)
     unfolding given
-    stays-by c (looking s cs res note) f n e o = o
-    stays-by c (opening cs a) f n e o = acted-stays T (a T) 0 b (R .sound) (f n .asks) o
+    stays-by c (looking s cs res note) f n e o = same-kept b T (withNotes T (note T)) refl refl refl o
+    stays-by c (opening cs a) f n e o =
+        same-kept b (acted T (a T) 0) (withNotes (acted T (a T) 0) (begunNotes T)) refl refl refl (acted-stays T (a T) 0 b (R .sound) (f n .asks) o)
     stays-by c (freeing cs a) f n e o = acted-stays T (a T) (length (freed T (a T))) b (R .sound) (f (none-left (cs g T) _ n) .asks) o
     stays-by c (closing r) f n e o =
         let m = closing-first g T r n in
-        all-stays T (closes T r) (length (wordsBy g T (closing r))) b (R .sound) (closing-asks g inside T R r m) (closing-giveless g inside T R r m) o
-    stays-by c (placing r x j) f n e o = acted-stays T (writing g T r x j) (length (wordsBy g T (placing r x j))) b (R .sound) (asks-W g inside T R r x j n) o
+        let U : State = queueing T (closes T r) in
+        same-kept b U (withNotes U (sealedNotes T r)) refl refl refl
+        (queueing-stays T (closes T r) b (R .sound) (closing-asks g inside T R r m) (closing-giveless g inside T R r m) o)
+    stays-by c (removing r) f n e o = queueing-stays T (deleting T r ∷ []) b (R .sound) (f n .asks, tt) (λ c y. y, tt) o
+    stays-by c (reclaiming k) f n e o = turn-stays T k (length (reclaimedWords T k)) b (R .queue) o
+    stays-by c (placing r x j) f n e o =
+        let U : State = acted T (writing g T r x j) (length (wordsBy g T (placing r x j))) in
+        same-kept b U (given g U (found g T j)) refl refl refl
+        (acted-stays T (writing g T r x j) (length (wordsBy g T (placing r x j))) b (R .sound) (asks-W g inside T R r x j n) o)
     stays-by c marking f n e o = absurd (false≢true (sym e))
     stays-by c renewing f n e o = absurd (false≢true (sym e))
 
-    stays : (c : Command) → NoneHolds (conditions g T c) → syncs c ≡ false → Kept T → Kept (effect g T c)
+    stays : (c : Command) → NoneHolds (conditions g T c) → syncs c ≡ false → Kept b T → Kept b (effect g T c)
     stays c n e o = stays-by c (account c) (fits g inside T R c) n e o
 
     -- and it is not given
-    not-given : (c : Command) (l : List ℕ) → NoneHolds (conditions g T c) → result g T c ≡ l → Kept T → GaveBy b c (accepted l) → ⊥
+    not-given : (c : Command) (l : List ℕ) → NoneHolds (conditions g T c) → result g T c ≡ l → Kept b T → GaveBy b c (accepted l) → ⊥
     not-given c l n e o G =
         let m = subst (λ d. NoneHolds (conditions g T d)) (G .call) n in
         let q = given-block g inside T (R .range) (G .k) (none-at (conditions g T (Write (G .r) (G .x) (G .k))) m 13) in
         let f : block g T (G .k) ≡ b =
         same-first (block g T (G .k)) b _ (G .rest) (ap (result g T) (sym (G .call)) ∙ e ∙ same-list l (b ∷ G .rest) (G .answer)) in
         cases o
-        (λ h. let z : ⊥ = omega (arith, q .1, ap (T .view .birth) f) in z)
+        (λ y. false≢true (sym (not-held T (block g T (G .k)) (q .1) (q .3)) ∙ ap (held T) f ∙ y))
         (λ i. q .2 (subst (λ d. In d (T .waiting)) (sym f) i))
 
   -- along calls with no accepted Y or C
   pub untouched : (m : List Own) (M : Memory) (b : ℕ) → SoundStore g (M .tables) (M .log) → (Some Synced (historyFrom (ownStore g) M m) → ⊥) →
-      (0 < stateOf g (M .tables) .view .birth b) ⊎ In b (stateOf g (M .tables) .waiting) → Some (Gives b) (historyFrom (ownStore g) M m) → ⊥
+      Kept b (stateOf g (M .tables)) → Some (Gives b) (historyFrom (ownStore g) M m) → ⊥
   untouched [] M b S n o i = i
   untouched (a ∷ m) M b S n o i =
       go (untouched m (ownStore g .after M a) b (calls-keep-sound g (withOut M (a .out)) (a .call) S) (λ j. n (inr j)))
@@ -425,13 +452,12 @@ module _ (g : Geometry) (inside : Inside g) where
       T : State
       T = stateOf g (M .tables)
 
-      go : ((0 < stateOf g (ownStore g .after M a .tables) .view .birth b) ⊎ In b (stateOf g (ownStore g .after M a .tables) .waiting) →
-          Some (Gives b) (historyFrom (ownStore g) (ownStore g .after M a) m) → ⊥) →
+      go : (Kept b (stateOf g (ownStore g .after M a .tables)) → Some (Gives b) (historyFrom (ownStore g) (ownStore g .after M a) m) → ⊥) →
           (r : Reply) → reply g (withOut M (a .out)) (a .call) ≡ r → ⊥
       go next (refused k) e =
           cases i
           (λ j. let w : Some (λ v. v ≡ give b) (eventsOf (a .call) (refused k)) = subst (λ r. Some (λ v. v ≡ give b) (eventsOf (a .call) r)) e j in w)
-          (next (subst (λ t. (0 < stateOf g t .view .birth b) ⊎ In b (stateOf g t .waiting)) (sym (refused-tables g N (a .call) k e)) o))
+          (next (subst (λ t. Kept b (stateOf g t)) (sym (refused-tables g N (a .call) k e)) o))
       go next (accepted l) e =
           let A = Rattle.model.proofs.Keeps.accepted-is g N (a .call) l e in
           let R = sound-fine g (M .tables) (M .log) S in
@@ -439,7 +465,7 @@ module _ (g : Geometry) (inside : Inside g) where
           cases i
           (λ j. not-given T R b (a .call) l (A .0 .none) (A .1) o
           (gave-by b (a .call) (accepted l) (subst (λ r. Some (λ v. v ≡ give b) (eventsOf (a .call) r)) e j)))
-          (next (subst (λ U. (0 < U .view .birth b) ⊎ In b (U .waiting)) (sym (accepted-state g N (a .call) l e)) (stays T R b (a .call) (A .0 .none) c o)))
+          (next (subst (Kept b) (sym (accepted-state g N (a .call) l e)) (stays T R b (a .call) (A .0 .none) c o)))
 
 -- ── the blocks that pass a test, rising ──
 
@@ -471,11 +497,11 @@ module _ (t : ℕ → Bool) where
       go false first later = later
 
 -- a held block is a block of the store
-held-below : (g : Geometry) (T : State) → Fine g T → (b : ℕ) → held (T .view) b ≡ true → b < blocks g
-held-below g T R b h =
-    let (s, x, o) = R .sound .block b (held-born (T .view) b h) in
-    let p = R .sound .paged s x b (o .live) (o .there) in
-    omega (arith, p .inside, R .blocks)
+held-below : (g : Geometry) (T : State) → Fine g T → (b : ℕ) → held T b ≡ true → b < blocks g
+held-below g T R b y =
+    cases (held-born T b y)
+    (λ h. omega (arith, held-inside (T .view) (R .sound) b h, R .blocks))
+    (λ h. omega (arith, R .queue .below b (R .queue .births b .1 h), R .blocks))
 
 -- A PLUG PULLED
 pub crash : Crash
@@ -508,18 +534,18 @@ crash g M e l n least most =
       from = omega (arith, f .from, used-told g M e (f .early));
       upTo = subst (UpTo g F (f .early ++ f .mid) (f .late) n) (used-told g M e (f .early ++ f .mid)) (f .upTo);
       reads = λ out h. (
-        passing (held (T .view)) 0 (blocks g),
+        passing (held T) 0 (blocks g),
         cut-reads g inside F S bare l n end f out h,
         record {
-          rising = passing-rises (held (T .view)) 0 (blocks g);
+          rising = passing-rises (held T) 0 (blocks g);
           held = λ b. (
-            λ i. let (y, up) = of-passing (held (T .view)) 0 (blocks g) b i in told b .0 y,
+            λ i. let (y, up) = of-passing (held T) 0 (blocks g) b i in told b .0 y,
             λ o.
                 let y = told b .1 o in
                 let low = held-below g T (sound-fine g (E .tables) (E .log) sound) b y in
-                in-passing (held (T .view)) 0 (blocks g) b y (omega arith) (omega (arith, low)),
+                in-passing (held T) 0 (blocks g) b y (omega arith) (omega (arith, low)),
           );
         },
       );
-      kept = λ b o. untouched g inside (f .mid) E b sound (f .quiet) (inl (held-born (T .view) b (told b .1 o)));
+      kept = λ b o. untouched g inside (f .mid) E b sound (f .quiet) (inl (told b .1 o));
     }

@@ -14,18 +14,20 @@ use Rattle.geometry.specs.declared.Geometry.{Geometry}
 use Rattle.geometry.specs.Limits.{Inside, blocks}
 use Rattle.log.specs.Runs.{runs}
 use Rattle.model.specs.View.{View}
-use Rattle.model.specs.Lists.{In, onPage, afterFirst}
+use Rattle.model.specs.Lists.{In, onPage}
 use Rattle.model.specs.Results.{paired}
 use Rattle.model.specs.Actions.{Action, doB, doW, doE, doS, doF, doD, Asks, slotOf, vacant}
 use Rattle.model.specs.Names.{emptyRow, rowOf}
 use Rattle.model.specs.State.{State, Notes, withWindow, WindowsFit, synced}
-use Rattle.model.specs.Calls.{Account, looking, opening, freeing, closing, placing, marking, renewing, account, slot, badWindow, noRecord, isSealed}
+use Rattle.model.specs.Calls.{Account, looking, opening, freeing, closing, removing, reclaiming, placing, marking, renewing, account, slot}
+use Rattle.model.specs.Calls.{badWindow, noRecord, isSealed, undeletable, deleting}
 use Rattle.model.specs.Calls.{pairs, freeList, logged, refusalsBy, conditions, carrier, attached, detached, badName, notAttached, unknownName}
 use Rattle.model.specs.Book.{Book, retained, nameAdded, accept}
 use Rattle.model.specs.declared.Spelling.{Spelling}
-use Rattle.model.specs.declared.Spelling.the-variants.{Numbers, Blocks, NumberAndBlocks}
+use Rattle.model.specs.declared.Spelling.the-variants.{Numbers, Blocks}
 use Rattle.model.specs.Command.{Command}
-use Rattle.model.specs.Command.{Begin, Write, Erase, Seal, Fork, Delete, Read, Barrier, Compress, FreeList, Estimate, Retain, Attach, Detach, Resolve}
+use Rattle.model.specs.Command.{Begin, Write, Erase, Seal, Fork, Delete, Read, Barrier, Compress, FreeList, Estimate, Retain, Reclaim}
+use Rattle.model.specs.Command.{Attach, Detach, Resolve}
 use Rattle.model.proofs.Agree.{Agree}
 use Rattle.model.proofs.TabFacts.{put-at, put-other}
 use Rattle.model.proofs.BookFacts.{entered}
@@ -44,13 +46,15 @@ use Rattle.model.proofs.Few.{page-one, runs-le, Few}
 
 -- ── of a call alone ──
 
--- its refusals stand in their order; one that frees does the same with any log and any blocks waiting; Y and C leave the book;
--- S, W, Y and C are the only calls of their kinds
+-- its refusals stand in their order; one that frees does the same with any log and any blocks waiting; T, Y and C leave the book;
+-- S, D, T, W, Y and C are the only calls of their kinds
 abbrev pub Is : Command → Account → Type 0
 Is c (looking s cs res note) = (g : Geometry) (T : State) → Between 4 (place 14) (cs g T)
 Is c (opening cs a) = (T : State) → Opens (a T) × Between 4 (place 11) (cs T)
 Is c (freeing cs a) = (g : Geometry) (T : State) → Frees (a T) × Between 4 (place 14) (cs g T) × ((n : ℕ) → a (synced (logged T n)) ≡ a T)
 Is c (closing r) = c ≡ Seal r
+Is c (removing r) = c ≡ Delete r
+Is c (reclaiming k) = (c ≡ Reclaim k) × ((P : ℕ) (B : Book) (b : ℕ) → accept P B c b ≡ B)
 Is c (placing r x k) = c ≡ Write r x k
 Is c marking = (c ≡ Barrier) × ((P : ℕ) (B : Book) (b : ℕ) → accept P B c b ≡ B)
 Is c renewing = (c ≡ Compress) × ((P : ℕ) (B : Book) (b : ℕ) → accept P B c b ≡ B)
@@ -62,13 +66,14 @@ is (Write r x k) = refl
 is (Erase r x) = λ g T. (tt, omega arith, λ n. refl)
 is (Seal r) = refl
 is (Fork r) = λ T. (tt, omega arith)
-is (Delete r) = λ g T. (tt, omega arith, λ n. refl)
+is (Delete r) = refl
 is (Read r x) = λ g T. omega arith
 is Barrier = (refl, λ P B b. refl)
 is Compress = (refl, λ P B b. refl)
 is FreeList = λ g T. omega arith
 is (Estimate r) = λ g T. omega arith
 is (Retain r n) = λ g T. omega arith
+is (Reclaim k) = (refl, λ P B b. refl)
 is (Attach l r) = λ g T. omega arith
 is (Detach l) = λ g T. omega arith
 is (Resolve l) = λ g T. omega arith
@@ -84,7 +89,6 @@ pub record Held (T : State) (l : List ℕ) : Type 0 where
 abbrev pub HeldIf : State → Spelling → List ℕ → Type 0
 HeldIf T Numbers l = Unit {0}
 HeldIf T Blocks l = Held T l
-HeldIf T NumberAndBlocks l = Held T (afterFirst l)
 
 -- an action as a call, by numbers (with kind 0)
 abbrev pub named : View → Action → Command
@@ -117,6 +121,8 @@ Fits g T c (looking s cs res note) = NoneHolds (cs g T) → Few g (res g T) × H
 Fits g T c (opening cs a) = NoneHolds (refusalsBy g T (opening cs a)) → Does T c (a T)
 Fits g T c (freeing cs a) = NoneHolds (cs g T) → Does T c (a T)
 Fits g T c (closing r) = Unit {0}
+Fits g T c (removing r) = NoneHolds (undeletable T r) → Does T c (deleting T r)
+Fits g T c (reclaiming k) = Unit {0}
 Fits g T c (placing r x k) = Unit {0}
 Fits g T c marking = Unit {0}
 Fits g T c renewing = Unit {0}
@@ -228,7 +234,7 @@ module _ (g : Geometry) (inside : Inside g) (T : State) (R : Fine g T) where
       let e = is-named r (past 8) in
       record { asks = asks-F g inside T R r n; name = ap Fork e; nameless = tt; book = λ P B b. ap (λ m. accept P B (Fork m) b) e }
   fits (Delete r) = λ n.
-      let past = none-at (ownRefusals g T (account (Delete r))) n in
+      let past = none-at (undeletable T r) n in
       let e = is-named r (past 8) in
       record {
         asks = asks-D g inside T R r (past 8) (past 10);
@@ -246,6 +252,7 @@ module _ (g : Geometry) (inside : Inside g) (T : State) (R : Fine g T) where
   fits FreeList = λ n. (inl (omega (arith, listed-le)), tt, nothing-noted FreeList (λ P B b. refl))
   fits (Estimate r) = λ n. (inr (omega arith), tt, nothing-noted (Estimate r) (λ P B b. refl))
   fits (Retain r k) = λ n. (inr (omega arith), tt, window-noted r k n)
+  fits (Reclaim k) = tt
   fits (Attach l r) = λ n. (inr (omega arith), tt, name-attached l r n)
   fits (Detach l) = λ n. (inr (omega arith), tt, name-detached l n)
   fits (Resolve l) = λ n. (inr (omega arith), tt, nothing-noted (Resolve l) (λ P B b. refl))

@@ -1,40 +1,35 @@
--- Q foretells what a deletion frees and writes, and changes nothing (3.12).
+-- Q foretells how many blocks a deletion queues, and changes nothing (3.12).
 use mathlib.Core.Path.{_≡_, refl, sym, ap, ap₂, _∙_, subst}
-use mathlib.Core.Bool.{Bool, true, false}
-use mathlib.Core.List.{List, [], _∷_}
-use Prim.Native.Nat.{ℕ, zero, suc, pred, _+_, _-_, _*_, _≤_}
+use mathlib.Core.List.{List, [], _∷_, _++_, append-nil}
+use Prim.Native.Nat.{ℕ, zero, suc, _+_}
 use native.Mathlib.Omega.{arith}
-use lib.ListN.{length}
-use borrow.Author.Tests.{lt-ltb, le-ltb}
+use lib.ListN.{length, length-append}
 use Rattle.answer.specs.Reply.{Reply, accepted, refused}
-use Rattle.answer.specs.Refusal.{decide, leaves}
+use Rattle.answer.specs.Refusal.{leaves}
+use Rattle.answer.proofs.Decided.{decide-accepts}
 use Rattle.geometry.specs.declared.Geometry.{Geometry}
-use Rattle.geometry.specs.Limits.{blocks}
 use Rattle.log.specs.Word.{writeAt, bytesOf}
 use Rattle.log.proofs.Writing.{write-none}
 use Rattle.model.specs.View.{View, predNum}
-use Rattle.model.specs.Results.{paired, blocksIn}
 use Rattle.model.specs.Sound.{Sound}
-use Rattle.model.specs.Actions.{doD, slotOf, follower}
+use Rattle.model.specs.Actions.{follower}
 use Rattle.model.specs.Held.{frees, shardsFreed}
 use Rattle.model.specs.State.{State}
-use Rattle.model.specs.Calls.{account, slot, written, short, conditions, acted, logged}
+use Rattle.model.specs.Window.{freesAlong, queueing}
+use Rattle.model.specs.Calls.{slot, deleting, conditions}
 use Rattle.model.specs.Layout.{stateOf, stored}
 use Rattle.model.specs.Memory.{Memory, lent, wordsUsed, writtenAt, reply, after}
-use Rattle.model.specs.Demand.{withOut}
-use Rattle.model.specs.Estimate.{EstimateStill, EstimateRefusals, behind, EstimateTrue, Enough, EstimateEnough, ShardsCounted, ShardsAreCounted}
-use Rattle.model.specs.Command.{Delete, Compress, Estimate}
+use Rattle.model.specs.Estimate.{EstimateStill, EstimateRefusals, behind, queueLength, EstimateTrue, EstimateEnough, ShardsCounted, ShardsAreCounted}
+use Rattle.model.specs.Command.{Delete, Estimate}
 use Rattle.model.proofs.ByNumber.{none-at}
-use Rattle.model.proofs.CallKinds.{ownRefusals, decide-right}
 use Rattle.model.proofs.DoneSound.{hit, miss}
 use Rattle.model.proofs.Fine.{named-slot}
 use Rattle.model.proofs.Keeps.{Accepted, accepted-is, accepted-state, sound-fine}
 use Rattle.model.proofs.Replies.{reply-sound}
 use Rattle.model.proofs.Restored.{stored-state}
-use Rattle.model.proofs.ResultFacts.{blocks-in-paired}
 use Rattle.model.proofs.ShardFacts.{births-above}
 
--- ── it has D's refusals except 14 ──
+-- ── it has D's refusals ──
 
 pub estimate-refusals : EstimateRefusals
 estimate-refusals g M r = refl
@@ -62,84 +57,44 @@ estimate-still g M r = go (reply g M (Estimate r)) refl
 met : (g : Geometry) (M : Memory) (r : ℕ) (out : List ℕ) → behind g M r out ≡ lent (M .tables) (M .log) out
 met g M r out = let (t, l) = estimate-still g M r in ap₂ (λ (a b : List ℕ). lent a b out) t l
 
--- the blocks that D r frees, by the records alone
-abbrev freesOf : View → ℕ → List ℕ
-freesOf K r = frees K (doD (pred (slotOf K r)))
+-- what an accepted D leaves: the queue is so many blocks longer, and no word was written
+queue-after : (g : Geometry) (N : Memory) (r : ℕ) (l : List ℕ) → reply g N (Delete r) ≡ accepted l →
+    queueLength g (after g N (Delete r)) ≡ queueLength g N + length (frees (stateOf g (N .tables) .view) (deleting (stateOf g (N .tables)) r))
+unfolding queueing freesAlong
+queue-after g N r l e =
+    let T : State = stateOf g (N .tables) in
+    ap (λ (U : State). length (U .queue .list)) (accepted-state g N (Delete r) l e) ∙
+    length-append (T .queue .list) (frees (T .view) (deleting T r) ++ []) ∙
+    ap (λ (m : List ℕ). length (T .queue .list) + length m) (append-nil (frees (T .view) (deleting T r)))
 
-freed-are : (g : Geometry) (N : Memory) (r : ℕ) (l : List ℕ) → reply g N (Delete r) ≡ accepted l → freesOf (stateOf g (N .tables) .view) r ≡ blocksIn l
-freed-are g N r l e =
-    let K : View = stateOf g (N .tables) .view in sym (blocks-in-paired (K .birth) (freesOf K r)) ∙ ap blocksIn (accepted-is g N (Delete r) l e .1)
-
-words-after : (g : Geometry) (N : Memory) (r : ℕ) (l : List ℕ) → reply g N (Delete r) ≡ accepted l →
-    wordsUsed (after g N (Delete r)) ≡ wordsUsed N + length (written g (stateOf g (N .tables)) (Delete r))
-unfolding stateOf acted
+words-after : (g : Geometry) (N : Memory) (r : ℕ) (l : List ℕ) → reply g N (Delete r) ≡ accepted l → wordsUsed (after g N (Delete r)) ≡ wordsUsed N
+unfolding stateOf queueing
 words-after g N r l e = ap (λ (T : State). T .used) (accepted-state g N (Delete r) l e)
-
--- C leaves the records as they are
-view-after-C : (g : Geometry) (N : Memory) (k : List ℕ) → reply g N Compress ≡ accepted k →
-    stateOf g (after g N Compress .tables) .view ≡ stateOf g (N .tables) .view
-unfolding logged
-view-after-C g N k e = ap (λ (T : State). T .view) (accepted-state g N Compress k e)
 
 pub estimate-true : EstimateTrue
 estimate-true g M r q e =
     let T : State = stateOf g (M .tables) in
     record {
-      freed = length (freesOf (T .view) r);
-      words = length (written g T (Delete r));
+      blocks = length (frees (T .view) (deleting T r));
+      words = 0;
       shards = shardsFreed (T .view) (slot T r) (follower (T .view) (slot T r));
       three = sym (accepted-is g M (Estimate r) q e .1);
+      none = refl;
       exactly = λ out. rw (met g M r out) (λ l d. (
-        ap length (sym (freed-are g (lent (M .tables) (M .log) out) r l d)),
-        words-after g (lent (M .tables) (M .log) out) r l d,
+        queue-after g (lent (M .tables) (M .log) out) r l d,
+        omega (arith, words-after g (lent (M .tables) (M .log) out) r l d),
       ));
-      behindC = λ out out′ k. rw (met g M r out) (λ l c d.
-          let N : Memory = lent (M .tables) (M .log) out in
-          ap length (sym (freed-are g (withOut (after g N Compress) out′) r l d)) ∙ ap (λ K. length (freesOf K r)) (view-after-C g N k c));
     }
 
--- ── room for its words ──
-
-module _ (g : Geometry) (M : Memory) (r a w v : ℕ) (out : List ℕ) (e : reply g M (Estimate r) ≡ accepted (a ∷ w ∷ v ∷ []))
-    (long : 2 * blocks g + 64 ≤ length out) where
-  abbrev N : Memory
-  N = lent (M .tables) (M .log) out
-
-  abbrev T : State
-  T = stateOf g (M .tables)
-
-  -- the numbers of that D's result
-  abbrev freed : State → List ℕ
-  freed U = paired (U .view .birth) (freesOf (U .view) r)
-
-  A : Accepted g M (Estimate r)
-  A = accepted-is g M (Estimate r) (a ∷ w ∷ v ∷ []) e .0
-
-  words-are : length (written g T (Delete r)) ≡ w
-  words-are = second (accepted-is g M (Estimate r) (a ∷ w ∷ v ∷ []) e .1)
-    where
-      second : {b c d : ℕ} → b ∷ c ∷ d ∷ [] ≡ a ∷ w ∷ v ∷ [] → c ≡ w
-      second i = ap (λ l. lib.ListN.getD l 1 0) i
-
-  -- none of the refusals that Q has too is true, so 14 decides
-  decided : reply g N (Delete r) ≡ decide ((14, short g T (Delete r)) ∷ []) (freed T)
-  decided =
-      reply-sound g N (Delete r) (A .inside) (record { tables = A .long .tables; log = A .long .log; out = long }) (A .sound) ∙
-      decide-right (ownRefusals g T (account (Delete r))) ((14, short g T (Delete r)) ∷ []) (freed T) (A .none)
-
-  enough : Enough g M r w out
-  unfolding stateOf
-  enough =
-      let same : reply g (behind g M r out) (Delete r) ≡ reply g N (Delete r) = ap (λ (m : Memory). reply g m (Delete r)) (met g M r out) in
-      let by : (t : Bool) → short g T (Delete r) ≡ t → reply g (behind g M r out) (Delete r) ≡ decide ((14, t) ∷ []) (freed T) =
-      λ t i. same ∙ decided ∙ ap (λ (s : Bool). decide ((14, s) ∷ []) (freed T)) i in
-      record {
-        accepts = λ h. (freed T, by false (le-ltb (g .words - T .used) (length (written g T (Delete r))) (omega (arith, words-are, A .sound .range .used))));
-        refuses = λ h. by true (lt-ltb (g .words - T .used) (length (written g T (Delete r))) (omega (arith, words-are, A .sound .range .used)));
-      }
+-- ── that D is accepted ──
 
 pub estimate-enough : EstimateEnough
-estimate-enough = enough
+estimate-enough g M r q out e long =
+    let N : Memory = lent (M .tables) (M .log) out in
+    let A : Accepted g M (Estimate r) = accepted-is g M (Estimate r) q e .0 in
+    ap (λ (m : Memory). reply g m (Delete r)) (met g M r out) ∙
+    reply-sound g N (Delete r) (A .inside) (record { tables = A .long .tables; log = A .long .log; out = long }) (A .sound) ∙
+    decide-accepts (conditions g (stateOf g (M .tables)) (Delete r)) [] (A .none)
 
 -- ── the shards ──
 

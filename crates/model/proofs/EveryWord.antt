@@ -6,13 +6,13 @@ use mathlib.Core.List.{List, [], _∷_}
 use Prim.Native.Nat.{ℕ}
 use Rattle.geometry.specs.declared.Geometry.{Geometry}
 use Rattle.log.specs.Word.{words, spell, wordBytes, bytesOf, allocated}
-use Rattle.log.specs.Marks.{heldIn, markRun, heldBlocks}
+use Rattle.log.specs.Marks.{heldIn, markRun}
 use Rattle.log.specs.Read.{free, byCode, firstWord, secondWord, byProgress, ended, readLog}
 use Rattle.log.specs.Settled.{upToBarrier, settled}
-use Rattle.log.specs.Tool.{readable, marksOf, heldAtEnd}
+use Rattle.log.specs.Tool.{readable, marksOf}
 use Rattle.model.specs.Table.{put, all}
 use Rattle.model.specs.View.{withBirth}
-use Rattle.model.specs.Held.{held}
+use Rattle.model.specs.Held.{onPages, queued, held}
 use Rattle.model.specs.State.{State, withView, withUsed, fresh}
 use Rattle.model.specs.Memory.{logHolds?}
 
@@ -36,5 +36,6 @@ pub record EveryWord : Type 0 where
   pub settles : settled log ≡ []
 
 pub every-word : EveryWord
-unfolding logHolds? readable marksOf readLog words spell wordBytes byProgress firstWord byCode secondWord markRun heldIn ended free all held fresh put settled upToBarrier
+unfolding logHolds? readable marksOf readLog words spell wordBytes byProgress firstWord byCode secondWord markRun heldIn ended free all held onPages queued
+    fresh put settled upToBarrier
 every-word = record { holds = refl; lacks = refl; settles = refl }

@@ -6,8 +6,8 @@ use lib.ListN.{length, getD}
 use Rattle.geometry.specs.declared.Geometry.{Geometry}
 use Rattle.model.specs.Actions.{Action}
 use Rattle.model.specs.State.{State}
-use Rattle.model.specs.Window.{trimming}
-use Rattle.model.specs.Calls.{Account, looking, opening, freeing, closing, placing, marking, renewing, account, slot, windowOf, acted}
+use Rattle.model.specs.Window.{trimming, queueing}
+use Rattle.model.specs.Calls.{Account, looking, opening, freeing, closing, removing, reclaiming, placing, marking, renewing, account, slot, windowOf}
 use Rattle.model.specs.Calls.{effect}
 use Rattle.model.specs.Layout.{need, stateOf, stored}
 use Rattle.model.specs.Memory.{sealedState, storedAlong, midway, storedBy}
@@ -17,13 +17,14 @@ use Rattle.model.proofs.LayoutFacts.{stored-length, stored-beyond}
 pub along-length : (g : Geometry) (T : State) (l : List Action) (t : List ℕ) → length (storedAlong g T l t) ≡ length t
 unfolding storedAlong
 along-length g T [] t = refl
-along-length g T (a ∷ l) t = along-length g (acted T a 0) l (stored g (acted T a 0) t) ∙ stored-length g (acted T a 0) t
+along-length g T (a ∷ l) t =
+    let U : State = queueing T (a ∷ []) in along-length g U l (stored g U t) ∙ stored-length g U t
 
 pub along-beyond : (g : Geometry) (T : State) (l : List Action) (t : List ℕ) (i : ℕ) → need g ≤ i → getD (storedAlong g T l t) i 0 ≡ getD t i 0
 unfolding storedAlong
 along-beyond g T [] t i h = refl
 along-beyond g T (a ∷ l) t i h =
-    along-beyond g (acted T a 0) l (stored g (acted T a 0) t) i h ∙ stored-beyond g (acted T a 0) t i h
+    let U : State = queueing T (a ∷ []) in along-beyond g U l (stored g U t) i h ∙ stored-beyond g U t i h
 
 pub midway-length : (g : Geometry) (T : State) (A : Account) (t : List ℕ) → length (midway g T A t) ≡ length t
 midway-length g T (looking s cs res note) t = refl
@@ -32,6 +33,8 @@ midway-length g T (freeing cs a) t = refl
 midway-length g T (closing r) t =
     let U = sealedState T r in
     along-length g U (trimming (U .view) (T .notes .names) (windowOf T r) (slot T r)) (stored g U t) ∙ stored-length g U t
+midway-length g T (removing r) t = refl
+midway-length g T (reclaiming k) t = refl
 midway-length g T (placing r x k) t = refl
 midway-length g T marking t = refl
 midway-length g T renewing t = refl
@@ -43,6 +46,8 @@ midway-beyond g T (freeing cs a) t i h = refl
 midway-beyond g T (closing r) t i h =
     let U = sealedState T r in
     along-beyond g U (trimming (U .view) (T .notes .names) (windowOf T r) (slot T r)) (stored g U t) i h ∙ stored-beyond g U t i h
+midway-beyond g T (removing r) t i h = refl
+midway-beyond g T (reclaiming k) t i h = refl
 midway-beyond g T (placing r x k) t i h = refl
 midway-beyond g T marking t i h = refl
 midway-beyond g T renewing t i h = refl

@@ -10,7 +10,7 @@ use Rattle.geometry.specs.declared.Geometry.{Geometry}
 use Rattle.model.specs.Table.{put, putRow, via, firstLink, seek}
 use Rattle.model.specs.Effects.{grow, close, begin, seal, fork}
 use Rattle.model.specs.Actions.{slotOf, follower, forked, power, emptyAt, vacant}
-use Rattle.model.specs.Window.{steps, freesAlong, victims, sealing, actedAll}
+use Rattle.model.specs.Window.{steps, freesAlong, victims, sealing, queueing}
 use Rattle.model.specs.Names.{noTitles, letters, validName, sameName, carries, rowOf, ownerOf, emptyRow, named, unnamed, moved, oneMore, oneLess}
 use Rattle.model.specs.Names.{countMoved}
 use Rattle.model.specs.State.{State, fresh}
@@ -57,7 +57,7 @@ unfolding fresh put putRow via firstLink seek leadingZeros power emptyAt vacant 
 begun = run (record { state = fresh small; book = emptyBook }) (Begin ∷ [])
 
 unfoldable store : Both
-unfolding begun steps freesAlong victims sealing actedAll noTitles letters validName sameName carries rowOf ownerOf emptyRow named unnamed moved
+unfolding begun steps freesAlong victims sealing queueing noTitles letters validName sameName carries rowOf ownerOf emptyRow named unnamed moved
 store = run begun (Attach easter 1 ∷ [])
 
 unfoldable read : Both

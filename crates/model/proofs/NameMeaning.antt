@@ -7,7 +7,7 @@ use Rattle.answer.specs.Reply.{refused}
 use Rattle.answer.proofs.Cases.{cases}
 use Rattle.model.specs.Layout.{stateOf}
 use Rattle.model.specs.Memory.{reply}
-use Rattle.model.specs.RefusalMeans.{Sentences, none, also, sentences, First, Absent, HasFork, LogFull, BadName, InUse, UnknownName, SecondName, RowsFull}
+use Rattle.model.specs.RefusalMeans.{none, also, sentences, First, Absent, HasFork, BadName, InUse, UnknownName, SecondName, RowsFull}
 use Rattle.model.specs.RefusalMeans.{HasAName}
 use Rattle.model.specs.Command.{Command, Delete, Estimate, Attach, Detach, Resolve}
 use Rattle.model.specs.NameMeans.{Not, NameRefusals}
@@ -71,14 +71,14 @@ module _ (P R : Type 0) where
     λ w. inr (w .0, inl (refl, w .1)),
   )
 
--- D and Q: 8, 10, 18, and what may follow
-module _ (P Q R : Type 0) (ss : Sentences) (other : First 18 ss → ⊥) where
-  first-18 : First 18 (also 8 P (also 10 Q (also 18 R ss))) ↔ (Not P × (Not Q × R))
+-- D and Q: 8, 10, 18
+module _ (P Q R : Type 0) where
+  first-18 : First 18 (also 8 P (also 10 Q (also 18 R none))) ↔ (Not P × (Not Q × R))
   first-18 = (
     λ f.
         let w = passes (differs 8 18 (inl (omega arith))) f in
         let v = passes (differs 10 18 (inl (omega arith))) (w .1) in
-        (w .0, (v .0, stops other (v .1))),
+        (w .0, (v .0, stops (λ z. z) (v .1))),
     λ w. inr (w .0, inr (w .1 .0, inl (refl, w .1 .1))),
   )
 
@@ -91,8 +91,6 @@ name-refusals g M inside long sound =
     let T = stateOf g (M .tables) in
     let exactly : (c : Command) (n : ℕ) → (reply g M c ≡ refused n) ↔ First n (sentences g T c) =
     λ c n. refused-exactly g M c n inside (is-long g M long) sound in
-    let no-14 : (S : Type 0) → First 18 (also 14 S none) → ⊥ =
-    λ S f. cases f (λ w. differs 14 18 (inl (omega arith)) (w .0)) (λ w. w .1) in
     record {
       bad-N = λ l r. both (exactly (Attach l r) 16) (first-16 (BadName l) (Absent (T .view) r) (InUse T l ⊎ (SecondName T r ⊎ RowsFull T)));
       bad-U = λ l. both (exactly (Detach l) 16) (only-16 (BadName l) (UnknownName T l));
@@ -101,7 +99,6 @@ name-refusals g M inside long sound =
       taken = λ l r. both (exactly (Attach l r) 17) (first-17 (BadName l) (Absent (T .view) r) (InUse T l ⊎ (SecondName T r ⊎ RowsFull T)));
       unknown-U = λ l. both (exactly (Detach l) 17) (only-17 (BadName l) (UnknownName T l));
       unknown-M = λ l. both (exactly (Resolve l) 17) (only-17 (BadName l) (UnknownName T l));
-      named-D = λ r. both (exactly (Delete r) 18)
-          (first-18 (Absent (T .view) r) (HasFork (T .view) r) (HasAName T r) (also 14 (LogFull g T (Delete r)) none) (no-14 (LogFull g T (Delete r))));
-      named-Q = λ r. both (exactly (Estimate r) 18) (first-18 (Absent (T .view) r) (HasFork (T .view) r) (HasAName T r) none (λ z. z));
+      named-D = λ r. both (exactly (Delete r) 18) (first-18 (Absent (T .view) r) (HasFork (T .view) r) (HasAName T r));
+      named-Q = λ r. both (exactly (Estimate r) 18) (first-18 (Absent (T .view) r) (HasFork (T .view) r) (HasAName T r));
     }

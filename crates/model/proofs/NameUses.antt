@@ -7,19 +7,18 @@ use mathlib.Core.List.{List, [], _∷_, _++_}
 use Prim.Native.Nat.{ℕ, zero, suc, _≤_}
 use native.Mathlib.Omega.{arith}
 use lib.ListN.{length}
-use Rattle.answer.specs.Reply.{Reply, accepted, refused}
+use Rattle.answer.specs.Reply.{accepted, refused}
 use Rattle.answer.specs.Refusal.{NoneBefore}
 use Rattle.answer.proofs.Cases.{cases}
 use Rattle.geometry.specs.declared.Geometry.{Geometry}
 use Rattle.geometry.specs.Limits.{Inside}
 use Rattle.model.specs.Table.{put}
-use Rattle.model.specs.Lists.{In, afterFirst}
 use Rattle.model.specs.Names.{ValidName}
 use Rattle.model.specs.Results.{blocksIn}
 use Rattle.model.specs.Layout.{stateOf}
 use Rattle.model.specs.Memory.{Memory, short?, reply, makeReply, makeAfter}
 use Rattle.model.specs.SoundStore.{SoundStore}
-use Rattle.model.specs.Book.{Book, NameOn, emptyBook, enter, openLine, pageSet, inLine, setPage, inRecs, inLines, recSealed, sealRec, recOut, dropRec}
+use Rattle.model.specs.Book.{NameOn, emptyBook, enter, openLine, pageSet, inLine, setPage, inRecs, inLines, recSealed, sealRec, recOut, dropRec}
 use Rattle.model.specs.Book.{keepLine, dropIn, windowWith, takenOut, recsOut, trimmed, namesMoved, nameAdded, nameOff}
 use Rattle.model.specs.NameBook.{HasName}
 use Rattle.model.specs.History.{Machine, Entry, stateFrom, historyFrom, book}
@@ -68,7 +67,6 @@ unfolding put emptyBook enter openLine pageSet inLine setPage inRecs inLines rec
     namesMoved
     nameAdded
     nameOff
-    afterFirst
 namesHeard H = book 2 H .names
 
 heard-1 : book 2 named-1 .names ≡ (a, 1) ∷ []

@@ -17,23 +17,23 @@ use Rattle.geometry.specs.Limits.{Inside}
 use Rattle.model.specs.Table.{via}
 use Rattle.model.specs.Lists.{In, Once}
 use Rattle.model.specs.View.{View}
-use Rattle.model.specs.Results.{paired}
 use Rattle.model.specs.Sound.{Sound}
 use Rattle.model.specs.Effects.{begin, seal, fork, erase}
 use Rattle.model.specs.Actions.{Action, doB, doW, doE, doS, doF, doD, Asks, done, follower, vacant, slotOf, delete}
 use Rattle.model.specs.Names.{Titles, ValidName, rowOf, emptyRow}
 use Rattle.model.specs.NamesAgree.{NamesAgree}
 use Rattle.model.specs.State.{State, withNotes}
-use Rattle.model.specs.Window.{steps, WindowTakes, actedAll}
-use Rattle.model.specs.Calls.{Account, looking, opening, freeing, closing, placing, marking, renewing, account, slot, newSlot, windowOf, closes}
-use Rattle.model.specs.Calls.{freedClosing, badName, noRecord, notAttached, unknownName, writing, acted, given, logged, refusalsBy, leftBy}
-use Rattle.model.specs.Calls.{conditions, result, effect}
+use Rattle.model.specs.Window.{steps, WindowTakes, queueing}
+use Rattle.model.specs.Calls.{Account, looking, opening, freeing, closing, removing, reclaiming, placing, marking, renewing, account, slot, newSlot}
+use Rattle.model.specs.Calls.{windowOf, closes, deleting, undeletable, reclaimed, badName, noRecord, notAttached, unknownName, writing, acted, given}
+use Rattle.model.specs.Calls.{logged, refusalsBy, leftBy, conditions, result, effect}
 use Rattle.model.specs.RefusalMeans.{BadName, InUse}
 use Rattle.model.specs.History.{wasAccepted}
 use Rattle.model.specs.NamingLaws.{GivesNumber, Resolves, Unused, Did, OfName, NeedsOpen, Deletes, EachNamed, Different, NamingLaws}
 use Rattle.model.specs.Model.{Screened, screenedConditions, answer, modelAfter, model}
 use Rattle.model.specs.Command.{Command}
-use Rattle.model.specs.Command.{Begin, Write, Erase, Seal, Fork, Delete, Read, Barrier, Compress, FreeList, Estimate, Retain, Attach, Detach, Resolve}
+use Rattle.model.specs.Command.{Begin, Write, Erase, Seal, Fork, Delete, Read, Barrier, Compress, FreeList, Estimate, Retain, Reclaim}
+use Rattle.model.specs.Command.{Attach, Detach, Resolve}
 use Rattle.model.proofs.TabFacts.{via-suc}
 use Rattle.model.proofs.DoneSound.{spare, miss}
 use Rattle.model.proofs.Waiting.{once-short}
@@ -221,7 +221,7 @@ module _ (g : Geometry) (inside : Inside g) (T : State) (R : Fine g T) where
   -- S
   sealed-on : (r : ℕ) → NoneHolds (conditions g T (Seal r)) → (k : List ℕ) (n : ℕ) →
       On (effect g T (Seal r)) k n ↔ (((n ≡ suc (T .view .last)) × On T k r) ⊎ ((n ≡ r → ⊥) × On T k n))
-  unfolding actedAll seal
+  unfolding queueing seal
   sealed-on r none k n =
       let q : ℕ = slot T r in
       let f : ℕ = newSlot T in
@@ -268,6 +268,8 @@ module _ (g : Geometry) (inside : Inside g) (T : State) (R : Fine g T) where
   Noted c (opening cs a) = Unit {0}
   Noted c (freeing cs a) = Unit {0}
   Noted c (closing r) = Unit {0}
+  Noted c (removing r) = Unit {0}
+  Noted c (reclaiming k) = Unit {0}
   Noted c (placing r x k) = Unit {0}
   Noted c marking = Unit {0}
   Noted c renewing = Unit {0}
@@ -285,18 +287,21 @@ module _ (g : Geometry) (inside : Inside g) (T : State) (R : Fine g T) where
   noted FreeList = λ none. stay (λ k n. (λ w. w, λ w. w))
   noted (Estimate r) = λ none. stay (λ k n. (λ w. w, λ w. w))
   noted (Retain r m) = λ none. stay (λ k n. (λ w. w, λ w. w))
+  noted (Reclaim k) = tt
   noted (Attach l r) = λ none. put l r refl (attached-on l r none)
   noted (Detach l) = λ none. take l refl (detached-on l none)
   noted (Resolve l) = λ none. stay (λ k n. (λ w. w, λ w. w))
 
   named-by : (c : Command) (A : Account) → Is c A → Fits g T c A → Noted c A → NamesFit (leftBy g T A .view) (leftBy g T A .notes) →
       NoneHolds (refusalsBy g T A) → Named T (leftBy g T A) c
-  unfolding acted given logged
+  unfolding acted given logged queueing reclaimed steps
   named-by c (looking s cs res note) i f m N none = m none
   named-by c (opening cs a) i f m N none = stay (acts-on K (a T) X (T .notes .names) _ (R .sound) (f none .asks) (R .names) N)
   named-by c (freeing cs a) i f m N none =
       stay (acts-on K (a T) X (T .notes .names) _ (R .sound) (f (none-left (cs g T) _ none) .asks) (R .names) N)
   named-by c (closing r) i f m N none = move r i (sealed-on r none)
+  named-by c (removing r) i f m N none = stay (acts-on K (deleting T r) X (T .notes .names) _ (R .sound) (f none .asks) (R .names) N)
+  named-by c (reclaiming k) i f m N none = stay (λ k n. (λ w. w, λ w. w))
   named-by c (placing r x k) i f m N none =
       stay (acts-on K (writing g T r x k) X (T .notes .names) _ (R .sound) (asks-W g inside T R r x k none) (R .names) N)
   named-by c marking i f m N none = stay (λ k n. (λ w. w, λ w. w))
@@ -406,25 +411,17 @@ module _ (g : Geometry) (inside : Inside g) (T : State) (R : Fine g T) where
       (λ w. false≢true (sym (named-there l r o .0) ∙ true-at (conditions g T (Read r x)) 4 (ordered g T (Read r x)) 8 (w .0)))
 
   -- D and Q of it
-  deletes-18 : (l : List ℕ) (r : ℕ) (c : Command) → On T l r → Deletes r c → (n : ℕ) → Holds n (conditions g T c) → NoneBefore n (conditions g T c) →
-      (n ≡ 10) ⊎ (n ≡ 18)
-  deletes-18 l r c o (inl e) n h b = ten-or-18 (subst (Holds n) (ap (conditions g T) e) h) (subst (NoneBefore n) (ap (conditions g T) e) b)
+  deletes-18 : (l : List ℕ) (r : ℕ) (c : Command) → On T l r → Deletes r c → (n : ℕ) → Holds n (conditions g T c) → (n ≡ 10) ⊎ (n ≡ 18)
+  deletes-18 l r c o d n h = cases d (λ e. told (Delete r) e refl) (λ e. told (Estimate r) e refl)
     where
-      ten-or-18 : Holds n (conditions g T (Delete r)) → NoneBefore n (conditions g T (Delete r)) → (n ≡ 10) ⊎ (n ≡ 18)
-      ten-or-18 (inl w) b = absurd (false≢true (sym (named-there l r o .0) ∙ w .1))
-      ten-or-18 (inr (inl w)) b = inl (sym (w .0))
-      ten-or-18 (inr (inr (inl w))) b = inr (sym (w .0))
-      ten-or-18 (inr (inr (inr (inl w)))) b =
-          let free = earlier-at (conditions g T (Delete r)) 14 (subst (λ k. NoneBefore k (conditions g T (Delete r))) (sym (w .0)) b) 18 (omega arith) in
-          absurd (let z : ⊥ = omega (arith, ltb-false 0 (T .notes .names (slot T r)) free, named-counted l r o) in z)
-      ten-or-18 (inr (inr (inr (inr w)))) b = absurd w
-  deletes-18 l r c o (inr e) n h b = ten-or-18 (subst (Holds n) (ap (conditions g T) e) h)
-    where
-      ten-or-18 : Holds n (conditions g T (Estimate r)) → (n ≡ 10) ⊎ (n ≡ 18)
+      ten-or-18 : Holds n (undeletable T r) → (n ≡ 10) ⊎ (n ≡ 18)
       ten-or-18 (inl w) = absurd (false≢true (sym (named-there l r o .0) ∙ w .1))
       ten-or-18 (inr (inl w)) = inl (sym (w .0))
       ten-or-18 (inr (inr (inl w))) = inr (sym (w .0))
       ten-or-18 (inr (inr (inr w))) = absurd w
+
+      told : (d : Command) → c ≡ d → conditions g T d ≡ undeletable T r → (n ≡ 10) ⊎ (n ≡ 18)
+      told d e i = ten-or-18 (subst (Holds n) (ap (conditions g T) e ∙ i) h)
 
   never-deleted : (l : List ℕ) (r : ℕ) (c : Command) → On T l r → Deletes r c → NoneHolds (conditions g T c) → ⊥
   never-deleted l r c o (inl e) n =
@@ -527,7 +524,7 @@ naming-laws g inside T R =
           (λ r o. detached-on g inside T R l none l r .0 (subst (λ U. On U l r) i o) .1 refl);
       sealed = λ c l r n rest e a A.
           let (i, none, q) = after-is g inside T R c (Seal r) (n ∷ rest) e a in
-          let m = first (suc (T .view .last)) n (paired (T .view .birth) (freedClosing T r)) rest q in
+          let m = first (suc (T .view .last)) n [] rest q in
           resolves g inside (modelAfter g T c) (next c) l n
           (subst (λ U. On U l n) (sym i) (sealed-on g inside T R r none l n .1 (inl (sym m, on l r A))));
       stays = λ c l r A d s. resolves g inside (modelAfter g T c) (next c) l r (stays-on g inside T R c l r d s (on l r A));
@@ -549,6 +546,6 @@ naming-laws g inside T R =
           let (s, c) = row-carried (T .notes .titles) l (pred (rowOf (T .notes .titles) l)) i in
           refused-17 g inside T R w l ew aw .1 (T .view .num s) (s, c, refl);
       named = λ v l r n A d a.
-          cases (own-refusal g T v (v .call) n refl a) (λ h. inl h) (λ w. inr (deletes-18 g inside T R l r (v .call) (on l r A) d n (w .0) (w .1)));
+          cases (own-refusal g T v (v .call) n refl a) (λ h. inl h) (λ w. inr (deletes-18 g inside T R l r (v .call) (on l r A) d n (w .0)));
       named-never = λ v l r m A d a. never-deleted g inside T R l r (v .call) (on l r A) d (unrefused g T v (v .call) m refl a);
     }

@@ -18,9 +18,9 @@ use Rattle.model.specs.Sound.{Sound}
 use Rattle.model.specs.Effects.{grow, close, begin, seal, fork, erase, write}
 use Rattle.model.specs.Actions.{Action, doB, doW, doE, doS, doF, doD, Asks, done, follower, vacant, slotOf, delete}
 use Rattle.model.specs.State.{State}
-use Rattle.model.specs.Window.{steps, sealing, victims, WindowTakes, actedAll}
-use Rattle.model.specs.Calls.{Account, looking, opening, freeing, closing, placing, marking, renewing, account}
-use Rattle.model.specs.Calls.{slot, block, writing, windowOf, closes, freedClosing, acted, given, logged}
+use Rattle.model.specs.Window.{steps, sealing, victims, WindowTakes, queueing}
+use Rattle.model.specs.Calls.{Account, looking, opening, freeing, closing, removing, reclaiming, placing, marking, renewing, account}
+use Rattle.model.specs.Calls.{slot, block, writing, deleting, windowOf, closes, reclaimed, acted, given, logged}
 use Rattle.model.specs.Calls.{refusalsBy, leftBy, conditions, result, effect}
 use Rattle.model.specs.History.{stateFrom, wasAccepted}
 use Rattle.model.specs.ReadingLaws.{Shows, Changes, Lost, Seals, Touches, ShowsFrom, Opens, ReadingLaws}
@@ -165,7 +165,7 @@ module _ (g : Geometry) (inside : Inside g) where
     -- a call that does not touch the page, nor delete its record
     same-by : (c : Command) (A : Account) → Is c A → Fits g T c A → NoneHolds (refusalsBy g T A) → (r s x : ℕ) → 0 < T .view .num s → T .view .num s ≡ r →
         (Changes r x c → ⊥) → Same (T .view) (leftBy g T A .view) s x ⊎ (Seals c × Absent (leftBy g T A .view) r)
-    unfolding logged given acted actedAll
+    unfolding logged given acted queueing reclaimed steps
     same-by c (looking p cs res note) i f n r s x h e a = inl (same-view K s x)
     same-by c (opening cs act) i f n r s x h e a =
         let does = f n in
@@ -176,6 +176,10 @@ module _ (g : Geometry) (inside : Inside g) where
     same-by c (closing q) i f n r s x h e a =
         cases (sealing-same K (T .notes .names) (slot T q) (windowOf T q) (R .sound) (seals g inside T R q (closing-first g T q n)) r s x h e)
         (λ d. inl d) (λ d. inr ((q, i), d))
+    same-by c (removing q) i f n r s x h e a =
+        let does = f n in
+        inl (done-same K (deleting T q) (R .sound) (does .asks) r s x h e (missed r x c (deleting T q) (does .name) a))
+    same-by c (reclaiming k) i f n r s x h e a = inl (same-view K s x)
     same-by c (placing q y k) i f n r s x h e a =
         let at = named-slot g inside T R q (none-at (conditions g T (Write q y k)) n 8) .1 in
         inl (done-same K (writing g T q y k) (R .sound) (asks-W g inside T R q y k n) r s x h e
@@ -306,7 +310,7 @@ module _ (g : Geometry) (inside : Inside g) where
 
     sealed : (r n x : ℕ) (l rest : List ℕ) → NoneHolds (conditions g T (Seal r)) → result g T (Seal r) ≡ n ∷ rest → Stands (T .view) r (slot T r) x l →
         Stands (effect g T (Seal r) .view) n (pred (vacant (T .view))) x l
-    unfolding actedAll seal grow close
+    unfolding queueing seal grow close
     sealed r n x l rest c e S =
         let q : ℕ = slot T r in
         let f : ℕ = pred (vacant K) in
@@ -322,7 +326,7 @@ module _ (g : Geometry) (inside : Inside g) where
         let num : L .num f ≡ suc (K .last) = omega (arith, W .num f stays, G .num-f) in
         let page : L .page f x ≡ K .page q x = W .page f x ∙ sym (seal-pages K q f x) in
         let sound : Sound L = seal-steps-sound K q (R .sound) a (T .notes .names) (windowOf T r) in
-        let m = first (suc (K .last)) n (paired (K .birth) (freedClosing T r)) rest e in
+        let m = first (suc (K .last)) n [] rest e in
         let live : 0 < L .num f = omega (arith, num) in
         record {
           live = live;
@@ -381,7 +385,7 @@ module _ (g : Geometry) (inside : Inside g) where
     -- B, S and F give the number after the last one, and it is then the last
     opened : (c : Command) (n : ℕ) (rest : List ℕ) → Opens c → NoneHolds (conditions g T c) → result g T c ≡ n ∷ rest →
         (n ≡ suc (T .view .last)) × (effect g T c .view .last ≡ n)
-    unfolding acted actedAll begin fork grow
+    unfolding acted queueing begin fork grow
     opened c n rest o none e =
         cases o
         (λ i. told c Begin i e (λ d. let m = first (suc (K .last)) n [] rest d in (sym m, omega arith)))
@@ -389,7 +393,7 @@ module _ (g : Geometry) (inside : Inside g) where
         cases w
         (λ s. told c (Seal (s .0)) (s .1) e
         (λ d.
-        let m = first (suc (K .last)) n (paired (K .birth) (freedClosing T (s .0))) rest d in
+        let m = first (suc (K .last)) n [] rest d in
         let q = closing-first g T (s .0) (subst (λ b. NoneHolds (conditions g T b)) (s .1) none) in
         (sym m, omega (arith, closing-last g inside T R (s .0) q))))
         (λ f. told c (Fork (f .0)) (f .1) e (λ d. let m = first (suc (K .last)) n [] rest d in (sym m, omega arith))))
@@ -441,7 +445,7 @@ module _ (g : Geometry) (inside : Inside g) where
 
   -- THE READING LAWS, of any state that the calls keep
   pub reading-laws : (T : State) → Fine g T → ReadingLaws (model g) (g .pages) T
-  unfolding acted delete
+  unfolding acted queueing steps delete
   reading-laws T R = record {
     stays = λ v r x l c a.
         let (hx, S) = standing T R v r x l c a in

@@ -23,8 +23,8 @@ use Rattle.model.specs.Held.{held}
 use Rattle.model.specs.Check.{same, good?}
 use Rattle.model.specs.Layout.{need, stateOf}
 use Rattle.model.specs.Calls.{conditions, result, written}
-use Rattle.model.specs.Memory.{Memory, lent, short?, numbers?, range?, waiting?, windows?, names?, free?, logHolds?, sound?, usedLog, wordsUsed, writtenAt}
-use Rattle.model.specs.Memory.{reply, storedBy, after, makeAfter}
+use Rattle.model.specs.Memory.{Memory, lent, short?, numbers?, range?, queue?, waiting?, windows?, names?, free?, logHolds?, sound?, usedLog, wordsUsed}
+use Rattle.model.specs.Memory.{writtenAt, reply, storedBy, after, makeAfter}
 use Rattle.model.specs.SoundStore.{SoundStore}
 use Rattle.model.specs.Book.{Some}
 use Rattle.model.specs.History.{Entry, entryOf, historyFrom}
@@ -36,7 +36,7 @@ use Rattle.model.specs.Command.{Command}
 use Rattle.model.proofs.Keeps.{making-is, fresh-is-sound}
 use Rattle.model.proofs.Demands.{run-sound}
 use Rattle.model.proofs.Along.{run-append, usedOf, Whole, wroteBy, wrote, wroteAll, joined, compacted, grown, whole-run}
-use Rattle.model.proofs.ByReplies.{held-born, words-told, fresh-used, used-told, held-told}
+use Rattle.model.proofs.ByReplies.{words-told, fresh-used, used-told, held-told}
 use Rattle.model.proofs.CrashProof.{untouched}
 
 -- ── the log stays as long as it is, or becomes longer ──
@@ -71,8 +71,8 @@ module _ (g : Geometry) where
   unfolding sound? logHolds?
   same-sound t x y e =
       let T = stateOf g t in
-      ap (λ (u : List ℕ). numbers? g t && (range? g T && (good? (T .view) && (waiting? T && (windows? (T .view) (T .notes) && (names? (T .view) (T .notes) && (free? T t &&
-      (readable g u && all (blocks g) (λ b. same (heldIn (marksOf g u) b) (held (T .view) b)))))))))) e
+      ap (λ (u : List ℕ). numbers? g t && (range? g T && (good? (T .view) && (queue? T && (waiting? T && (windows? (T .view) (T .notes) &&
+      (names? (T .view) (T .notes) && (free? T t && (readable g u && all (blocks g) (λ b. same (heldIn (marksOf g u) b) (held T b))))))))))) e
 
   module _ (t x y : List ℕ) (e : usedLog (stateOf g t) x ≡ usedLog (stateOf g t) y) (lx : 8 * g .words ≤ length x) (ly : 8 * g .words ≤ length y) where
     same-short : (out : List ℕ) → short? g (lent t x out) ≡ short? g (lent t y out)
@@ -160,11 +160,12 @@ other-log g t x y e S = record {
   made = S .made;
   range = S .range;
   means = S .means;
+  queue = S .queue;
   waiting = S .waiting;
   windows = S .windows;
   names = S .names;
   free = S .free;
-  logged = subst (λ l. Reads (g .arenas) (g .per) l (held (stateOf g t .view))) (sym e) (S .logged);
+  logged = subst (λ l. Reads (g .arenas) (g .per) l (held (stateOf g t))) (sym e) (S .logged);
 }
 
 -- RECOVERY
@@ -187,6 +188,5 @@ recovers g M made early late none log long front =
       goes-on = λ more. subst (λ n. GoesOn g n (takenUp E log) E more) told
           (alike g more (E .tables) log (E .log) (E .out) words long (run-long g early F (8 * g .words) (L .log)));
       kept = λ mid rest s quiet b h.
-          let held = held-told g M made early b .1 h in
-          untouched g inside mid E b SE quiet (inl (held-born (stateOf g (E .tables) .view) b held));
+          untouched g inside mid E b SE quiet (inl (held-told g M made early b .1 h));
     }

@@ -136,7 +136,8 @@ module _ (M : Memory) (made : makeReply ten M ≡ accepted []) (out : List ℕ)
   pub not-given : Some (Gives 0) (heard ten (saved ten M out) (mid out)) → ⊥
   unfolding bookHeard
   not-given =
-      again .kept (mid out) (ask out Barrier ∷ ask out (Write 1 1 0) ∷ []) refl no-Y 0 (subst (λ H. OnPage (book 2 H) 0) (sym h) (inl (inl (0, refl))))
+      again .kept (mid out) (ask out Barrier ∷ ask out (Write 1 1 0) ∷ []) refl no-Y 0
+      (inl (subst (λ H. OnPage (book 2 H) 0) (sym h) (inl (inl (0, refl)))))
     where
       no-Y : Some Synced (heard ten (saved ten M out) (mid out)) → ⊥
       no-Y i = cases i (λ e. and-false (wasAccepted (reply ten (withOut (saved ten M out) out) (Write 1 0 0))) e) (λ z. z)

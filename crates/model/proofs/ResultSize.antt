@@ -13,18 +13,19 @@ use Rattle.geometry.specs.Limits.{Inside, blocks}
 use Rattle.model.specs.Results.{paired}
 use Rattle.model.specs.Held.{erased, frees}
 use Rattle.model.specs.State.{State}
-use Rattle.model.specs.Calls.{Account, looking, opening, freeing, closing, placing, marking, renewing, account, refusalsBy, resultBy, slot}
-use Rattle.model.specs.Calls.{freedClosing, conditions, result}
+use Rattle.model.specs.Calls.{Account, looking, opening, freeing, closing, removing, reclaiming, placing, marking, renewing, account, refusalsBy}
+use Rattle.model.specs.Calls.{resultBy, slot, firstQueued, conditions, result}
 use Rattle.model.specs.Layout.{stateOf}
 use Rattle.model.specs.Memory.{Memory, reply}
 use Rattle.model.specs.Command.{Command}
 use Rattle.model.proofs.CallKinds.{none-left, frees-only}
-use Rattle.model.proofs.Closing.{closing-first, closing-few}
 use Rattle.model.proofs.EachCall.{Is, is, Fits, fits}
 use Rattle.model.proofs.Fine.{Fine}
 pub use Rattle.model.proofs.Few.{erased-one, Few}
 use Rattle.model.proofs.Few.{frees-few}
 use Rattle.model.proofs.Keeps.{accepted-is, sound-fine}
+use Rattle.model.proofs.QueueFacts.{parts-length}
+use Rattle.model.proofs.ShapeFacts.{fits-few}
 use Rattle.model.proofs.ResultFacts.{paired-length}
 
 -- there is a block
@@ -45,6 +46,13 @@ module _ (g : Geometry) (inside : Inside g) (T : State) (R : Fine g T) where
         erased-one (T .view) (slot T r) (T .view .page (slot T r) x),
       )
 
+  -- a block is in the queue once at most
+  queue-few : length (T .queue .list) ≤ blocks g
+  queue-few = omega (arith, fits-few T (R .queue), R .blocks)
+
+  first-few : (k : ℕ) → length (firstQueued T k) ≤ blocks g
+  first-few k = omega (arith, parts-length k (T .queue .list), queue-few)
+
   few-by : (c : Command) (A : Account) → Is c A → Fits g T c A → NoneHolds (refusalsBy g T A) → Few g (resultBy g T A)
   few-by c (looking s cs res note) i f n = f n .0
   few-by c (opening cs a) i f n = inl (omega (arith, some))
@@ -56,8 +64,9 @@ module _ (g : Geometry) (inside : Inside g) (T : State) (R : Fine g T) where
         frees-few (T .view) (a T) (R .sound) q (frees-only (T .view) (a T) (R .sound) (i g T .0) .no-gift),
         R .blocks,
       ))
-  few-by c (closing r) i f n =
-      inl (omega (arith, paired-length (T .view .birth) (freedClosing T r), closing-few g inside T R r (closing-first g T r n), R .blocks))
+  few-by c (closing r) i f n = inl (omega arith)
+  few-by c (removing r) i f n = inl (omega arith)
+  few-by c (reclaiming k) i f n = inl (omega (arith, paired-length (T .queue .birth) (firstQueued T k), first-few k))
   few-by c (placing r x k) i f n = inr (omega (arith, one-erased r x))
   few-by c marking i f n = inl (omega arith)
   few-by c renewing i f n = inl (omega (arith, some))

@@ -10,8 +10,9 @@ use lib.Dec.{eqb}
 use lib.ListN.{length, take, drop, getD}
 use borrow.Author.Tests.{eq-eqb, ne-eqb}
 use Rattle.answer.specs.Reply.{Reply, accepted, refused}
-use Rattle.answer.specs.Refusal.{NoneBefore}
+use Rattle.answer.specs.Refusal.{Holds, NoneBefore}
 use Rattle.answer.proofs.Cases.{cases, same?}
+use Rattle.answer.proofs.Decided.{refused-iff}
 use Rattle.geometry.specs.declared.Geometry.{Geometry}
 use Rattle.geometry.specs.Limits.{geometryOf, Inside, blocks}
 use Rattle.choice.specs.First.{Ahead}
@@ -22,19 +23,18 @@ use Rattle.model.specs.Table.{put}
 use Rattle.model.specs.Lists.{In, Pairwise}
 use Rattle.model.specs.View.{View, predNum}
 use Rattle.model.specs.Deadlists.{shard}
-use Rattle.model.specs.SoundMeans.{Live}
+use Rattle.model.specs.SoundMeans.{Live, On}
 use Rattle.model.specs.RefusalMeans.{There}
 use Rattle.model.specs.Held.{waits, tally}
-use Rattle.model.specs.Lists.{afterFirst}
 use Rattle.model.specs.Results.{paired, blocksIn, blocksOf, born, bornIn, itemsOf}
-use Rattle.model.specs.Calls.{Account, looking, opening, freeing, closing, placing, marking, renewing, account, spelling}
+use Rattle.model.specs.Calls.{Account, looking, opening, freeing, closing, removing, reclaiming, placing, marking, renewing, account}
+use Rattle.model.specs.Calls.{result, spelling}
 use Rattle.model.specs.Book.{Some, Book, OnPage, emptyBook, enter, openLine, pageSet, inLine, setPage, inRecs, inLines, recSealed, sealRec}
-use Rattle.model.specs.Book.{recOut, dropRec, keepLine, dropIn, windowWith, takenOut, recsOut, trimmed}
+use Rattle.model.specs.Book.{recOut, dropRec, keepLine, dropIn, windowWith, takenOut, recsOut, trimmed, onRec, onRecs, onLines}
 use Rattle.model.specs.History.{Machine, Event, give, free, Entry, entryOf, stateFrom, historyFrom, events, book, syncs, unsynced}
-use Rattle.model.specs.History.{NotFreed, Standing, Demand3}
-use Rattle.model.specs.HistoryFacts.{HistoryFacts, givenIn, freedIn, different, onFirst, onRecs, onLines, Sealed, Gave, Names, LastGave}
-use Rattle.model.specs.HistoryFacts.{Gives}
-use Rattle.model.specs.Layout.{viewOf, stateOf}
+use Rattle.model.specs.History.{wasAccepted, queuedIn, NotFreed, Standing, Demand3}
+use Rattle.model.specs.HistoryFacts.{HistoryFacts, givenIn, freedIn, keptCount, Sealed, Gave, Names, LastGave, Gives}
+use Rattle.model.specs.Layout.{stateOf}
 use Rattle.model.specs.Memory.{Memory, lent, wordsUsed, allConditions, reply, after, makeReply, makeAfter}
 use Rattle.model.specs.SoundStore.{SoundStore}
 use Rattle.model.specs.Model.{Screened, history}
@@ -42,18 +42,18 @@ use Rattle.model.specs.UsedWords.{usedThen, usedBy}
 use Rattle.model.specs.Demand.{Request, metBy, machine, Own, withOut, ownStore, run}
 use Rattle.model.specs.Crash.{Ended, heard, usedAfter, startBy, Cut}
 use Rattle.model.specs.HistoryChoice.{isW, writesIn, markBy, MayBeGiven, IsChosen, HistoryChoice}
-use Rattle.model.specs.Estimate.{behind, BirthsAbove}
+use Rattle.model.specs.Estimate.{behind, queueLength, BirthsAbove}
 use Rattle.model.specs.Command.{Command}
-use Rattle.model.specs.Command.{Begin, Write, Erase, Seal, Delete, Read, Barrier, Compress, FreeList, Estimate}
+use Rattle.model.specs.Command.{Begin, Write, Erase, Seal, Delete, Read, Barrier, Compress, FreeList, Estimate, Reclaim}
 use Rattle.model.proofs.ListFacts.{rising-same}
 use Rattle.model.proofs.EachCall.{Is, is}
 use Rattle.model.proofs.Keeps.{making-is}
-use Rattle.model.proofs.Demands.{demand, own-facts, waits-means, sound-not-4, never-4}
+use Rattle.model.proofs.Demands.{all-ordered, demand, own-facts, waits-means, sound-not-4, never-4}
 use Rattle.model.proofs.AnyMemoryProof.{fresh-sound, keeps-sound, room}
 use Rattle.model.proofs.CrashProof.{crash}
 use Rattle.model.proofs.HistoryChoiceProof.{choice}
 use Rattle.model.proofs.PaperExample.{fine, repliesTo}
-use Rattle.model.proofs.EstimateFacts.{estimate-still, estimate-true, estimate-enough, shards-counted}
+use Rattle.model.proofs.EstimateFacts.{estimate-still, estimate-refusals, estimate-true, estimate-enough, shards-counted}
 use Rattle.model.proofs.BirthsInResults.{births-in-results, log-as-before}
 use Rattle.model.proofs.Along.{history-append}
 use Rattle.model.proofs.CutPlace.{passes?, placeOf, cut-early, cut-mid}
@@ -82,6 +82,10 @@ one-waits = one-on ++ (gave (Write 1 0 0) (1 ∷ 1 ∷ 0 ∷ 1 ∷ []) ∷ [])
 abbrev pub one-sealed : List Entry
 one-sealed = one-on ++ (gave (Seal 1) (2 ∷ []) ∷ [])
 
+-- blocks 0 and 1 were on pages of record 1, and both are queued
+abbrev pub both-queued : List Entry
+both-queued = one-on ++ (gave (Write 1 1 0) (1 ∷ 1 ∷ []) ∷ gave (Delete 1) [] ∷ [])
+
 -- block 0 was freed, and nothing is on a page
 abbrev pub one-freed : List Entry
 one-freed = one-on ++ (gave (Erase 1 0) (0 ∷ 1 ∷ []) ∷ [])
@@ -95,13 +99,12 @@ given-twice =
 -- the book of what was heard: to unfold it is to unfold all that it is told by
 unfoldable pub bookHeard : List Entry → Book
 unfolding put emptyBook enter openLine pageSet inLine setPage inRecs inLines recSealed sealRec recOut dropRec keepLine dropIn blocksIn windowWith takenOut
-    recsOut trimmed
-    afterFirst
+    recsOut trimmed onRec onRecs onLines
 bookHeard H = book 2 H
 
 -- ── lists that are written out ──
 
-put-page : (f : ℕ → ℕ) (x v y w : ℕ) → put f x v y ≡ w → (v ≡ w) ⊎ (f y ≡ w)
+pub put-page : (f : ℕ → ℕ) (x v y w : ℕ) → put f x v y ≡ w → (v ≡ w) ⊎ (f y ≡ w)
 unfolding put
 put-page f x v y w e = go (eqb y x) e
   where
@@ -110,7 +113,7 @@ put-page f x v y w e = go (eqb y x) e
     go false d = inr d
 
 -- is b given and not freed since, after some events? h: before them
-unfoldable stands : ℕ → Bool → List Event → Bool
+unfoldable pub stands : ℕ → Bool → List Event → Bool
 stands b h [] = h
 stands b h (give c ∷ l) = stands b (cond (eqb b c) true h) l
 stands b h (free c ∷ l) = stands b (cond (eqb b c) false h) l
@@ -127,7 +130,7 @@ still-stands b [] n = refl
 still-stands b (give c ∷ l) n = cases (same? b c) (λ e. rw (eq-eqb b c e) (still-stands b l (n .1))) (λ d. rw (ne-eqb b c d) (still-stands b l (n .1)))
 still-stands b (free c ∷ l) n = rw (ne-eqb b c (λ e. n .0 (ap free (sym e)))) (still-stands b l (n .1))
 
-standing-stands : (b : ℕ) (l : List Event) → Standing b l → stands b false l ≡ true
+pub standing-stands : (b : ℕ) (l : List Event) → Standing b l → stands b false l ≡ true
 unfolding stands
 standing-stands b l s =
     ap (stands b false) (s .split) ∙ stands-append b (s .early) (give b ∷ s .late) false ∙ rw (eq-eqb b b refl) (still-stands b (s .late) (s .since))
@@ -141,6 +144,8 @@ giverBy b v (looking s cs res note) a = v
 giverBy b v (opening cs d) a = v
 giverBy b v (freeing cs d) a = v
 giverBy b v (closing r) a = v
+giverBy b v (removing r) a = v
+giverBy b v (reclaiming k) a = v
 giverBy b v marking a = v
 giverBy b v renewing a = v
 
@@ -170,6 +175,8 @@ gives-not b v c (looking s cs res note) a i n = refl
 gives-not b v c (opening cs d) a i n = refl
 gives-not b v c (freeing cs d) a i n = refl
 gives-not b v c (closing r) a i n = refl
+gives-not b v c (removing r) a i n = refl
+gives-not b v c (reclaiming k) a i n = refl
 gives-not b v c marking a i n = refl
 gives-not b v c renewing a i n = refl
 
@@ -186,8 +193,12 @@ last-giver b r l G =
     ap (lastGiver b 0) (G .split) ∙ giver-append b 0 (G .early) (G .entry ∷ G .late) ∙
     ap (λ (w : ℕ). lastGiver b w (G .late)) (gives-it b r (lastGiver b 0 (G .early)) (G .entry) (G .gave)) ∙ none-gives b r (G .late) (G .since)
 
-below-two : (b : ℕ) → b < 2 → (b ≡ 0) ⊎ (b ≡ 1)
+pub below-two : (b : ℕ) → b < 2 → (b ≡ 0) ⊎ (b ≡ 1)
 below-two b h = cases (same? b 0) (λ e. inl e) (λ n. inr (omega (arith, h, n)))
+
+-- on a page, queued or waiting
+abbrev pub Taken : List Entry → ℕ → Type 0
+Taken H b = OnPage (book 2 H) b ⊎ ((queuedIn 2 H b ≡ true) ⊎ (unsynced H b ≡ true))
 
 -- ── DEMAND 3 AND THE FACTS, of any store with two blocks and two pages ──
 
@@ -201,10 +212,10 @@ module _ (M : Machine) (T : M .Tables) (D : (l : List (M .Asked)) → Demand3 M 
   unfolding bookHeard
   not-yet-full before h w r x k c a =
       let all = D (before ++ (w ∷ [])) .0 .full before [] w r x k refl c .0 a .1 in
-      let at : OnPage (book 2 one-on) 1 ⊎ (unsynced one-on 1 ≡ true) = subst (λ H. OnPage (book 2 H) 1 ⊎ (unsynced H 1 ≡ true)) h (all 1 (omega arith)) in
+      let at : Taken one-on 1 = subst (λ H. Taken H 1) h (all 1 (omega arith)) in
       cases at
       (λ o. cases o (λ q. cases q (λ p. cases (put-page (λ y. 0) 0 1 (p .0) 2 (p .1)) (λ e. omega (arith, e)) (λ e. omega (arith, e))) (λ z. z)) (λ z. z))
-      (λ u. false≢true u)
+      (λ u. cases u (λ q. false≢true q) (λ w. false≢true w))
 
   -- and from right to left: with block 1 on a page and block 0 waiting, a W that nothing earlier refuses is refused 13
   pub full-now : (before : List (M .Asked)) → historyFrom M T before ≡ one-waits →
@@ -213,10 +224,10 @@ module _ (M : Machine) (T : M .Tables) (D : (l : List (M .Asked)) → Demand3 M 
   full-now before h w r x k c n =
       D (before ++ (w ∷ [])) .0 .full before [] w r x k refl c .1 (
         n,
-        λ b l. subst (λ H. OnPage (book 2 H) b ⊎ (unsynced H b ≡ true)) (sym h)
+        λ b l. subst (λ H. Taken H b) (sym h)
             (cases (below-two b l)
-            (λ e. subst (λ d. OnPage (book 2 one-waits) d ⊎ (unsynced one-waits d ≡ true)) (sym e) (inr refl))
-            (λ e. subst (λ d. OnPage (book 2 one-waits) d ⊎ (unsynced one-waits d ≡ true)) (sym e) (inl (inl (inl (0, refl)))))),
+            (λ e. subst (Taken one-waits) (sym e) (inr (inr refl)))
+            (λ e. subst (Taken one-waits) (sym e) (inl (inl (inl (0, refl)))))),
       )
 
   -- `gives`: the only block that is free is given
@@ -224,7 +235,7 @@ module _ (M : Machine) (T : M .Tables) (D : (l : List (M .Asked)) → Demand3 M 
       M .call w ≡ Write r x k → M .answer (now before) w ≡ accepted given → (rest : List ℕ) × (given ≡ 1 ∷ rest)
   unfolding bookHeard
   gives-1 before h w r x k given c a =
-      let (b, rest, is, below, off, awake) = D (before ++ (w ∷ [])) .0 .gives before [] w r x k given refl c a in
+      let (b, rest, is, below, off, unqueued, awake) = D (before ++ (w ∷ [])) .0 .gives before [] w r x k given refl c a in
       cases (below-two b below)
       (λ e. absurd (off (subst (λ H. OnPage (book 2 H) b) (sym h) (subst (λ d. OnPage (book 2 one-on) d) (sym e) (inl (inl (0, refl)))))))
       (λ e. (rest, is ∙ ap {B = List ℕ} (λ d. d ∷ rest) e))
@@ -234,24 +245,32 @@ module _ (M : Machine) (T : M .Tables) (D : (l : List (M .Asked)) → Demand3 M 
       M .call w ≡ Write r x k → M .answer (now before) w ≡ accepted given → ⊥
   unfolding bookHeard
   none-to-give before h w r x k given c a =
-      let (b, rest, is, below, off, awake) = D (before ++ (w ∷ [])) .0 .gives before [] w r x k given refl c a in
+      let (b, rest, is, below, off, unqueued, awake) = D (before ++ (w ∷ [])) .0 .gives before [] w r x k given refl c a in
       cases (below-two b below)
       (λ e. true≢false (ap (λ d. unsynced one-waits d) (sym e) ∙ subst (λ H. unsynced H b ≡ false) h awake))
       (λ e. off (subst (λ H. OnPage (book 2 H) b) (sym h) (subst (λ d. OnPage (book 2 one-waits) d) (sym e) (inl (inl (0, refl))))))
 
-  -- `frees`, with its 'since': block 0 was freed already, so D cannot free it once more
-  pub not-twice : (l : List (M .Asked)) → historyFrom M T l ≡ one-waits ++ (gave (Delete 1) (1 ∷ 1 ∷ 0 ∷ 1 ∷ []) ∷ []) → ⊥
+  -- `frees`, with its 'since': block 0 was freed already, so a T after the D cannot free it once more
+  pub not-twice : (l : List (M .Asked)) →
+      historyFrom M T l ≡ one-waits ++ (gave (Delete 1) [] ∷ gave (Reclaim 64) (1 ∷ 1 ∷ 0 ∷ 1 ∷ []) ∷ []) → ⊥
   unfolding stands bookHeard
   not-twice l h =
       false≢true
       (standing-stands 0 (give 0 ∷ give 1 ∷ free 0 ∷ free 1 ∷ []) (D l .0 .frees (give 0 ∷ give 1 ∷ free 0 ∷ free 1 ∷ []) [] 0 (ap events h)))
 
-  -- `held`: a D that frees its first block and merely drops the other is refused
+  -- `held`, of the pages: an E that merely drops its block is refused
+  pub none-dropped : (l : List (M .Asked)) → historyFrom M T l ≡ one-on ++ (gave (Write 1 1 0) (1 ∷ 1 ∷ []) ∷ gave (Erase 1 0) [] ∷ []) → ⊥
+  unfolding givenIn freedIn keptCount tally bookHeard
+  none-dropped l h =
+      let e : _≡_ {A = ℕ} 2 1 = subst (λ H. givenIn (events H) ≡ freedIn (events H) + keptCount 2 2 H) h (D l .1 .held) in
+      omega (arith, e)
+
+  -- and of the queue: a T that gives one of the two queued blocks twice, and forgets the other
   pub none-lost : (l : List (M .Asked)) →
-      historyFrom M T l ≡ one-on ++ (gave (Write 1 1 0) (1 ∷ 1 ∷ []) ∷ gave (Delete 1) (0 ∷ 1 ∷ []) ∷ []) → ⊥
-  unfolding givenIn freedIn different tally onLines onRecs onFirst bookHeard
+      historyFrom M T l ≡ both-queued ++ (gave (Reclaim 2) (0 ∷ 1 ∷ 0 ∷ 1 ∷ []) ∷ []) → ⊥
+  unfolding givenIn freedIn keptCount tally bookHeard
   none-lost l h =
-      let e : _≡_ {A = ℕ} 2 1 = subst (λ H. givenIn (events H) ≡ freedIn (events H) + different 2 2 (book 2 H)) h (D l .1 .held) in
+      let e : _≡_ {A = ℕ} 2 3 = subst (λ H. givenIn (events H) ≡ freedIn (events H) + keptCount 2 2 H) h (D l .1 .held) in
       omega (arith, e)
 
   -- `sealed`: whatever is called between them, two readings of a sealed page give the same
@@ -261,7 +280,7 @@ module _ (M : Machine) (T : M .Tables) (D : (l : List (M .Asked)) → Demand3 M 
   reads-same before more h v w l m cv cw av aw =
       D before .1 .sealed more v w 1 0 l m cv cw (subst (λ H. Sealed (book 2 H) 1) (sym h) (inl (inl (refl, refl)))) av aw
 
-  -- `room`: right after C neither W nor E nor D nor Y is refused 14
+  -- `room`: right after C neither W nor E nor D nor T nor Y is refused 14
   abbrev Roomy : Command → Type 0
   Roomy d = (before : List (M .Asked)) (c i : M .Asked) (l : List ℕ) → M .call c ≡ Compress → M .answer (now before) c ≡ accepted l →
       M .call i ≡ d → M .answer (now (before ++ (c ∷ []))) i ≡ refused 14 → ⊥
@@ -275,34 +294,43 @@ module _ (M : Machine) (T : M .Tables) (D : (l : List (M .Asked)) → Demand3 M 
   pub room-D : (r : ℕ) → Roomy (Delete r)
   room-D r before c i l cc a e = D before .1 .room c i l cc a
 
+  pub room-T : (k : ℕ) → Roomy (Reclaim k)
+  room-T k before c i l cc a e = D before .1 .room c i l cc a
+
   pub room-Y : Roomy Barrier
   room-Y before c i l cc a e = D before .1 .room c i l cc a
 
-  -- `birth-is`, of R, E and D: block 0 was given to record 1 once, and then to record 2; that is the birth that is named
-  born-in-2 : (before : List (M .Asked)) → historyFrom M T before ≡ given-twice → (i : M .Asked) (v : ℕ) →
+  -- `birth-is`, of R, E and T: block 0 was given to record 1 once, and then to record 2; that is the birth that is named
+  born-in-2 : (before : List (M .Asked)) (H : List Entry) → historyFrom M T before ≡ H → lastGiver 0 0 H ≡ 2 → (i : M .Asked) (v : ℕ) →
       Names 0 v (entryOf M (now before) i) → giver 0 2 (M .call i) (M .answer (now before) i) ≡ 2 → v ≡ 2
   unfolding lastGiver giverBy
-  born-in-2 before h i v n still =
+  born-in-2 before H h given i v n still =
+      let e : Entry = entryOf M (now before) i in
       sym (last-giver 0 v (historyFrom M T (before ++ (i ∷ []))) (D before .1 .birth-is i 0 v n)) ∙
-      ap (lastGiver 0 0) (history-append M before (i ∷ []) T ∙ ap {B = List Entry} (λ H. H ++ (entryOf M (now before) i ∷ [])) h) ∙ still
+      ap (lastGiver 0 0) (history-append M before (i ∷ []) T ∙ ap {B = List Entry} (λ K. K ++ (e ∷ [])) h) ∙
+      giver-append 0 0 H (e ∷ []) ∙ ap (λ (w : ℕ). lastGiver 0 w (e ∷ [])) given ∙ still
 
   pub R-names-2 : (before : List (M .Asked)) → historyFrom M T before ≡ given-twice → (i : M .Asked) (v : ℕ) → M .call i ≡ Read 2 0 →
       M .answer (now before) i ≡ accepted (0 ∷ v ∷ []) → v ≡ 2
-  unfolding giverBy itemsOf bornIn
+  unfolding lastGiver giverBy itemsOf bornIn
   R-names-2 before h i v c a =
-      born-in-2 before h i v (0 ∷ v ∷ [], a, subst (λ d. Some (λ j. j ≡ born 0 v) (itemsOf (spelling d) (0 ∷ v ∷ []))) (sym c) (inl refl)) (rw c refl)
+      born-in-2 before given-twice h refl i v
+      (0 ∷ v ∷ [], a, subst (λ d. Some (λ j. j ≡ born 0 v) (itemsOf (spelling d) (0 ∷ v ∷ []))) (sym c) (inl refl)) (rw c refl)
 
   pub E-names-2 : (before : List (M .Asked)) → historyFrom M T before ≡ given-twice → (i : M .Asked) (v : ℕ) → M .call i ≡ Erase 2 0 →
       M .answer (now before) i ≡ accepted (0 ∷ v ∷ []) → v ≡ 2
-  unfolding giverBy itemsOf bornIn
+  unfolding lastGiver giverBy itemsOf bornIn
   E-names-2 before h i v c a =
-      born-in-2 before h i v (0 ∷ v ∷ [], a, subst (λ d. Some (λ j. j ≡ born 0 v) (itemsOf (spelling d) (0 ∷ v ∷ []))) (sym c) (inl refl)) (rw c refl)
+      born-in-2 before given-twice h refl i v
+      (0 ∷ v ∷ [], a, subst (λ d. Some (λ j. j ≡ born 0 v) (itemsOf (spelling d) (0 ∷ v ∷ []))) (sym c) (inl refl)) (rw c refl)
 
-  pub D-names-2 : (before : List (M .Asked)) → historyFrom M T before ≡ given-twice → (i : M .Asked) (v : ℕ) → M .call i ≡ Delete 2 →
-      M .answer (now before) i ≡ accepted (0 ∷ v ∷ []) → v ≡ 2
-  unfolding giverBy itemsOf bornIn
-  D-names-2 before h i v c a =
-      born-in-2 before h i v (0 ∷ v ∷ [], a, subst (λ d. Some (λ j. j ≡ born 0 v) (itemsOf (spelling d) (0 ∷ v ∷ []))) (sym c) (inl refl)) (rw c refl)
+  -- T names it when record 2 is out of the store
+  pub T-names-2 : (before : List (M .Asked)) → historyFrom M T before ≡ given-twice ++ (gave (Delete 2) [] ∷ []) → (i : M .Asked) (k v : ℕ) →
+      M .call i ≡ Reclaim k → M .answer (now before) i ≡ accepted (0 ∷ v ∷ []) → v ≡ 2
+  unfolding lastGiver giverBy itemsOf bornIn
+  T-names-2 before h i k v c a =
+      born-in-2 before (given-twice ++ (gave (Delete 2) [] ∷ [])) h refl i v
+      (0 ∷ v ∷ [], a, subst (λ d. Some (λ j. j ≡ born 0 v) (itemsOf (spelling d) (0 ∷ v ∷ []))) (sym c) (inl refl)) (rw c refl)
 
   -- `given-after-barrier`: a block that E freed is not given while no Y or C was accepted; a refused Y does not count
   pub not-given-yet : (l : List (M .Asked)) → historyFrom M T l ≡ one-freed ++ (turned Barrier 14 ∷ gave (Write 1 0 0) (0 ∷ 1 ∷ []) ∷ []) → ⊥
@@ -340,7 +368,7 @@ module _ (M : Memory) (made : makeReply two M ≡ accepted []) where
   lent-full = full-now (machine two) (makeAfter two M .tables) (demand two M made)
 
   pub lent-not-twice : (l : List Request) →
-      historyFrom (machine two) (makeAfter two M .tables) l ≡ one-waits ++ (gave (Delete 1) (1 ∷ 1 ∷ 0 ∷ 1 ∷ []) ∷ []) → ⊥
+      historyFrom (machine two) (makeAfter two M .tables) l ≡ one-waits ++ (gave (Delete 1) [] ∷ gave (Reclaim 64) (1 ∷ 1 ∷ 0 ∷ 1 ∷ []) ∷ []) → ⊥
   lent-not-twice = not-twice (machine two) (makeAfter two M .tables) (demand two M made)
 
   pub lent-room : (r x k : ℕ) (before : List Request) (c i : Request) (l : List ℕ) → c .call ≡ Compress →
@@ -406,31 +434,41 @@ pages-then y w e =
     (λ z. inr (sym e ∙ rw (ne-eqb y 0 n, eq-eqb y 1 z) refl))
     (λ m. inl (sym e ∙ rw (ne-eqb y 0 n, ne-eqb y 1 m) refl)))
 
-one : {b : ℕ} → Pairwise (λ c d. c < d) (b ∷ [])
+pub one : {b : ℕ} → Pairwise (λ c d. c < d) (b ∷ [])
 one = (λ c i. absurd i, tt)
 
 both : Pairwise (λ c d. c < d) (0 ∷ 1 ∷ [])
 both = (λ c i. cases i (λ e. omega (arith, e)) (λ z. absurd z), one)
 
--- these and no others are on a page of the book
-abbrev Paged : List Entry → List ℕ → Type 0
-Paged H these = (b : ℕ) → In b these ↔ OnPage (book 2 H) b
+-- these and no others are on a page of the book or queued
+abbrev pub HeldBy : List Entry → ℕ → Type 0
+HeldBy H b = OnPage (book 2 H) b ⊎ (queuedIn 2 H b ≡ true)
+
+abbrev pub AreHeld : List Entry → List ℕ → Type 0
+AreHeld H these = (b : ℕ) → In b these ↔ HeldBy H b
+
+-- where none is queued
+none-queued : (H : List Entry) (these : List ℕ) → ((b : ℕ) → In b these ↔ OnPage (book 2 H) b) → ((b : ℕ) → queuedIn 2 H b ≡ false) → AreHeld H these
+none-queued H these paged none b = (
+  λ i. inl (paged b .0 i),
+  λ w. cases w (λ o. paged b .1 o) (λ q. absurd (false≢true (sym (none b) ∙ q))),
+)
 
 -- after C, after the first Y, after the second
-paged-C : Paged (take 3 plugged) (0 ∷ [])
+held-C : AreHeld (take 3 plugged) (0 ∷ [])
 unfolding bookHeard
-paged-C b = (
+held-C = none-queued (take 3 plugged) (0 ∷ []) (λ b. (
   λ i. cases i (λ e. subst (λ d. OnPage (book 2 (take 3 plugged)) d) (sym e) (inl (inl (0, refl)))) (λ z. absurd z),
   λ o. cases o
       (λ q. cases q
       (λ p. cases (put-page (λ y. 0) 0 1 (p .0) (suc b) (p .1)) (λ e. inl (omega (arith, e))) (λ e. absurd (omega (arith, e))))
       (λ z. absurd z))
       (λ z. absurd z),
-)
+)) (λ b. refl)
 
-paged-Y : Paged (take 5 plugged) (0 ∷ 1 ∷ [])
+held-Y : AreHeld (take 5 plugged) (0 ∷ 1 ∷ [])
 unfolding bookHeard
-paged-Y b = (
+held-Y = none-queued (take 5 plugged) (0 ∷ 1 ∷ []) (λ b. (
   λ i. cases i
       (λ e. subst (λ d. OnPage (book 2 (take 5 plugged)) d) (sym e) (inl (inl (0, refl))))
       (λ j. cases j (λ e. subst (λ d. OnPage (book 2 (take 5 plugged)) d) (sym e) (inl (inl (1, refl)))) (λ z. absurd z)),
@@ -441,62 +479,62 @@ paged-Y b = (
       (λ d. cases d (λ e. inl (omega (arith, e))) (λ e. inr (inl (omega (arith, e))))))
       (λ z. absurd z))
       (λ z. absurd z),
-)
+)) (λ b. refl)
 
-paged-YY : Paged (take 7 plugged) (1 ∷ [])
+held-YY : AreHeld (take 7 plugged) (1 ∷ [])
 unfolding bookHeard
-paged-YY b = (
+held-YY = none-queued (take 7 plugged) (1 ∷ []) (λ b. (
   λ i. cases i (λ e. subst (λ d. OnPage (book 2 (take 7 plugged)) d) (sym e) (inl (inl (1, refl)))) (λ z. absurd z),
   λ o. cases o
       (λ q. cases q (λ p. cases (pages-then (p .0) (suc b) (p .1)) (λ e. absurd (omega (arith, e))) (λ e. inl (omega (arith, e)))) (λ z. absurd z))
       (λ z. absurd z),
-)
+)) (λ b. refl)
 
 module _ (M : Memory) (made : makeReply ten M ≡ accepted []) (l : List Own) where
-  -- `crash`, for a cut at byte n that leaves k calls up to the last whole barrier: a block on a page is read, one that is read is on a page, each once
-  reads-cut : (H : List Entry) → heard ten (makeAfter ten M) l ≡ H → (out : List ℕ) → 68 ≤ length out → (n k : ℕ) (these : List ℕ) →
-      8 * startBy 0 H ≤ n → n ≤ 8 * usedBy 0 H → placeOf n 0 0 0 H ≡ k → Pairwise (λ b c. b < c) these → Paged (take k H) these →
+  -- `crash`, for a cut at byte n that leaves k calls up to the last whole barrier: a held block is read, one that is read is held, each once
+  pub reads-cut : (H : List Entry) → heard ten (makeAfter ten M) l ≡ H → (out : List ℕ) → 68 ≤ length out → (n k : ℕ) (these : List ℕ) →
+      8 * startBy 0 H ≤ n → n ≤ 8 * usedBy 0 H → placeOf n 0 0 0 H ≡ k → Pairwise (λ b c. b < c) these → AreHeld (take k H) these →
       readReply ten (take n (run ten (makeAfter ten M) l .log)) out ≡ accepted these
-  reads-cut H h out long n k these least most e rises paged =
+  reads-cut H h out long n k these least most e rises are =
       let F = makeAfter ten M in
       let c = crash ten M made l n (subst (λ K. 8 * startBy 0 K ≤ n) (sym h) least) (subst (λ K. n ≤ 8 * usedBy 0 K) (sym h) most) in
       let told : heard ten F (c .early) ≡ take k H = cut-early ten F l n k c (ap (placeOf n 0 0 0) h ∙ e) .2 ∙ ap (take k) h in
       let (read, is, all) = c .reads out (omega (arith, long)) in
       is ∙ ap accepted (rising-same read these (all .rising) rises (λ b. (
-        λ i. paged b .1 (subst (λ K. OnPage (book 2 K) b) told (all .held b .0 i)),
-        λ i. all .held b .1 (subst (λ K. OnPage (book 2 K) b) (sym told) (paged b .0 i)),
+        λ i. are b .1 (subst (λ K. HeldBy K b) told (all .held b .0 i)),
+        λ i. all .held b .1 (subst (λ K. HeldBy K b) (sym told) (are b .0 i)),
       )))
 
   module _ (h : heard ten (makeAfter ten M) l ≡ plugged) (out : List ℕ) (long : 68 ≤ length out) where
     -- right at the end of C's words
     pub cut-16 : readReply ten (take 16 (run ten (makeAfter ten M) l .log)) out ≡ accepted (0 ∷ [])
     unfolding placeOf passes? startBy blocksIn
-    cut-16 = reads-cut plugged h out long 16 3 (0 ∷ []) (omega arith) (omega arith) refl one paged-C
+    cut-16 = reads-cut plugged h out long 16 3 (0 ∷ []) (omega arith) (omega arith) refl one held-C
 
     -- one byte of the Y is missing: back to the C
     pub cut-31 : readReply ten (take 31 (run ten (makeAfter ten M) l .log)) out ≡ accepted (0 ∷ [])
     unfolding placeOf passes? startBy blocksIn
-    cut-31 = reads-cut plugged h out long 31 3 (0 ∷ []) (omega arith) (omega arith) refl one paged-C
+    cut-31 = reads-cut plugged h out long 31 3 (0 ∷ []) (omega arith) (omega arith) refl one held-C
 
     -- at the Y's end, and inside the word after it
     pub cut-32 : readReply ten (take 32 (run ten (makeAfter ten M) l .log)) out ≡ accepted (0 ∷ 1 ∷ [])
     unfolding placeOf passes? startBy blocksIn
-    cut-32 = reads-cut plugged h out long 32 5 (0 ∷ 1 ∷ []) (omega arith) (omega arith) refl both paged-Y
+    cut-32 = reads-cut plugged h out long 32 5 (0 ∷ 1 ∷ []) (omega arith) (omega arith) refl both held-Y
 
     pub cut-35 : readReply ten (take 35 (run ten (makeAfter ten M) l .log)) out ≡ accepted (0 ∷ 1 ∷ [])
     unfolding placeOf passes? startBy blocksIn
-    cut-35 = reads-cut plugged h out long 35 5 (0 ∷ 1 ∷ []) (omega arith) (omega arith) refl both paged-Y
+    cut-35 = reads-cut plugged h out long 35 5 (0 ∷ 1 ∷ []) (omega arith) (omega arith) refl both held-Y
 
     -- the free of block 0 counts once the Y after it is whole
     pub cut-48 : readReply ten (take 48 (run ten (makeAfter ten M) l .log)) out ≡ accepted (1 ∷ [])
     unfolding placeOf passes? startBy blocksIn
-    cut-48 = reads-cut plugged h out long 48 7 (1 ∷ []) (omega arith) (omega arith) refl one paged-YY
+    cut-48 = reads-cut plugged h out long 48 7 (1 ∷ []) (omega arith) (omega arith) refl one held-YY
 
   -- "none where there is none" (6.10): W's word is whole, and no barrier is there yet
   pub cut-8 : heard ten (makeAfter ten M) l ≡ one-on → (out : List ℕ) → 68 ≤ length out →
       readReply ten (take 8 (run ten (makeAfter ten M) l .log)) out ≡ accepted []
   unfolding placeOf passes? startBy bookHeard
-  cut-8 h out long = reads-cut one-on h out long 8 0 [] (omega arith) (omega arith) refl tt (λ b. (λ i. i, λ o. o))
+  cut-8 h out long = reads-cut one-on h out long 8 0 [] (omega arith) (omega arith) refl tt (none-queued [] [] (λ b. (λ i. i, λ o. o)) (λ b. refl))
 
   -- `kept`: block 0, held at the barrier, is not given before the next one, though it was freed since and is freed again after that
   pub not-too-soon : heard ten (makeAfter ten M) l ≡ given-too-soon → ⊥
@@ -508,7 +546,7 @@ module _ (M : Memory) (made : makeReply ten M ≡ accepted []) (l : List Own) wh
       let at : placeOf 40 0 0 0 (heard ten (makeAfter ten M) l) ≡ 3 = ap (placeOf 40 0 0 0) h in
       let told : heard ten (makeAfter ten M) (c .early) ≡ take 3 given-too-soon = cut-early ten (makeAfter ten M) l 40 3 c at .2 ∙ ap (take 3) h in
       let mid = cut-mid ten (makeAfter ten M) l 40 3 c at (subst (λ H. Some Ended (drop 3 H) → ⊥) (sym h) no-Y) ∙ ap (drop 3) h in
-      c .kept 0 (subst (λ H. OnPage (book 2 H) 0) (sym told) (inl (inl (0, refl)))) (subst (Some (Gives 0)) (sym mid) (inr (inl (inl refl))))
+      c .kept 0 (subst (λ H. HeldBy H 0) (sym told) (inl (inl (inl (0, refl))))) (subst (Some (Gives 0)) (sym mid) (inr (inl (inl refl))))
     where
       no-Y : Some Ended (drop 3 given-too-soon) → ⊥
       no-Y s =
@@ -557,7 +595,7 @@ turn-ended = gave Begin (1 ∷ []) ∷ gave (Write 1 0 0) (0 ∷ 1 ∷ []) ∷ g
 abbrev pub mark-moved : List Entry
 mark-moved = turn-ended ++ (gave (Write 1 2 1) (4 ∷ 1 ∷ []) ∷ gave (Erase 1 2) (4 ∷ 1 ∷ []) ∷ gave Barrier [] ∷ [])
 
-unfoldable writesHeard : List Entry → ℕ
+unfoldable pub writesHeard : List Entry → ℕ
 unfolding writesIn markBy next bookHeard
 writesHeard H = writesIn H
 
@@ -576,6 +614,7 @@ unfolding writesHeard
 free-then b h k = record {
   inside = h;
   off = λ o. cases o (λ q. cases q (λ p. not-low b k (two-pages (p .0) (suc b) (p .1))) (λ z. z)) (λ z. z);
+  unqueued = refl;
   awake = refl;
 }
 
@@ -584,6 +623,7 @@ unfolding writesHeard
 free-later b h k = record {
   inside = h;
   off = λ o. cases o (λ q. cases q (λ p. not-low b k (third-page (p .0) (suc b) (p .1))) (λ z. z)) (λ z. z);
+  unqueued = refl;
   awake = refl;
 }
 
@@ -693,35 +733,34 @@ own-gives-5 M made = gives-5 (ownStore arenas3) (makeAfter arenas3 M) (choice ar
 
 -- ── Q AND THE D AFTER IT ──
 
--- on any memory Q answered that D r would free two blocks and write two words, of one shard
-module _ (g : Geometry) (M : Memory) (r : ℕ) (asked : reply g M (Estimate r) ≡ accepted (2 ∷ 2 ∷ 1 ∷ [])) where
-  three-are : (a b c d e f : ℕ) → _≡_ {A = List ℕ} (a ∷ b ∷ c ∷ []) (d ∷ e ∷ f ∷ []) → (a ≡ d) × (b ≡ e)
-  three-are a b c d e f p = (ap (λ (l : List ℕ). getD l 0 0) p, ap (λ (l : List ℕ). getD l 1 0) p)
+-- on any memory Q answered that D r would queue two blocks and write w words, of one shard
+module _ (g : Geometry) (M : Memory) (r w : ℕ) (asked : reply g M (Estimate r) ≡ accepted (2 ∷ w ∷ 1 ∷ [])) where
+  -- `estimate-true`, `three`, `none`: it has to answer that none is written
+  pub Q-says-none : w ≡ 0
+  Q-says-none = let q = estimate-true g M r (2 ∷ w ∷ 1 ∷ []) asked in ap (λ (l : List ℕ). getD l 1 0) (q .three) ∙ q .none
 
-  -- `estimate-true`: an accepted D names two blocks, no more and no fewer, and uses two words more
-  pub D-frees-two : (out l : List ℕ) → reply g (behind g M r out) (Delete r) ≡ accepted l →
-      (length (blocksIn l) ≡ 2) × (wordsUsed (after g (behind g M r out) (Delete r)) ≡ wordsUsed M + 2)
-  D-frees-two out l d =
-      let q = estimate-true g M r (2 ∷ 2 ∷ 1 ∷ []) asked in
-      let (f, w) = three-are 2 2 1 (q .freed) (q .words) (q .shards) (q .three) in
-      let e = q .exactly out l d in
-      (e .0 ∙ sym f, e .1 ∙ ap (λ (n : ℕ). wordsUsed M + n) (sym w))
+  -- `exactly`: an accepted D queues two blocks, no more and no fewer, and uses no word
+  pub D-queues-two : (out l : List ℕ) → reply g (behind g M r out) (Delete r) ≡ accepted l →
+      (queueLength g (after g (behind g M r out) (Delete r)) ≡ queueLength g M + 2) × (wordsUsed (after g (behind g M r out) (Delete r)) ≡ wordsUsed M)
+  D-queues-two out l d =
+      let q = estimate-true g M r (2 ∷ w ∷ 1 ∷ []) asked in
+      let e = q .exactly out l d in (
+        e .0 ∙ ap (λ (n : ℕ). queueLength g M + n) (sym (ap (λ (l : List ℕ). getD l 0 0) (q .three))),
+        omega (arith, e .1, q .none),
+      )
 
-  -- so too with a C between them
-  pub D-after-C : (out other k l : List ℕ) → reply g (behind g M r out) Compress ≡ accepted k →
-      reply g (withOut (after g (behind g M r out) Compress) other) (Delete r) ≡ accepted l → length (blocksIn l) ≡ 2
-  D-after-C out other k l c d =
-      let q = estimate-true g M r (2 ∷ 2 ∷ 1 ∷ []) asked in
-      let (f, w) = three-are 2 2 1 (q .freed) (q .words) (q .shards) (q .three) in
-      q .behindC out other k l c d ∙ sym f
+  -- `estimate-enough`: however full the log is that D is accepted, and gives nothing
+  pub D-with-full-log : (out : List ℕ) → 2 * blocks g + 64 ≤ length out → wordsUsed M ≡ g .words →
+      (reply g (behind g M r out) (Delete r) ≡ accepted []) × (wordsUsed (after g (behind g M r out) (Delete r)) ≡ g .words)
+  D-with-full-log out long full =
+      let d = estimate-enough g M r (2 ∷ w ∷ 1 ∷ []) out asked long in (
+        d,
+        D-queues-two out [] d .1 ∙ full,
+      )
 
-  -- `estimate-enough`, both ways: one word too few is refused 14, the very number is accepted
-  pub one-word-short : (out : List ℕ) → 2 * blocks g + 64 ≤ length out → suc (wordsUsed M) ≡ g .words → reply g (behind g M r out) (Delete r) ≡ refused 14
-  one-word-short out long e = estimate-enough g M r 2 2 1 out asked long .refuses (omega (arith, e))
-
-  pub just-enough : (out : List ℕ) → 2 * blocks g + 64 ≤ length out → wordsUsed M + 2 ≡ g .words →
-      (l : List ℕ) × (reply g (behind g M r out) (Delete r) ≡ accepted l)
-  just-enough out long e = estimate-enough g M r 2 2 1 out asked long .accepts (omega (arith, e))
+  -- so it is refused for nothing
+  pub D-not-refused : (out : List ℕ) (n : ℕ) → 2 * blocks g + 64 ≤ length out → reply g (behind g M r out) (Delete r) ≡ refused n → ⊥
+  D-not-refused out n long e = false≢true (ap wasAccepted (sym e ∙ estimate-enough g M r (2 ∷ w ∷ 1 ∷ []) out asked long))
 
   -- `estimate-still`: it looks only
   pub Q-looks-only : (after g M (Estimate r) .tables ≡ M .tables) × (after g M (Estimate r) .log ≡ M .log)
@@ -730,7 +769,7 @@ module _ (g : Geometry) (M : Memory) (r : ℕ) (asked : reply g M (Estimate r) �
   -- `shards-counted`: the record that follows has a shard, born after r's pred, that is not empty
   pub a-shard : (s n : ℕ) → There (stateOf g (M .tables) .view) r s → Live (stateOf g (M .tables) .view) n → stateOf g (M .tables) .view .prev n ≡ suc s →
       (v : ℕ) × (predNum (stateOf g (M .tables) .view) s < v) × (shard (stateOf g (M .tables) .view) n v ≡ [] → ⊥)
-  a-shard s n there live follows = let (births, above, long) = shards-counted g M r 2 2 1 s asked there .next n live follows in go births above long
+  a-shard s n there live follows = let (births, above, long) = shards-counted g M r 2 w 1 s asked there .next n live follows in go births above long
     where
       K : View
       K = stateOf g (M .tables) .view
@@ -739,26 +778,72 @@ module _ (g : Geometry) (M : Memory) (r : ℕ) (asked : reply g M (Estimate r) �
       go [] B e = absurd (omega (arith, e))
       go (v ∷ vs) B e = let (low, some) = B .these v .0 (inl refl) in (v, low, some)
 
+-- `estimate-refusals`: on any memory Q is refused with a number exactly where D is
+pub refused-alike : (g : Geometry) (M : Memory) (r n : ℕ) → (reply g M (Estimate r) ≡ refused n) ↔ (reply g M (Delete r) ≡ refused n)
+unfolding reply
+refused-alike g M r n =
+    let T = stateOf g (M .tables) in
+    let same = estimate-refusals g M r in
+    let q = refused-iff (allConditions g M (Estimate r)) (result g T (Estimate r)) 1 n (all-ordered g M (Estimate r)) in
+    let d = refused-iff (allConditions g M (Delete r)) (result g T (Delete r)) 1 n (all-ordered g M (Delete r)) in (
+      λ e. d .1 (subst (λ cs. Holds n cs × NoneBefore n cs) (sym same) (q .0 e)),
+      λ e. q .1 (subst (λ cs. Holds n cs × NoneBefore n cs) same (d .0 e)),
+    )
+
 -- ── BIRTHS BESIDE BLOCKS ──
 
--- on any memory D r gave block b with v
-module _ (g : Geometry) (M : Memory) (r b v : ℕ) (done : reply g M (Delete r) ≡ accepted (b ∷ v ∷ [])) where
+-- block b with v is all that was given, by some births
+alone : (birth : ℕ → ℕ) (b v : ℕ) (these : List ℕ) → _≡_ {A = List ℕ} (b ∷ v ∷ []) (paired birth these) → (birth b ≡ v) × In b these
+unfolding paired
+alone birth b v [] e = absurd (let z : _≡_ {A = ℕ} 2 0 = ap (λ (l : List ℕ). length l) e in omega (arith, z))
+alone birth b v (c ∷ cs) e =
+    let d : b ≡ c = ap (λ (l : List ℕ). getD l 0 0) e in
+    let f : v ≡ birth c = ap (λ (l : List ℕ). getD l 1 0) e in
+    (ap birth d ∙ sym f, inl d)
+
+-- on any memory E gave block b with v
+module _ (g : Geometry) (M : Memory) (r x b v : ℕ) (done : reply g M (Erase r x) ≡ accepted (b ∷ v ∷ [])) where
   -- `births-in-results`: v is the birth that b had, and b was on a page
-  pub D-gives-birth : viewOf g (M .tables) .birth b ≡ v
-  unfolding paired
-  D-gives-birth = let w = births-in-results g M (Delete r) (b ∷ v ∷ []) done in go (w .these) (w .numbers)
-    where
-      go : (these : List ℕ) → _≡_ {A = List ℕ} (b ∷ v ∷ []) (paired (viewOf g (M .tables) .birth) these) → viewOf g (M .tables) .birth b ≡ v
-      go [] e = absurd (let z : _≡_ {A = ℕ} 2 0 = ap (λ (l : List ℕ). length l) e in omega (arith, z))
-      go (c ∷ cs) e =
-          let d : b ≡ c = ap (λ (l : List ℕ). getD l 0 0) e in
-          let f : v ≡ viewOf g (M .tables) .birth c = ap (λ (l : List ℕ). getD l 1 0) e in
-          ap (viewOf g (M .tables) .birth) d ∙ sym f
+  pub E-gives-birth : stateOf g (M .tables) .view .birth b ≡ v
+  E-gives-birth = let w = births-in-results g M (Erase r x) (b ∷ v ∷ []) done in alone (stateOf g (M .tables) .view .birth) b v (w .these) (w .numbers) .0
+
+  pub E-was-on-page : (s : ℕ) × (y : ℕ) × On (stateOf g (M .tables) .view) s y b
+  E-was-on-page =
+      let w = births-in-results g M (Erase r x) (b ∷ v ∷ []) done in
+      let i = w .in-store b (alone (stateOf g (M .tables) .view .birth) b v (w .these) (w .numbers) .1) in
+      (i .slot, i .page, i .on)
 
   -- `log-as-before`: one word, a free of b; the birth is no part of it
-  pub D-writes-free : after g M (Delete r) .log ≡ writeAt (M .log) (8 * wordsUsed M) (bytesOf (released b ∷ []))
+  pub E-writes-free : after g M (Erase r x) .log ≡ writeAt (M .log) (8 * wordsUsed M) (bytesOf (released b ∷ []))
   unfolding blocksIn blocksOf
-  D-writes-free = log-as-before g M (Delete r) (b ∷ v ∷ []) (λ e. false≢true (ap syncs e)) done
+  E-writes-free = log-as-before g M (Erase r x) (b ∷ v ∷ []) (λ e. false≢true (ap syncs e)) done
+
+-- D gives nothing, so neither a block nor a birth of 0
+pub D-names-none : (g : Geometry) (M : Memory) (r b v : ℕ) (l : List ℕ) → reply g M (Delete r) ≡ accepted (b ∷ v ∷ l) → ⊥
+D-names-none g M r b v l done =
+    let z : suc (suc (length l)) ≡ 0 = ap (λ (m : List ℕ). length m) (births-in-results g M (Delete r) (b ∷ v ∷ l) done) in
+    omega (arith, z)
+
+-- on any memory T gave block b with v
+module _ (g : Geometry) (M : Memory) (k b v : ℕ) (done : reply g M (Reclaim k) ≡ accepted (b ∷ v ∷ [])) where
+  -- `births-in-results`: v is the birth that b has in the queue, where it stood, and b is on no page
+  pub T-gives-birth : (stateOf g (M .tables) .queue .birth b ≡ v) × In b (stateOf g (M .tables) .queue .list) × (stateOf g (M .tables) .view .birth b ≡ 0)
+  T-gives-birth =
+      let w = births-in-results g M (Reclaim k) (b ∷ v ∷ []) done in
+      let (e, i) = alone (stateOf g (M .tables) .queue .birth) b v (w .these) (w .numbers) in
+      (e, w .in-queue b i, w .unborn b i)
+
+  -- it is a number that was given, so never 0
+  pub T-birth-given : (0 < v) × (v ≤ stateOf g (M .tables) .view .last)
+  T-birth-given =
+      let w = births-in-results g M (Reclaim k) (b ∷ v ∷ []) done in
+      let (e, i) = alone (stateOf g (M .tables) .queue .birth) b v (w .these) (w .numbers) in
+      (omega (arith, w .above b i, e), omega (arith, w .given b i, e))
+
+  -- `log-as-before`: one word, a free of b
+  pub T-writes-free : after g M (Reclaim k) .log ≡ writeAt (M .log) (8 * wordsUsed M) (bytesOf (released b ∷ []))
+  unfolding blocksIn blocksOf
+  T-writes-free = log-as-before g M (Reclaim k) (b ∷ v ∷ []) (λ e. false≢true (ap syncs e)) done
 
 -- ── what was taken as heard is what the model answers ──
 
@@ -766,7 +851,7 @@ abbrev called : List Entry → List Screened
 called l = map (λ e. fine (e .call)) l
 
 pub heard-so : (history two (called one-waits) ≡ one-waits) × (history two (called one-sealed) ≡ one-sealed) ×
-    (history two (called given-twice) ≡ given-twice) × (history ten (called plugged) ≡ plugged) × (history arenas3 (called mark-moved) ≡ mark-moved) ×
-    (history two (called five-used) ≡ five-used)
+    (history two (called given-twice) ≡ given-twice) × (history two (called both-queued) ≡ both-queued) × (history ten (called plugged) ≡ plugged) ×
+    (history arenas3 (called mark-moved) ≡ mark-moved) × (history two (called five-used) ≡ five-used)
 unfolding repliesTo
-heard-so = (refl, refl, refl, refl, refl, refl)
+heard-so = (refl, refl, refl, refl, refl, refl, refl)

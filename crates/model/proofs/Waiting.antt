@@ -1,23 +1,23 @@
--- The blocks that wait: what the calls do to them keeps them blocks of the store, none twice and none with a birth.
+-- The blocks that wait: what the calls do to them keeps them blocks of the store, none twice, none with a birth and none in the queue.
 use mathlib.Core.Path.{_≡_, refl, sym, ap, _∙_}
 use mathlib.Core.Logic.{inl, inr}
-use mathlib.Core.Bool.{Bool, true, false, not, _&&_, _||_, or-assoc, false≢true}
+use mathlib.Core.Bool.{true, false, not, _||_, or-assoc, false≢true}
 use mathlib.Core.List.{List, [], _∷_, _++_}
 use Prim.Native.Nat.{ℕ, zero, suc, _≤_, _<_}
 use native.Mathlib.Omega.{arith}
 use lib.Dec.{eqb, ltb}
-use lib.ListN.{length, length-append}
+use lib.ListN.{length}
 use borrow.Author.Tests.{eq-eqb, ne-eqb, eqb-true, lt-ltb, ltb-true}
-use Rattle.answer.proofs.Cases.{cases, either, same?}
+use Rattle.answer.proofs.Cases.{cases, either, same?, lt?}
 use Rattle.model.specs.View.{View, predNum, baseNum}
 use Rattle.model.specs.Lists.{In, Once, elem, below?}
 use Rattle.model.specs.Sound.{Sound}
 use Rattle.model.specs.Actions.{Action, doB, doW, doE, doS, doF, doD, Asks, done, follower}
 use Rattle.model.specs.Effects.{Fate, freed, marked, kept, fate}
 use Rattle.model.specs.Held.{waits, available, frees, freedOne, erased}
-use Rattle.model.specs.State.{State, WaitingFits}
+use Rattle.model.specs.State.{State, QueueFits, WaitingFits}
 use Rattle.model.specs.Calls.{acted}
-use Rattle.model.proofs.ListFacts.{in?, of-append, pw-append}
+use Rattle.model.proofs.ListFacts.{of-append, pw-append}
 use Rattle.model.proofs.Tally.{length-is, tally-le}
 use Rattle.model.proofs.Sizes.{done-sized}
 use Rattle.model.proofs.Facts.{held-inside}
@@ -88,18 +88,23 @@ not-waits T b n = not-in-elem b (T .waiting) n
 
 -- ── a block that may be given ──
 
-pub available-is : (T : State) (b : ℕ) → available T b ≡ true → (T .view .birth b ≡ 0) × (In b (T .waiting) → ⊥)
+pub available-is : (T : State) (b : ℕ) → available T b ≡ true → (T .view .birth b ≡ 0) × (In b (T .waiting) → ⊥) × (T .queue .birth b ≡ 0)
 unfolding available waits
 available-is T b e =
     cases (either (eqb (T .view .birth b) 0))
-    (λ y.
-    let k : not (elem b (T .waiting)) ≡ true = rw y at e in
-    (eqb-true (T .view .birth b) 0 y, λ i. false≢true (let z : false ≡ true = rw (in-elem b (T .waiting) i) at k in z)))
+    (λ y. cases (either (eqb (T .queue .birth b) 0))
+    (λ z.
+    let k : not (elem b (T .waiting)) ≡ true = rw (y, z) at e in (
+      eqb-true (T .view .birth b) 0 y,
+      λ i. false≢true (let w : false ≡ true = rw (in-elem b (T .waiting) i) at k in w),
+      eqb-true (T .queue .birth b) 0 z,
+    ))
+    (λ z. absurd (false≢true (rw (y, z) at e))))
     (λ y. absurd (false≢true (rw y at e)))
 
-pub is-available : (T : State) (b : ℕ) → T .view .birth b ≡ 0 → (In b (T .waiting) → ⊥) → available T b ≡ true
+pub is-available : (T : State) (b : ℕ) → T .view .birth b ≡ 0 → T .queue .birth b ≡ 0 → (In b (T .waiting) → ⊥) → available T b ≡ true
 unfolding available waits
-is-available T b e n = rw (eq-eqb (T .view .birth b) 0 e, not-in-elem b (T .waiting) n)
+is-available T b e q n = rw (eq-eqb (T .view .birth b) 0 e, eq-eqb (T .queue .birth b) 0 q, not-in-elem b (T .waiting) n)
 
 pub held-unavailable : (T : State) (b : ℕ) → 0 < T .view .birth b → available T b ≡ false
 unfolding available
@@ -108,6 +113,21 @@ held-unavailable T b h = rw (ne-eqb (T .view .birth b) 0 (λ e. omega arith))
 pub waits-unavailable : (T : State) (b : ℕ) → In b (T .waiting) → available T b ≡ false
 unfolding available waits
 waits-unavailable T b i = cases (either (available T b)) (λ e. absurd (available-is T b e .1 i)) (λ e. e)
+
+-- ── a queued block ──
+
+pub queued-unavailable : (T : State) (b : ℕ) → 0 < T .queue .birth b → available T b ≡ false
+queued-unavailable T b h =
+    cases (either (available T b)) (λ e. absurd (let z : ⊥ = omega (arith, available-is T b e .2) in z)) (λ e. e)
+
+-- a block that is on a page is not queued
+pub born-unqueued : (T : State) → QueueFits T → (b : ℕ) → 0 < T .view .birth b → T .queue .birth b ≡ 0
+born-unqueued T Q b h =
+    cases (lt? 0 (T .queue .birth b)) (λ k. absurd (let z : ⊥ = omega (arith, Q .unborn b (Q .births b .1 k)) in z)) (λ k. omega arith)
+
+-- and one that has no birth in the queue is not in it
+pub unqueued-out : (T : State) → QueueFits T → (b : ℕ) → T .queue .birth b ≡ 0 → In b (T .queue .list) → ⊥
+unqueued-out T Q b e i = let z : ⊥ = omega (arith, Q .births b .0 i) in z
 
 -- ── what an action frees ──
 
@@ -132,7 +152,8 @@ frees-once K (doD s) S q = deleted-once K s (follower K s) S (q .0)
 
 -- ── an action keeps them so: what it gives did not wait ──
 
-module _ (T : State) (a : Action) (S : Sound (T .view)) (q : Asks (T .view) a) (w : WaitingFits T) (n : (c : ℕ) → Gives a c → In c (T .waiting) → ⊥) where
+module _ (T : State) (a : Action) (S : Sound (T .view)) (q : Asks (T .view) a) (Q : QueueFits T) (w : WaitingFits T)
+    (n : (c : ℕ) → Gives a c → In c (T .waiting) → ⊥) where
   still-unborn : (b : ℕ) → In b (T .waiting) → done (T .view) a .birth b ≡ 0
   still-unborn b i =
       cases (same? (done (T .view) a .birth b) 0)
@@ -148,6 +169,9 @@ module _ (T : State) (a : Action) (S : Sound (T .view)) (q : Asks (T .view) a) (
         (λ j. omega (arith, w .below b j, done-sized (T .view) a .blocks))
         (λ j. omega (arith, held-inside (T .view) S b (frees-is (T .view) a S q b .0 j .0), done-sized (T .view) a .blocks));
     unborn = λ b i. cases (of-append b (T .waiting) (frees (T .view) a) i) (still-unborn b) (λ j. frees-is (T .view) a S q b .0 j .1);
+    unqueued = λ b i. cases (of-append b (T .waiting) (frees (T .view) a) i)
+        (w .unqueued b)
+        (λ j. born-unqueued T Q b (frees-is (T .view) a S q b .0 j .0));
     once = pw-append (λ b c. b ≡ c → ⊥) (T .waiting) (frees (T .view) a) (w .once) (frees-once (T .view) a S q)
         (λ b c i j e. omega (arith, w .unborn b i, frees-is (T .view) a S q c .0 j .0, ap (T .view .birth) e));
   }

@@ -16,12 +16,11 @@ use Rattle.model.specs.Actions.{Action, doB, doW, doS, doF, done, follow
 use Rattle.model.specs.Held.{freedOne, erased, deleted}
 use Rattle.model.specs.Model.{history}
 use Rattle.model.specs.Command.{Command}
-use Rattle.model.specs.Command.{Begin, Write, Erase, Seal, Fork, Delete, Retain, Attach, Resolve}
+use Rattle.model.specs.Command.{Begin, Write, Erase, Seal, Fork, Delete, Retain, Reclaim, Attach, Resolve}
 use Rattle.model.specs.Book.{Book, emptyBook, inRecs, inLines, pagesIn, pagesOf, inLine, sealRec, dropRec, keepLine, dropIn, openLine}
 use Rattle.model.specs.Book.{namesMoved, recSealed, recOut, namedIn, nameAdded, windowWith, sealedIn, sealedWith, anyRec, forkAmong, mayLeave, takenOut}
 use Rattle.model.specs.Book.{recsOut, trimmed, accept}
-use Rattle.model.specs.Window.{steps, freesAlong, upTo, older, sealedOf, bare, victims, sealing, mayGo, trimLoop, bornAbove}
-use Rattle.model.specs.Window.{lastStaying, floorOf, freesOf, freesWalked}
+use Rattle.model.specs.Window.{steps, freesAlong, upTo, older, sealedOf, bare, victims, sealing, mayGo, trimLoop}
 use Rattle.model.specs.WindowBook.{outLoop}
 use Rattle.model.proofs.PaperExample.{fine, repliesTo}
 
@@ -65,7 +64,7 @@ unfolding written keepIf rows cleared shard shards leave unlinked joined unlink 
 before = written
 
 unfoldable pub trimmings : View
-unfolding before upTo older sealedOf butLast trim bare victims sealing mayGo onFirst trimLoop bornAbove lastStaying floorOf freesOf freesWalked
+unfolding before upTo older sealedOf butLast trim bare victims sealing mayGo onFirst trimLoop
 trimmings = before
 
 -- no record has a name
@@ -95,18 +94,11 @@ pub example-left : sealedOf after 4 ≡ 1 ∷ 4 ∷ []
 unfolding trimmings
 example-left = refl
 
--- 1 goes and frees block 0, 3 frees block 3, and 4 frees block 4 (born in 3, which is gone by then) and block 5; record 2 stays, with blocks 1 and 2
-pub example-frees : freesAlong before (sealing before none 2 4) ≡ 0 ∷ 3 ∷ 4 ∷ 5 ∷ []
+-- 1 goes and its block 0 is queued, then block 3 of record 3, then block 4 (born in 3, which is gone by then) and block 5 of record 4; record 2 stays, with
+-- blocks 1 and 2
+pub example-queued : freesAlong before (sealing before none 2 4) ≡ 0 ∷ 3 ∷ 4 ∷ 5 ∷ []
 unfolding trimmings
-example-frees = refl
-
-pub example-counted : freesOf before (0 ∷ 2 ∷ 3 ∷ []) (0 ∷ 2 ∷ 3 ∷ []) ≡ 4
-unfolding trimmings
-example-counted = refl
-
-pub example-walked : freesWalked before none 3 0 (0 ∷ 1 ∷ 2 ∷ 3 ∷ 4 ∷ []) ≡ 4
-unfolding trimmings
-example-walked = refl
+example-queued = refl
 
 -- with a second fork, on record 4, three are left: the two with a fork on them and the newest
 abbrev pub forkedTwice : View
@@ -134,17 +126,9 @@ unfolding trimmings
 named-left = refl
 
 -- block 0 stays, on a page of record 1
-pub named-frees : freesAlong before (sealing before first 2 4) ≡ 3 ∷ 4 ∷ 5 ∷ []
+pub named-queued : freesAlong before (sealing before first 2 4) ≡ 3 ∷ 4 ∷ 5 ∷ []
 unfolding trimmings
-named-frees = refl
-
-pub named-counted : freesOf before (2 ∷ 3 ∷ []) (2 ∷ 3 ∷ []) ≡ 3
-unfolding trimmings
-named-counted = refl
-
-pub named-walked : freesWalked before first 3 0 (0 ∷ 1 ∷ 2 ∷ 3 ∷ 4 ∷ []) ≡ 3
-unfolding trimmings
-named-walked = refl
+named-queued = refl
 
 -- with a window of 3 two go where no name is, the oldest and the third; with the name the third and the fourth
 pub three-victims : (victims sealedView none 3 4 ≡ 0 ∷ 2 ∷ []) × (victims sealedView first 3 4 ≡ 2 ∷ 3 ∷ [])
@@ -204,18 +188,18 @@ setUp =
     ∷ Write 4 3 0 ∷ Seal 4 ∷ Write 5 0 0 ∷ Erase 5 1 ∷ Fork 2 ∷ []
 
 -- a window of 2 on the first line, of 1 on the fork; S of the fork takes nothing yet, then its first record; S of the first line takes 1, 3 and 4, and
--- passes 2 over
+-- passes 2 over. It gives its number alone: the turns give what it queued.
 pub example-calls : drop 17 (map (λ e. e .answer) (history twoLines (map fine (setUp ++
-    (Retain 5 2 ∷ Retain 6 1 ∷ Write 6 0 0 ∷ Seal 6 ∷ Seal 7 ∷ Seal 5 ∷ Retain 9 63 ∷ Retain 1 2 ∷ Retain 2 2 ∷ []))))) ≡
+    (Retain 5 2 ∷ Retain 6 1 ∷ Write 6 0 0 ∷ Seal 6 ∷ Seal 7 ∷ Seal 5 ∷ Reclaim 3 ∷ Reclaim 3 ∷ Reclaim 3 ∷ Retain 9 63 ∷ Retain 1 2 ∷ Retain 2 2 ∷ []))))) ≡
     accepted [] ∷ accepted [] ∷ accepted (10 ∷ 6 ∷ []) ∷ accepted (7 ∷ []) ∷ accepted (8 ∷ [])
-    ∷ accepted (9 ∷ 0 ∷ 1 ∷ 4 ∷ 3 ∷ 5 ∷ 3 ∷ 6 ∷ 4 ∷ [])
+    ∷ accepted (9 ∷ []) ∷ accepted (0 ∷ 1 ∷ 4 ∷ 3 ∷ 5 ∷ 3 ∷ []) ∷ accepted (6 ∷ 4 ∷ []) ∷ accepted []
     ∷ refused 15 ∷ refused 8 ∷ refused 9 ∷ []
 unfolding repliesTo
 example-calls = refl
 
 -- the same line with a name on record 1: S takes 3 and 4, and passes 1 and 2 over. Then 1 may not be deleted, and M gives its number
 pub named-calls : drop 17 (map (λ e. e .answer) (history twoLines (map fine (setUp ++
-    (Retain 5 2 ∷ Attach (97 ∷ []) 1 ∷ Seal 5 ∷ Delete 1 ∷ Resolve (97 ∷ []) ∷ Delete 3 ∷ []))))) ≡
-    accepted [] ∷ accepted [] ∷ accepted (7 ∷ 4 ∷ 3 ∷ 5 ∷ 3 ∷ 6 ∷ 4 ∷ []) ∷ refused 18 ∷ accepted (1 ∷ []) ∷ refused 8 ∷ []
+    (Retain 5 2 ∷ Attach (97 ∷ []) 1 ∷ Seal 5 ∷ Reclaim 64 ∷ Delete 1 ∷ Resolve (97 ∷ []) ∷ Delete 3 ∷ []))))) ≡
+    accepted [] ∷ accepted [] ∷ accepted (7 ∷ []) ∷ accepted (4 ∷ 3 ∷ 5 ∷ 3 ∷ 6 ∷ 4 ∷ []) ∷ refused 18 ∷ accepted (1 ∷ []) ∷ refused 8 ∷ []
 unfolding repliesTo
 named-calls = refl

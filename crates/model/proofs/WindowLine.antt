@@ -174,15 +174,6 @@ module _ (K : View) (S : Sound K) where
     pub older-none : K .prev s ≡ 0 → older K s ≡ []
     older-none e = sym (older-is s [] h (sym e))
 
-    -- each of them has a follower in the line
-    pub older-followed : (t : ℕ) → In t (older K s) → (n : ℕ) × (0 < K .num n) × (K .prev n ≡ suc t)
-    older-followed t i = go (older K s) 0 (older-chain s h) i
-      where
-        go : (l : List ℕ) (a : ℕ) → Chain K a l (K .prev s) → In t l → (n : ℕ) × (0 < K .num n) × (K .prev n ≡ suc t)
-        go [] a c j = absurd j
-        go (u ∷ []) a (hu, eu, c) j = cases j (λ e. (s, h, sym c ∙ ap suc (sym e))) (λ k. absurd k)
-        go (u ∷ w ∷ l) a (hu, eu, c) j = cases j (λ e. (w, c .0, c .1 ∙ ap suc (sym e))) (λ k. go (w ∷ l) (suc u) c k)
-
   -- a line has no more records than there are slots
   pub line-short : (r : ℕ) → 0 < K .num r → length (sealedOf K r) ≤ K .slots
   line-short r h =

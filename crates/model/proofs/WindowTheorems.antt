@@ -1,39 +1,38 @@
 -- The theorems of the window, of the memory before and after a call.
 use mathlib.Core.Path.{_≡_, sym, ap, _∙_, subst}
 use mathlib.Core.List.{List, [], _∷_}
-use Prim.Native.Nat.{ℕ, zero, suc, _+_, _-_, _<_}
+use Prim.Native.Nat.{ℕ, zero, suc, _+_, _<_}
 use native.Mathlib.Omega.{arith}
 use lib.Dec.{eqb, ltb}
-use lib.ListN.{length, length-map}
-use borrow.Author.Tests.{ltb-true, ltb-false, lt-ltb}
-use Rattle.answer.specs.Reply.{Reply, accepted}
-use Rattle.answer.specs.Refusal.{Holds, Ordered, leaves}
+use borrow.Author.Tests.{ltb-false}
+use Rattle.answer.specs.Reply.{accepted}
 use Rattle.answer.proofs.Cases.{cases}
-use Rattle.answer.proofs.Decided.{decide-refused, decide-refuses}
 use Rattle.geometry.specs.declared.Geometry.{Geometry}
-use Rattle.log.specs.Word.{released, writeAt, bytesOf}
+use Rattle.log.proofs.Writing.{write-none}
 use Rattle.model.specs.View.{View}
 use Rattle.model.specs.Lists.{In}
+use Rattle.model.specs.Queue.{Queue, enqueued}
 use Rattle.model.specs.Sound.{Sound}
 use Rattle.model.specs.Effects.{begin, fork}
 use Rattle.model.specs.Actions.{doS, Asks, done, vacant}
 use Rattle.model.specs.State.{State}
-use Rattle.model.specs.Calls.{slot, newSlot, windowOf, closes, freedClosing, acted, conditions, written}
-use Rattle.model.specs.Window.{steps, victims, actedAll, WindowStops, WindowTakes}
+use Rattle.model.specs.Calls.{slot, newSlot, windowOf, closes, queuedClosing, acted, conditions}
+use Rattle.model.specs.Window.{steps, victims, queueing, WindowStops, WindowTakes}
 use Rattle.model.specs.Layout.{stateOf}
-use Rattle.model.specs.Memory.{Memory, allConditions, reply, after}
-use Rattle.model.specs.WindowMeans.{was, now, sealedView, StopsThere, Took, TakesOldest, Takes, FreesThem}
-use Rattle.model.specs.WindowMeans.{Seal14, RetainOnly, BeginBare, ForkBare, SealPasses}
+use Rattle.model.specs.Memory.{Memory, reply, after}
+use Rattle.model.specs.QueueMeans.{was, now, Queues}
+use Rattle.model.specs.WindowMeans.{sealedView, StopsThere, Took, TakesOldest, Takes, QueuesThem, RetainOnly, BeginBare, ForkBare, SealPasses}
+use Rattle.model.specs.Command.{Command}
 use Rattle.model.specs.Command.{Begin, Seal, Fork, Retain}
 use Rattle.model.proofs.TabFacts.{put-same, put-other}
+use Rattle.model.proofs.QueueFacts.{overlaid-in, overlaid-out}
 use Rattle.model.proofs.DoneSound.{spare, done-sound}
 use Rattle.model.proofs.ListFacts.{in?}
-use Rattle.model.proofs.ByNumber.{none-at, true-at, at-true, or-false}
+use Rattle.model.proofs.ByNumber.{none-at, or-false}
 use Rattle.model.proofs.BookFacts.{grow-grown, seal-grown}
 use Rattle.model.proofs.WindowFacts.{window-orders}
 use Rattle.model.proofs.WindowSeal.{seal-stops, seal-takes, seal-num}
 use Rattle.model.proofs.Asked.{Fine, not-zero, named-slot}
-use Rattle.model.proofs.Refusals.{ordered}
 use Rattle.model.proofs.Closing.{closing-first, seals}
 use Rattle.model.proofs.Keeps.{Accepted, accepted-is, accepted-state, accepted-log, sound-fine}
 
@@ -83,7 +82,7 @@ module _ (g : Geometry) (M : Memory) (r : ℕ) (l : List ℕ) (e : reply g M (Se
   q = seals g (A .inside) T F r (closing-first g T r (A .none))
 
   left : now g M (Seal r) .view ≡ steps (stateOf g (M .tables) .view) (closes (stateOf g (M .tables)) r)
-  unfolding actedAll
+  unfolding queueing
   left = ap (λ U. U .view) (accepted-state g M (Seal r) l e)
 
   sound : Sound (done (stateOf g (M .tables) .view) (doS (slot (stateOf g (M .tables)) r)))
@@ -103,54 +102,46 @@ pub window-takes : Takes
 window-takes g M r l e =
     takes-oldest (sealedView g M r) (now g M (Seal r) .view) (was g M .notes .names) (windowOf (was g M) r) (slot (was g M) r) (took g M r l e)
 
-pub window-frees : FreesThem
+-- ── what it queues ──
+
+-- marks, counter and counts are as they were
+abbrev pub SameTurn : Geometry → Memory → Command → Type 0
+SameTurn g M c =
+    (now g M c .used ≡ was g M .used) × (now g M c .mark ≡ was g M .mark) × (now g M c .counter ≡ was g M .counter) ×
+    (now g M c .writes ≡ was g M .writes)
+
+-- the blocks of l joined the queue, and no word was written
+pub queues-by : (g : Geometry) (M : Memory) (c : Command) (l : List ℕ) → now g M c .queue ≡ enqueued (was g M .queue) (was g M .view .birth) l →
+    SameTurn g M c → now g M c .waiting ≡ was g M .waiting → after g M c .log ≡ M .log → Queues g M c l
 unfolding stateOf
-window-frees g M r l e =
+queues-by g M c l q u w log =
+    let T : State = was g M in
+    record {
+      list = ap (λ (Q : Queue). Q .list) q;
+      births = λ b i. ap (λ (Q : Queue). Q .birth b) q ∙ overlaid-in (T .queue .birth) (T .view .birth) l b i;
+      others = λ b n. ap (λ (Q : Queue). Q .birth b) q ∙ overlaid-out (T .queue .birth) (T .view .birth) l b n;
+      log = log;
+      used = u .0;
+      waiting = w;
+      mark = u .1;
+      counter = u .2;
+      writes = u .3;
+    }
+
+pub window-queues : QueuesThem
+unfolding queueing
+window-queues g M r l e =
     let T = was g M in
     let a = q g M r l e in
     let S = F g M r l e .sound in
+    let s = accepted-state g M (Seal r) l e in
     record {
       result = sym (accepted-is g M (Seal r) l e .1);
-      words = accepted-log g M (Seal r) l e;
+      queues = queues-by g M (Seal r) (queuedClosing T r) (ap (λ U. U .queue) s)
+          (ap (λ U. U .used) s, ap (λ U. U .mark) s, ap (λ U. U .counter) s, ap (λ U. U .writes) s) (ap (λ U. U .waiting) s)
+          (accepted-log g M (Seal r) l e ∙ write-none (M .log) _);
       order = window-orders (done (T .view) (doS (slot T r))) (T .notes .names) (windowOf T r) (slot T r) (sound g M r l e)
           (omega (arith, seal-num (T .view) (slot T r) S a, a .0));
-    }
-
--- ── 14 ──
-
-all-ordered : (g : Geometry) (M : Memory) (r : ℕ) → Ordered 0 (allConditions g M (Seal r))
-all-ordered g M r = (omega arith, (omega arith, (omega arith, ordered g (stateOf g (M .tables)) (Seal r))))
-
-many : (g : Geometry) (T : State) (r : ℕ) → length (written g T (Seal r)) ≡ length (freedClosing T r)
-many g T r = length-map (freedClosing T r) released
-
--- 14 is true of the call where the words are too many
-fourteen-holds : (g : Geometry) (M : Memory) (r : ℕ) → Holds 14 (allConditions g M (Seal r)) →
-    g .words - was g M .used < length (freedClosing (was g M) r)
-fourteen-holds g M r h =
-    omega (
-      arith,
-      ltb-true (g .words - was g M .used) (length (written g (was g M) (Seal r))) (true-at (allConditions g M (Seal r)) 0 (all-ordered g M r) 14 h),
-      many g (was g M) r,
-    )
-
-pub seal-14 : Seal14
-unfolding reply after
-seal-14 g M r =
-    let T = was g M in
-    let out = Rattle.model.specs.Calls.result g T (Seal r) in
-    record {
-      exactly = (
-        λ e. let w = decide-refused (allConditions g M (Seal r)) out 0 14 (all-ordered g M r) e in (w .1, fourteen-holds g M r (w .0)),
-        λ w.
-            let y = lt-ltb (g .words - T .used) (length (written g T (Seal r))) (omega (arith, w .1, many g T r)) in
-            decide-refuses (allConditions g M (Seal r)) out 0 14 (all-ordered g M r) (at-true (allConditions g M (Seal r)) 14 y) (w .0),
-      );
-      unaltered = λ e. ap (λ (a : Reply). record {
-        tables = leaves a (M .tables) (Rattle.model.specs.Memory.storedBy g (M .tables) (Seal r));
-        log = leaves a (M .log) (writeAt (M .log) (Rattle.model.specs.Memory.writtenAt T (Seal r)) (bytesOf (written g T (Seal r))));
-        out = leaves a (M .out) (lib.Seq.sets (M .out) 0 out);
-      }) e;
     }
 
 -- ── K ──
@@ -182,8 +173,9 @@ retain-only g M r n l e =
         writes = ap (λ U. U .writes) s;
         used = ap (λ U. U .used) s;
         waiting = ap (λ U. U .waiting) s;
+        queue = ap (λ U. U .queue) s;
       };
-      log = accepted-log g M (Retain r n) l e ∙ Rattle.log.proofs.Writing.write-none (M .log) _;
+      log = accepted-log g M (Retain r n) l e ∙ write-none (M .log) _;
     }
 
 -- ── new lines ──
@@ -224,7 +216,7 @@ fork-bare g M r l e =
     }
 
 pub seal-passes : SealPasses
-unfolding actedAll
+unfolding queueing
 seal-passes g M r l e =
     let T = was g M in
     let s = accepted-state g M (Seal r) l e in

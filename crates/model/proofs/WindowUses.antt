@@ -1,32 +1,32 @@
 -- USES OF THE WINDOW'S STATEMENTS (specs/WindowMeans.antt), on any memory: each follows from one of them, and would not follow from a weaker one.
-use mathlib.Core.Path.{_≡_, refl, sym, ap, _∙_}
+use mathlib.Core.Path.{_≡_, refl, sym, ap, _∙_, subst}
 use mathlib.Core.Logic.{_⊎_, inl, inr}
-use mathlib.Core.List.{List, [], _∷_, map}
-use Prim.Native.Nat.{ℕ, suc, pred, _-_, _*_, _≤_, _<_}
+use mathlib.Core.List.{List, [], _∷_, _++_, append-assoc, append-nil}
+use Prim.Native.Nat.{ℕ, suc, pred, _+_, _≤_, _<_}
 use native.Mathlib.Omega.{arith}
-use lib.ListN.{length, getD, length-append}
-use Rattle.answer.specs.Reply.{accepted, refused}
-use Rattle.answer.specs.Refusal.{NoneBefore}
+use lib.ListN.{length, getD, take, drop, length-append, take-append-drop}
+use lib.Seq.{take-at, length-take-le}
+use Rattle.answer.specs.Reply.{Reply, accepted, refused}
 use Rattle.answer.proofs.Cases.{cases, same?, lt?}
 use Rattle.geometry.specs.declared.Geometry.{Geometry}
-use Rattle.log.specs.Word.{released, writeAt, bytesOf}
-use Rattle.log.proofs.Writing.{write-none}
 use Rattle.model.specs.View.{View}
 use Rattle.model.specs.Lists.{In}
-use Rattle.model.specs.Results.{paired}
+use Rattle.model.specs.Results.{blocksIn}
 use Rattle.model.specs.Actions.{forked, slotOf}
 use Rattle.model.specs.SoundMeans.{Live}
 use Rattle.model.specs.State.{State}
-use Rattle.model.specs.Calls.{slot, windowOf, freedClosing, conditions}
-use Rattle.model.specs.Window.{older, sealedOf}
-use Rattle.model.specs.Memory.{Memory, wordsUsed, allConditions, reply, after}
-use Rattle.model.specs.WindowMeans.{was, now, sealedView, Took, BareLine}
-use Rattle.model.specs.Command.{Begin, Seal, Fork, Retain}
+use Rattle.model.specs.Calls.{slot, windowOf, queuedClosing, conditions}
+use Rattle.model.specs.Window.{freesAlong, older, sealedOf, victims, sealing}
+use Rattle.model.specs.Memory.{Memory, wordsUsed, reply, after}
+use Rattle.model.specs.QueueMeans.{was, now}
+use Rattle.model.specs.WindowMeans.{sealedView, Took, BareLine}
+use Rattle.model.specs.Command.{Begin, Seal, Fork, Retain, Reclaim}
 use Rattle.model.proofs.ListFacts.{of-append}
 use Rattle.model.proofs.ByNumber.{none-at}
 use Rattle.model.proofs.Asked.{named-slot}
 use Rattle.model.proofs.Keeps.{accepted-is, sound-fine}
-use Rattle.model.proofs.WindowTheorems.{window-stops, window-takes, window-frees, seal-14, retain-only, begin-bare, fork-bare, seal-passes}
+use Rattle.model.proofs.WindowTheorems.{window-stops, window-takes, window-queues, retain-only, begin-bare, fork-bare, seal-passes}
+use Rattle.model.proofs.QueueTheorems.{seal-delete-not-14, turn-is}
 
 -- ── lists ──
 
@@ -34,10 +34,11 @@ in-some : (t : ℕ) (l : List ℕ) → In t l → 0 < length l
 in-some t [] i = absurd i
 in-some t (s ∷ l) i = omega arith
 
-paired-none : (f : ℕ → ℕ) (bs : List ℕ) → length (paired f bs) ≡ 0 → bs ≡ []
-unfolding paired
-paired-none f [] e = refl
-paired-none f (b ∷ bs) e = absurd (let z : ⊥ = omega arith in z)
+-- the first k of a list with more behind it
+first-of : (k : ℕ) (l m : List ℕ) → k ≤ length l → take k (l ++ m) ≡ take k l
+first-of k l m h =
+    ap (λ (a : List ℕ). take k (a ++ m)) (sym (take-append-drop k l)) ∙ ap (take k) (append-assoc (take k l) (drop k l) m) ∙
+    take-at (take k l) (drop k l ++ m) k (length-take-le k l h)
 
 -- ── an accepted S ──
 
@@ -115,26 +116,87 @@ module _ (g : Geometry) (M : Memory) (r : ℕ) (l : List ℕ) (done : reply g M 
   pub others-forked : windowOf (was g M) r ≡ 1 → ((t : ℕ) → names t ≡ 0) → (t : ℕ) → In t (sealedOf L s) → (t ≡ s → ⊥) → 0 < forked L t
   others-forked e z t i n = cases (others-held e t i n) (λ f. f) (λ m. absurd (let y : ⊥ = omega (arith, z t) in y))
 
-  -- `result`, `words`: an S that gave its number and nothing more wrote no word
-  pub no-word : (n : ℕ) → l ≡ n ∷ [] → after g M (Seal r) .log ≡ M .log
-  no-word n e =
-      let F = window-frees g M r l done in
-      let none : freedClosing (was g M) r ≡ [] =
-      paired-none (was g M .view .birth) (freedClosing (was g M) r) (omega (arith, ap (λ (m : List ℕ). length m) (sym (F .result) ∙ e))) in
-      F .words ∙ ap (λ (bs : List ℕ). writeAt (M .log) (8 * wordsUsed M) (bytesOf (map released bs))) none ∙ write-none (M .log) (8 * wordsUsed M)
+  -- `result`: it gives one number, whatever it queued
+  pub one-number : length l ≡ 1
+  one-number = ap length (window-queues g M r l done .result)
 
--- ── 14 ──
+  -- `list`: what was queued before stands first
+  pub queued-first : take (length (was g M .queue .list)) (now g M (Seal r) .queue .list) ≡ was g M .queue .list
+  queued-first =
+      let q = was g M .queue .list in
+      ap (take (length q)) (window-queues g M r l done .queues .list) ∙ take-at q (queuedClosing (was g M) r) (length q) refl
 
-module _ (g : Geometry) (M : Memory) (r : ℕ) where
-  -- `exactly`, both ways: with just as many unused words as blocks are freed S is not refused 14; with one less it is, and nothing is altered
-  pub just-enough : g .words - was g M .used ≡ length (freedClosing (was g M) r) → reply g M (Seal r) ≡ refused 14 → ⊥
-  just-enough e d = let z : ⊥ = omega (arith, seal-14 g M r .exactly .0 d .1) in z
+  -- and where the line has no window, nothing joins: list and births are as they were
+  pub none-queued : windowOf (was g M) r ≡ 0 → (now g M (Seal r) .queue .list ≡ was g M .queue .list) ×
+      ((b : ℕ) → now g M (Seal r) .queue .birth b ≡ was g M .queue .birth b)
+  unfolding sealing victims freesAlong
+  none-queued z =
+      let T = was g M in
+      let Q = window-queues g M r l done .queues in
+      let none : queuedClosing T r ≡ [] = ap (λ n. freesAlong (T .view) (sealing (T .view) (T .notes .names) n (slot T r))) z in (
+        Q .list ∙ ap (λ (m : List ℕ). T .queue .list ++ m) none ∙ append-nil (T .queue .list),
+        λ b. Q .others b (λ i. subst (In b) none i),
+      )
 
-  pub one-short : NoneBefore 14 (allConditions g M (Seal r)) → suc (g .words - was g M .used) ≡ length (freedClosing (was g M) r) →
-      (reply g M (Seal r) ≡ refused 14) × (after g M (Seal r) ≡ M)
-  one-short n e =
-      let d = seal-14 g M r .exactly .1 (n, omega arith) in
-      (d, seal-14 g M r .unaltered d)
+  -- `births`, `others`: a block that joins has the birth that it had on its pages, and one that was queued before keeps its own
+  pub births-kept : (b v : ℕ) → (In b (queuedClosing (was g M) r) → ⊥) → was g M .queue .birth b ≡ v → now g M (Seal r) .queue .birth b ≡ v
+  births-kept b v n e = window-queues g M r l done .queues .others b n ∙ e
+
+  pub births-join : (b v : ℕ) → In b (queuedClosing (was g M) r) → was g M .view .birth b ≡ v → now g M (Seal r) .queue .birth b ≡ v
+  births-join b v i e = window-queues g M r l done .queues .births b i ∙ e
+
+  -- `log`, `used`, `waiting`: neither the log nor the list of blocks that wait is touched
+  pub nothing-freed : (after g M (Seal r) .log ≡ M .log) × (wordsUsed (after g M (Seal r)) ≡ wordsUsed M) × (now g M (Seal r) .waiting ≡ was g M .waiting)
+  nothing-freed = let Q = window-queues g M r l done .queues in (Q .log, Q .used, Q .waiting)
+
+-- ── a full log ──
+
+module _ (g : Geometry) (M : Memory) (r : ℕ) (full : wordsUsed M ≡ g .words)
+    (no-other : (n : ℕ) → (n ≡ 14 → ⊥) → reply g M (Seal r) ≡ refused n → ⊥) where
+  -- an S that no refusal but 14 could meet is accepted
+  pub full-accepted : reply g M (Seal r) ≡ accepted (suc (was g M .view .last) ∷ [])
+  full-accepted = go (reply g M (Seal r)) refl
+    where
+      go : (a : Reply) → reply g M (Seal r) ≡ a → reply g M (Seal r) ≡ accepted (suc (was g M .view .last) ∷ [])
+      go (accepted l) e = e ∙ ap accepted (window-queues g M r l e .result)
+      go (refused n) e =
+          absurd (cases (same? n 14)
+          (λ i. seal-delete-not-14 g M (Seal r) (inr (r, refl)) (e ∙ ap refused i))
+          (λ m. no-other n m e))
+
+  -- it queues the blocks of its window's deletes, and the log is as full as before
+  pub full-queues : (now g M (Seal r) .queue .list ≡ was g M .queue .list ++ queuedClosing (was g M) r) × (wordsUsed (after g M (Seal r)) ≡ g .words)
+  full-queues =
+      let Q = window-queues g M r (suc (was g M .view .last) ∷ []) full-accepted .queues in
+      (Q .list, Q .used ∙ full)
+
+-- ── S, then T ──
+
+module _ (g : Geometry) (M : Memory) (r k : ℕ) (l m : List ℕ) (done : reply g M (Seal r) ≡ accepted l)
+    (turn : reply g (after g M (Seal r)) (Reclaim k) ≡ accepted m) where
+  -- `list`, `parts`: a turn of no more blocks than were queued before the S gives the first of those, and none of the S
+  pub earlier-first : k ≤ length (was g M .queue .list) → blocksIn m ≡ take k (was g M .queue .list)
+  earlier-first h =
+      let N = after g M (Seal r) in
+      let t = turn-is g N k m turn in
+      let q = window-queues g M r l done .queues .list in
+      let long : k ≤ length (was g N .queue .list) =
+      omega (arith, h, ap length q, length-append (was g M .queue .list) (queuedClosing (was g M) r)) in
+      let many : length (blocksIn m) ≡ k = omega (arith, t .many, long) in
+      sym (take-at (blocksIn m) (now g N (Reclaim k) .queue .list) k many) ∙ ap (take k) (t .parts ∙ q) ∙
+      first-of k (was g M .queue .list) (queuedClosing (was g M) r) h
+
+  -- `many`: a turn of more than are queued then gives all of them
+  pub all-given : length (was g M .queue .list) + length (queuedClosing (was g M) r) ≤ k →
+      length (blocksIn m) ≡ length (was g M .queue .list) + length (queuedClosing (was g M) r)
+  all-given h =
+      let q = window-queues g M r l done .queues .list in
+      omega (
+        arith,
+        turn-is g (after g M (Seal r)) k m turn .many,
+        ap length q,
+        length-append (was g M .queue .list) (queuedClosing (was g M) r),
+      )
 
 -- ── K, then S ──
 

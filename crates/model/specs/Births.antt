@@ -7,19 +7,19 @@ use Rattle.answer.specs.Reply.{accepted}
 use Rattle.geometry.specs.declared.Geometry.{Geometry}
 use Rattle.log.specs.Word.{allocated, released, barrier, writeAt, bytesOf}
 use Rattle.model.specs.View.{View}
-use Rattle.model.specs.Lists.{In, afterFirst}
+use Rattle.model.specs.Lists.{In}
 use Rattle.model.specs.Results.{paired, blocksOf}
 use Rattle.model.specs.SoundMeans.{On}
 use Rattle.model.specs.Held.{frees}
 use Rattle.model.specs.State.{State}
-use Rattle.model.specs.Calls.{Account, looking, opening, freeing, closing, placing, marking, renewing, account}
-use Rattle.model.specs.Calls.{block, writing, freedClosing, result, spelling}
-use Rattle.model.specs.Layout.{viewOf}
+use Rattle.model.specs.Calls.{Account, looking, opening, freeing, closing, removing, reclaiming, placing, marking, renewing, account}
+use Rattle.model.specs.Calls.{block, writing, firstQueued, result, spelling}
+use Rattle.model.specs.Layout.{stateOf}
 use Rattle.model.specs.Memory.{Memory, wordsUsed, reply, after}
 use Rattle.model.specs.History.{Event, give, free, eventsOf}
 use Rattle.model.specs.Command.{Command}
 use Rattle.model.specs.declared.Spelling.{Spelling}
-use Rattle.model.specs.declared.Spelling.the-variants.{Numbers, Blocks, NumberAndBlocks}
+use Rattle.model.specs.declared.Spelling.the-variants.{Numbers, Blocks}
 use Rattle.model.specs.Command.{Compress}
 
 -- ── the events read off a result are the blocks, not their births ──
@@ -29,7 +29,9 @@ abbrev pub movesBy : Geometry → State → Account → List Event
 movesBy g T (looking s cs res note) = []
 movesBy g T (opening cs a) = []
 movesBy g T (freeing cs a) = map free (frees (T .view) (a T))
-movesBy g T (closing r) = map free (freedClosing T r)
+movesBy g T (closing r) = []
+movesBy g T (removing r) = []
+movesBy g T (reclaiming k) = map free (firstQueued T k)
 movesBy g T (placing r x k) = give (block g T k) ∷ map free (frees (T .view) (writing g T r x k))
 movesBy g T marking = []
 movesBy g T renewing = []
@@ -65,33 +67,42 @@ pub record GivesFirst (K L : View) (r : ℕ) (l : List ℕ) : Type 0 where
   pub birth : L .birth first ≡ r
   pub freed : WithBirths K rest
 
--- an S first gives the number of the new record, then blocks that stood in the store
-pub record NumberFirst (K L : View) (l : List ℕ) : Type 0 where
-  pub rest : List ℕ
-  pub numbers : l ≡ L .last ∷ rest
+-- an S gives the number of the new record, and nothing else
+pub record NumberOnly (K L : View) (l : List ℕ) : Type 0 where
+  pub numbers : l ≡ L .last ∷ []
   pub next : L .last ≡ suc (K .last)
-  pub freed : WithBirths K rest
+
+-- a T gives blocks that stood in the queue, each with the birth that it has there; none of them is on a page
+pub record FromQueue (T : State) (l : List ℕ) : Type 0 where
+  pub these : List ℕ
+  pub numbers : l ≡ paired (T .queue .birth) these
+  pub in-queue : (b : ℕ) → In b these → In b (T .queue .list)
+  pub above : (b : ℕ) → In b these → 0 < T .queue .birth b
+  pub given : (b : ℕ) → In b these → T .queue .birth b ≤ T .view .last
+  pub unborn : (b : ℕ) → In b these → T .view .birth b ≡ 0
 
 abbrev pub Spelled : View → Spelling → List ℕ → Type 0
 Spelled K Numbers l = Unit {0}
 Spelled K Blocks l = WithBirths K l
-Spelled K NumberAndBlocks l = WithBirths K (afterFirst l)
 
-abbrev pub NamedAs : View → View → Account → List ℕ → Type 0
-NamedAs K L (looking s cs res note) l = Spelled K s l
-NamedAs K L (opening cs a) l = Unit {0}
-NamedAs K L (freeing cs a) l = WithBirths K l
-NamedAs K L (closing r) l = NumberFirst K L l
-NamedAs K L (placing r x k) l = GivesFirst K L r l
-NamedAs K L marking l = Unit {0}
-NamedAs K L renewing l = Unit {0}
+-- T is the state before the call, U after it
+abbrev pub NamedAs : State → State → Account → List ℕ → Type 0
+NamedAs T U (looking s cs res note) l = Spelled (T .view) s l
+NamedAs T U (opening cs a) l = Unit {0}
+NamedAs T U (freeing cs a) l = WithBirths (T .view) l
+NamedAs T U (closing r) l = NumberOnly (T .view) (U .view) l
+NamedAs T U (removing r) l = l ≡ []
+NamedAs T U (reclaiming k) l = FromQueue T l
+NamedAs T U (placing r x k) l = GivesFirst (T .view) (U .view) r l
+NamedAs T U marking l = Unit {0}
+NamedAs T U renewing l = Unit {0}
 
-abbrev pub NamedBy : View → View → Command → List ℕ → Type 0
-NamedBy K L c l = NamedAs K L (account c) l
+abbrev pub NamedBy : State → State → Command → List ℕ → Type 0
+NamedBy T U c l = NamedAs T U (account c) l
 
 abbrev pub BirthsInResults : Type 0
 BirthsInResults = (g : Geometry) (M : Memory) (c : Command) (l : List ℕ) → reply g M c ≡ accepted l →
-    NamedBy (viewOf g (M .tables)) (viewOf g (after g M c .tables)) c l
+    NamedBy (stateOf g (M .tables)) (stateOf g (after g M c .tables)) c l
 
 -- ── "log bytes keep their old form" ──
 
@@ -104,7 +115,9 @@ abbrev pub wordsAs : Account → List ℕ → List ℕ
 wordsAs (looking s cs res note) l = []
 wordsAs (opening cs a) l = []
 wordsAs (freeing cs a) l = map released l
-wordsAs (closing r) l = map released l
+wordsAs (closing r) l = []
+wordsAs (removing r) l = []
+wordsAs (reclaiming k) l = map released l
 wordsAs (placing r x k) l = wordsOfW l
 wordsAs marking l = barrier ∷ []
 wordsAs renewing l = []

@@ -1,4 +1,4 @@
--- A CALL AS IT IS ASKED: its letter and numbers and, for the three calls of names, the bytes of the name. Record numbers, pages, kinds and windows may be any
+-- A CALL AS IT IS ASKED: its letter and numbers and, for the three calls of names, the bytes of the name. Record numbers, pages, kinds, windows and counts may be any
 -- numbers; "a name is any bytes", of any length. In code a name is a slice beside the call, so code has two types, `Call` and `Naming`.
 use mathlib.Core.List.{List}
 use Prim.Native.Nat.{ℕ}
@@ -30,6 +30,8 @@ pub data Command : Type 0 where
   Estimate : ℕ → Command
   -- K r n
   Retain : ℕ → ℕ → Command
+  -- T k
+  Reclaim : ℕ → Command
   -- N name r
   Attach : List ℕ → ℕ → Command
   -- U name and M name
@@ -50,6 +52,7 @@ command call.Compress = Compress
 command call.FreeList = FreeList
 command (call.Estimate r) = Estimate r
 command (call.Retain r n) = Retain r n
+command (call.Reclaim k) = Reclaim k
 
 -- the call of the name l
 abbrev pub commandOn : Naming → List ℕ → Command

@@ -1,7 +1,7 @@
 -- A PLUG PULLED (6.10): "For the log of a store begun fresh, after any calls, each getting tables and log as the last one left them, cut at any byte of the
 -- words appended since the last C (or since the beginning), reading gives the blocks held at the last whole barrier, and none of those was given to a write
 -- between that barrier and the cut. C counts as one moment, done or not done."
--- Told by the calls, their replies and the bytes of the log: held is 'on a page of the book', and the used words are those that the replies tell.
+-- Told by the calls, their replies and the bytes of the log: held is 'on a page of the book or queued', and the used words are those that the replies tell.
 use mathlib.Core.Path.{_≡_}
 use mathlib.Core.Logic.{_⊎_, _↔_}
 use mathlib.Core.Bool.{Bool, true, cond, _&&_}
@@ -16,7 +16,7 @@ use Rattle.model.specs.Lists.{In, Pairwise}
 use Rattle.model.specs.Calls.{account, renews}
 use Rattle.model.specs.Memory.{Memory, makeReply, makeAfter}
 use Rattle.model.specs.Book.{Some, OnPage}
-use Rattle.model.specs.History.{Entry, entryOf, historyFrom, book, wasAccepted}
+use Rattle.model.specs.History.{Entry, entryOf, historyFrom, book, wasAccepted, queuedIn}
 use Rattle.model.specs.HistoryFacts.{Synced, Gives}
 use Rattle.model.specs.UsedWords.{usedThen, usedBy}
 use Rattle.model.specs.Demand.{Own, ownStore, run}
@@ -48,7 +48,7 @@ abbrev pub usedAfter : Geometry → Memory → List Own → ℕ
 usedAfter g M l = usedBy 0 (heard g M l)
 
 abbrev pub HeldAfter : Geometry → Memory → List Own → ℕ → Type 0
-HeldAfter g M l b = OnPage (book (g .pages) (heard g M l)) b
+HeldAfter g M l b = OnPage (book (g .pages) (heard g M l)) b ⊎ (queuedIn (g .pages) (heard g M l) b ≡ true)
 
 -- "the words appended since the last C (or since the beginning)" (6.10) begin here: the words that were used right after the last accepted C, or n
 unfoldable pub startBy : ℕ → List Entry → ℕ

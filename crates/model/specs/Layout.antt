@@ -1,7 +1,7 @@
 -- THE LAYOUT of the lent tables: one list of numbers. R record slots, N blocks.
 --   0-5          the six numbers
 --   6-9          last number used, counter, writes of this turn, log words used
---   11           how many blocks wait
+--   10, 11       how many blocks are queued, and how many wait
 --   16-31        the arenas' marks
 --   64-127       free words: bit i of word k is 1 exactly where block 32 k + i may be given
 --   192, 256, 320, 384, 448    columns of 64 slots: number (0: empty slot), open (1) or sealed (0), record before it in its line (a link), base
@@ -13,6 +13,7 @@
 --   2048         pages, 256 a slot (block + 1, 0 for nothing)
 --   2048 + 256 R deadlists, 256 a slot: the first `length` numbers of a row are the blocks, in the order of joining
 --   2048 + 512 R births (0: on no page)
+--   2048 + 512 R + N, 2048 + 512 R + 2 N    the queue: its blocks in order; births of queued blocks, by the block's number (0: not in the queue)
 --   2048 + 512 R + 3 N    the blocks that wait, in the order in which they were freed
 -- All others are spare.
 use mathlib.Core.Bool.{Bool, cond, _&&_}
@@ -25,6 +26,7 @@ use Rattle.geometry.specs.declared.Geometry.{Geometry}
 use Rattle.geometry.specs.Limits.{blocks}
 use Rattle.choice.specs.Words.{wordOf}
 use Rattle.model.specs.View.{View}
+use Rattle.model.specs.Queue.{Queue}
 use Rattle.model.specs.Held.{available}
 use Rattle.model.specs.Names.{Titles}
 use Rattle.model.specs.State.{State, Notes, fresh}
@@ -73,6 +75,13 @@ listCell R s i = 2048 + 256 * R + 256 * s + i
 
 abbrev pub birthCell : ℕ → ℕ → ℕ
 birthCell R b = 2048 + 512 * R + b
+
+-- the queue's place i, and the birth of block b where it is queued, of R slots and N blocks
+abbrev pub queueCell : ℕ → ℕ → ℕ → ℕ
+queueCell R N i = 2048 + 512 * R + N + i
+
+abbrev pub queueBirthCell : ℕ → ℕ → ℕ → ℕ
+queueBirthCell R N b = 2048 + 512 * R + 2 * N + b
 
 abbrev pub waitCell : ℕ → ℕ → ℕ → ℕ
 waitCell R N i = 2048 + 512 * R + 3 * N + i
@@ -130,6 +139,13 @@ notesOf g t =
       titles = titlesOf t;
     }
 
+unfoldable pub queueOf : Geometry → List ℕ → Queue
+queueOf g t =
+    record {
+      list = numbers t (queueCell (g .records) (blocks g) 0) (getD t 10 0);
+      birth = λ b. field t (ltb b (blocks g)) (queueBirthCell (g .records) (blocks g) b);
+    }
+
 unfoldable pub stateOf : Geometry → List ℕ → State
 stateOf g t =
     record {
@@ -139,6 +155,7 @@ stateOf g t =
       writes = getD t 8 0;
       used = getD t 9 0;
       waiting = numbers t (waitCell (g .records) (blocks g) 0) (getD t 11 0);
+      queue = queueOf g t;
       notes = notesOf g t;
     }
 
@@ -156,10 +173,11 @@ headerNumber g T t i =
     (cond (eqb i 7) (T .counter)
     (cond (eqb i 8) (T .writes)
     (cond (eqb i 9) (T .used)
+    (cond (eqb i 10) (length (T .queue .list))
     (cond (eqb i 11) (length (T .waiting))
     (cond (leb 16 i && ltb (i - 16) (g .arenas)) (T .mark (i - 16))
     (cond (leb 64 i && ltb (i - 64) 64) (freeWord T (i - 64))
-    (getD t i 0)))))))))))))
+    (getD t i 0))))))))))))))
 
 -- number s of column f
 unfoldable pub columnNumber : View → List ℕ → ℕ → ℕ → ℕ
@@ -193,9 +211,9 @@ pageNumber K t s x = cond (ltb x (K .pages)) (K .page s x) (getD t (pageCell s x
 unfoldable pub listNumber : View → List ℕ → ℕ → ℕ → ℕ
 listNumber K t s i = cond (ltb i (length (K .list s))) (getD (K .list s) i 0) (getD t (listCell (K .slots) s i) 0)
 
--- number i behind the births: of the blocks that wait, from a on
-unfoldable pub waitNumber : List ℕ → List ℕ → ℕ → ℕ → ℕ
-waitNumber l t a i = cond (leb a i && ltb (i - a) (length l)) (getD l (i - a) 0) (getD t i 0)
+-- number i of a row that begins at a and has the blocks of l: those of the queue, and those that wait
+unfoldable pub rowNumber : List ℕ → List ℕ → ℕ → ℕ → ℕ
+rowNumber l t a i = cond (leb a i && ltb (i - a) (length l)) (getD l (i - a) 0) (getD t i 0)
 
 -- number i of the tables t when they say T
 unfoldable pub numberAt : Geometry → State → List ℕ → ℕ → ℕ
@@ -207,8 +225,10 @@ numberAt g T t i =
     (cond (ltb i (birthCell (g .records) 0))
     (listNumber (T .view) t ((i - listCell (g .records) 0 0) / 256) ((i - listCell (g .records) 0 0) % 256))
     (cond (ltb i (birthCell (g .records) (blocks g))) (T .view .birth (i - birthCell (g .records) 0))
-    (cond (ltb i (need g)) (waitNumber (T .waiting) t (waitCell (g .records) (blocks g) 0) i)
-    (getD t i 0)))))))
+    (cond (ltb i (queueBirthCell (g .records) (blocks g) 0)) (rowNumber (T .queue .list) t (queueCell (g .records) (blocks g) 0) i)
+    (cond (ltb i (waitCell (g .records) (blocks g) 0)) (T .queue .birth (i - queueBirthCell (g .records) (blocks g) 0))
+    (cond (ltb i (need g)) (rowNumber (T .waiting) t (waitCell (g .records) (blocks g) 0) i)
+    (getD t i 0)))))))))
 
 -- f at the n numbers from i on
 unfoldable pub listed : (ℕ → ℕ) → ℕ → ℕ → List ℕ

@@ -2,9 +2,8 @@
 -- In the result buffer the numbers of a result stand one behind another; its spelling says which of them are blocks with their births.
 use mathlib.Core.List.{List, [], _∷_, map}
 use Prim.Native.Nat.{ℕ}
-use Rattle.model.specs.Lists.{afterFirst}
 use Rattle.model.specs.declared.Spelling.{Spelling}
-use Rattle.model.specs.declared.Spelling.the-variants.{Numbers, Blocks, NumberAndBlocks}
+use Rattle.model.specs.declared.Spelling.the-variants.{Numbers, Blocks}
 
 -- ── as numbers ──
 
@@ -23,7 +22,6 @@ blocksIn (b ∷ v ∷ l) = b ∷ blocksIn l
 unfoldable pub blocksOf : Spelling → List ℕ → List ℕ
 blocksOf Numbers l = []
 blocksOf Blocks l = blocksIn l
-blocksOf NumberAndBlocks l = blocksIn (afterFirst l)
 
 -- ── as items ──
 
@@ -38,15 +36,9 @@ bornIn [] = []
 bornIn (n ∷ []) = []
 bornIn (b ∷ v ∷ l) = born b v ∷ bornIn l
 
--- one number, then such
-unfoldable pub oneThenBorn : List ℕ → List Item
-oneThenBorn [] = []
-oneThenBorn (n ∷ l) = plain n ∷ bornIn l
-
 unfoldable pub itemsOf : Spelling → List ℕ → List Item
 itemsOf Numbers l = map plain l
 itemsOf Blocks l = bornIn l
-itemsOf NumberAndBlocks l = oneThenBorn l
 
 -- the numbers of items, as they stand in the result buffer
 unfoldable pub numbersOf : List Item → List ℕ

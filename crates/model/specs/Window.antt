@@ -5,20 +5,21 @@ use mathlib.Core.Path.{_≡_}
 use mathlib.Core.Logic.{_↔_, _⊎_}
 use mathlib.Core.Bool.{Bool, cond, not, _&&_}
 use mathlib.Core.List.{List, [], _∷_, _++_, map}
-use Prim.Native.Nat.{ℕ, zero, suc, pred, _+_, _-_, _≤_, _<_}
+use Prim.Native.Nat.{ℕ, zero, suc, _-_, _≤_, _<_}
 use lib.Dec.{eqb, ltb}
 use lib.ListN.{length}
-use Rattle.model.specs.View.{View, baseNum}
+use Rattle.model.specs.View.{View}
 use Rattle.model.specs.Lists.{In, Pairwise, elem, keepIf, trim, onFirst}
 use Rattle.model.specs.SoundMeans.{Live}
-use Rattle.model.specs.Actions.{Action, doS, doD, Asks, done, forked, follower, delete}
+use Rattle.model.specs.Actions.{Action, doS, doD, Asks, done, forked, delete}
 use Rattle.model.specs.Held.{frees}
-use Rattle.model.specs.State.{State, withView, withUsed, freeAll}
+use Rattle.model.specs.Queue.{enqueued}
+use Rattle.model.specs.State.{State, withView, withQueue}
 use Rattle.model.specs.DeleteOrder.{DeleteOrder}
 
 -- ── actions one after another ──
 
--- the store after them, and the blocks that they free, each from the store that it meets
+-- the store after them, and the blocks that they take off their last page, each from the store that it meets
 unfoldable pub steps : View → List Action → View
 steps K [] = K
 steps K (a ∷ l) = steps (done K a) l
@@ -90,7 +91,7 @@ sealing K names n s = doS s ∷ trimming (done K (doS s)) names n s
 unfoldable pub mayGo : View → (ℕ → ℕ) → ℕ → ℕ → Bool
 mayGo K names r s = not (eqb s r) && bare K names s
 
--- what the loop leaves: the store, the records deleted and the blocks freed, in this order
+-- what the loop leaves: the store, the records deleted and the blocks that they leave, in this order
 pub record Trimmed : Type 0 where
   pub store : View
   pub gone : List ℕ
@@ -111,41 +112,17 @@ trimLoop (suc k) K names n r =
     (onFirst (keepIf (mayGo K names r) (sealedOf K r)) (untrimmed K) (λ s. deleteFirst K s (trimLoop k (delete K s) names n r)))
     (untrimmed K)
 
--- ── what the deletes free, counted in the store as it stands before them ──
+-- ── deadlists, counted ──
 
 -- how many blocks of n's deadlist are born above p
 unfoldable pub bornAbove : View → ℕ → ℕ → ℕ
 bornAbove K p n = length (keepIf (λ b. ltb p (K .birth b)) (K .list n))
 
--- the number of the last record of a list that is not among the victims; p where there is none
-unfoldable pub lastStaying : View → List ℕ → ℕ → List ℕ → ℕ
-lastStaying K vs p [] = p
-lastStaying K vs p (s ∷ l) = lastStaying K vs (cond (elem s vs) p (K .num s)) l
-
--- the number of the nearest older record of the line of v that stays, or of the line's base, or 0
-unfoldable pub floorOf : View → List ℕ → ℕ → ℕ
-floorOf K vs v = lastStaying K vs (baseNum K v) (older K v)
-
--- the sum over the victims ws of how many blocks of the follower's deadlist are born above that number
-unfoldable pub freesOf : View → List ℕ → List ℕ → ℕ
-freesOf K vs [] = 0
-freesOf K vs (v ∷ ws) = bornAbove K (floorOf K vs v) (pred (follower K v)) + freesOf K vs ws
-
--- the same by one walk along the line, oldest first: p is the number of the last one that stays, k says how many may still go; what follows a record in the
--- line is the next of the list
-unfoldable pub freesWalked : View → (ℕ → ℕ) → ℕ → ℕ → List ℕ → ℕ
-freesWalked K names k p [] = 0
-freesWalked K names k p (s ∷ []) = 0
-freesWalked K names k p (s ∷ t ∷ l) =
-    cond (ltb 0 k && bare K names s)
-    (bornAbove K p t + freesWalked K names (pred k) p (t ∷ l))
-    (freesWalked K names k (K .num s) (t ∷ l))
-
 -- ── of the state ──
 
--- actions are done one after another, what they free waits (5.6), and n words join the log
-unfoldable pub actedAll : State → List Action → ℕ → State
-actedAll T l n = freeAll (freesAlong (T .view) l) (withUsed (withView T (steps (T .view) l)) (T .used + n))
+-- actions are done one after another, and the blocks that leave their last page are queued, with the births that they had before (4.3)
+unfoldable pub queueing : State → List Action → State
+queueing T l = withQueue (withView T (steps (T .view) l)) (enqueued (T .queue) (T .view .birth) (freesAlong (T .view) l))
 
 -- ── the theorems ──
 

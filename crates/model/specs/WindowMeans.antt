@@ -1,36 +1,24 @@
 -- THE WINDOW OF A LINE (order 5), told of the memory before a call and the memory that it left: "K r n sets a window on the line of open r. After each S
 -- there, the oldest sealed records without a fork are deleted, one after another, until at most n sealed ones are left or only forked ones and the newest
--- sealed one remain. S then gives the new number and the freed blocks. If the log can't hold all the frees, S as a whole meets 14. K prints `+`, deletes
--- nothing itself, and meets 9 on a sealed r. Every new line starts without a window." And order 6: "A named record is not deleted, and a window passes over it
--- as over a forked one."
+-- sealed one remain. … K prints `+`, deletes nothing itself, and meets 9 on a sealed r. Every new line starts without a window." And order 6: "A named record is
+-- not deleted, and a window passes over it as over a forked one." And order 7: a window's deletes "put its blocks in a queue, in the order they were freed
+-- before".
 use mathlib.Core.Path.{_≡_}
-use mathlib.Core.Logic.{_↔_}
-use mathlib.Core.List.{List, [], _∷_, map}
-use Prim.Native.Nat.{ℕ, suc, _+_, _-_, _*_, _≤_, _<_}
+use mathlib.Core.List.{List, [], _∷_}
+use Prim.Native.Nat.{ℕ, suc, _+_, _≤_, _<_}
 use lib.ListN.{length}
-use Rattle.answer.specs.Reply.{accepted, refused}
-use Rattle.answer.specs.Refusal.{NoneBefore}
+use Rattle.answer.specs.Reply.{accepted}
 use Rattle.geometry.specs.declared.Geometry.{Geometry}
-use Rattle.log.specs.Word.{released, writeAt, bytesOf}
 use Rattle.model.specs.View.{View}
 use Rattle.model.specs.Lists.{In}
-use Rattle.model.specs.Results.{paired}
 use Rattle.model.specs.Actions.{doS, done, forked}
 use Rattle.model.specs.SoundMeans.{Live}
 use Rattle.model.specs.State.{State}
-use Rattle.model.specs.Calls.{slot, windowOf, freedClosing}
+use Rattle.model.specs.Calls.{slot, windowOf, queuedClosing}
 use Rattle.model.specs.Window.{sealedOf, victims, OrderAlong, WindowStops}
-use Rattle.model.specs.Layout.{stateOf}
-use Rattle.model.specs.Memory.{Memory, wordsUsed, allConditions, reply, after}
-use Rattle.model.specs.Command.{Command}
+use Rattle.model.specs.Memory.{Memory, reply, after}
+use Rattle.model.specs.QueueMeans.{was, now, Queues}
 use Rattle.model.specs.Command.{Begin, Seal, Fork, Retain}
-
--- the state before a call, and the state after it
-abbrev pub was : Geometry → Memory → State
-was g M = stateOf g (M .tables)
-
-abbrev pub now : Geometry → Memory → Command → State
-now g M c = stateOf g (after g M c .tables)
 
 -- the view right after the seal, before the window's deletes
 abbrev pub sealedView : Geometry → Memory → ℕ → View
@@ -72,29 +60,18 @@ abbrev pub Takes : Type 0
 Takes = (g : Geometry) (M : Memory) (r : ℕ) (l : List ℕ) → reply g M (Seal r) ≡ accepted l →
     TakesOldest (sealedView g M r) (now g M (Seal r) .view) (was g M .notes .names) (windowOf (was g M) r) (slot (was g M) r)
 
--- ── what it frees ──
+-- ── what it queues ──
 
-pub record FreesAlong (g : Geometry) (M : Memory) (r : ℕ) (l : List ℕ) : Type 0 where
-  -- "S then gives the new number and the freed blocks": those of the deletes one after another, with their births in the store before the call
-  pub result : l ≡ suc (was g M .view .last) ∷ paired (was g M .view .birth) (freedClosing (was g M) r)
-  -- each is a log word of its own
-  pub words : after g M (Seal r) .log ≡ writeAt (M .log) (8 * wordsUsed M) (bytesOf (map released (freedClosing (was g M) r)))
-  -- each delete frees and joins in the order of rule 4.2, of the store that it meets
+pub record QueuesAlong (g : Geometry) (M : Memory) (r : ℕ) (l : List ℕ) : Type 0 where
+  -- S gives the new number alone
+  pub result : l ≡ suc (was g M .view .last) ∷ []
+  -- the blocks of the deletes join the queue, delete by delete; the log stays
+  pub queues : Queues g M (Seal r) (queuedClosing (was g M) r)
+  -- each delete queues and joins in the order of rule 4.2, of the store that it meets
   pub order : OrderAlong (sealedView g M r) (victims (sealedView g M r) (was g M .notes .names) (windowOf (was g M) r) (slot (was g M) r))
 
-abbrev pub FreesThem : Type 0
-FreesThem = (g : Geometry) (M : Memory) (r : ℕ) (l : List ℕ) → reply g M (Seal r) ≡ accepted l → FreesAlong g M r l
-
--- ── 14 ──
-
--- "If the log can't hold all the frees, S as a whole meets 14", and nothing is altered
-pub record Fourteen (g : Geometry) (M : Memory) (r : ℕ) : Type 0 where
-  pub exactly : (reply g M (Seal r) ≡ refused 14) ↔
-      (NoneBefore 14 (allConditions g M (Seal r)) × (g .words - was g M .used < length (freedClosing (was g M) r)))
-  pub unaltered : reply g M (Seal r) ≡ refused 14 → after g M (Seal r) ≡ M
-
-abbrev pub Seal14 : Type 0
-Seal14 = (g : Geometry) (M : Memory) (r : ℕ) → Fourteen g M r
+abbrev pub QueuesThem : Type 0
+QueuesThem = (g : Geometry) (M : Memory) (r : ℕ) (l : List ℕ) → reply g M (Seal r) ≡ accepted l → QueuesAlong g M r l
 
 -- ── K ──
 
@@ -110,6 +87,7 @@ pub record SetsWindow (T U : State) (s n : ℕ) : Type 0 where
   pub writes : U .writes ≡ T .writes
   pub used : U .used ≡ T .used
   pub waiting : U .waiting ≡ T .waiting
+  pub queue : U .queue ≡ T .queue
 
 pub record Retains (g : Geometry) (M : Memory) (r n : ℕ) (l : List ℕ) : Type 0 where
   pub result : l ≡ []
