@@ -147,7 +147,7 @@ module _ {g : Geometry} {t₀ : List ℕ} (R : Ready g t₀) (s n : ℕ) (asks :
         row-apart (g .records) s n 0 i apart O t₀ (omega (arith, both, few)) (omega (arith, l₁, length-here, l₀, both, few)) ∙
         sym (Fields.list-at g t₀ s i this-slot (omega (arith, l₁, length-here))))
 
-    -- count entries are freed, of len
+    -- count entries leave it, of len
     module _ (len count : ℕ) (el : len ≡ getD t₀ (lengthCell n) 0)
         (ec : count ≡ length (younger (viewOf g t₀) p (viewOf g t₀ .list n))) where
       pub count-le : count ≤ len

@@ -1,4 +1,4 @@
--- Q: the freed blocks in a buffer of its own, their stretches counted, and what the call answers.
+-- Q: the blocks to be queued in a buffer of its own, their stretches counted, and what the call answers.
 use mathlib.Core.Path.{_≡_, refl, sym, ap, ap₂, _∙_}
 use mathlib.Core.Bool.{Bool, true, false, cond}
 use mathlib.Core.List.{List, [], _∷_}
@@ -21,9 +21,9 @@ use Rattle.model.specs.Actions.{slotOf, follower, forked}
 use Rattle.model.specs.Held.{deleted, shardsAbove, shardsFreed}
 use Rattle.model.specs.Sorted.{sortedOnto, stretches}
 use Rattle.model.specs.State.{State}
-use Rattle.model.specs.Calls.{slot, result, written}
+use Rattle.model.specs.Calls.{slot, result}
 use Rattle.model.specs.Layout.{nameCell, viewOf, stateOf}
-use Rattle.model.specs.Command.{Delete, Estimate}
+use Rattle.model.specs.Command.{Estimate}
 use Rattle.model.proofs.ListFacts.{of-keep}
 use Rattle.model.proofs.ShardFacts.{shards-stretch}
 use Rattle.tables.specs.Ready.{Ready, OutLong}
@@ -33,7 +33,6 @@ use Rattle.deleting.specs.Stages.{younger}
 use Rattle.deleting.proofs.Buffers.{take-sets}
 use Rattle.deleting.proofs.Sifting.{length-sorted, of-sorted}
 use Rattle.deleting.proofs.Parting.{parts, freed-is}
-use Rattle.deleting.proofs.Logging.{map-length}
 use Rattle.deleting.proofs.Verdicts.{slot-is, has-slot, names-are}
 
 -- ── the stretches of one birth ──
@@ -76,7 +75,7 @@ module _ (key : ℕ → ℕ) (y : List ℕ) (n i : ℕ) (room : n ≤ length y) 
   at-end h whole count v inv =
       let e : rest key y n v i ≡ 0 = ap (stretches key v) (drop-of-length-le (take n y) {i = i} (omega (arith, long))) in omega arith
 
--- ── the freed blocks in a buffer o₀ ──
+-- ── the blocks to be queued in a buffer o₀ ──
 
 module _ {g : Geometry} {t : List ℕ} (R : Ready g t) (n p : ℕ) where
   abbrev K : View
@@ -180,17 +179,13 @@ module _ (g : Geometry) (t out : List ℕ) (r l : ℕ) (el : l ≡ slotOf (viewO
           let y = lt-ltb 0 (T .notes .names (slot T r)) (omega (arith, names-are g t r l el n below)) in
           refuse g t r 18 out (rw (has-slot g t r l el n, fork-is ∙ none, y))
 
-    -- o is the link of what follows; a blocks are freed, of v shards
-    module _ (none : f ≡ false) (below : l ≤ g .records) (nameless : getD t (nameCell (l - 1)) 0 ≤ 0) (o : ℕ) (eo : o ≡ follower (viewOf g t) (l - 1)) (a v : ℕ)
-        (ea : a ≡ length (deleted (viewOf g t) (l - 1) o)) (ev : v ≡ shardsFreed (viewOf g t) (l - 1) o) where
-      freed : length (deleted (viewOf g t) (slot T r) (follower (viewOf g t) (slot T r))) ≡ a
-      freed =
+    -- o is the link of what follows; a blocks would be queued, of v shards
+    module _ (none : f ≡ false) (below : l ≤ g .records) (nameless : getD t (nameCell (l - 1)) 0 ≤ 0) (o : ℕ) (eo : o ≡ follower (viewOf g t) (l - 1))
+        (a v : ℕ) (ea : a ≡ length (deleted (viewOf g t) (l - 1) o)) (ev : v ≡ shardsFreed (viewOf g t) (l - 1) o) where
+      queued : length (deleted (viewOf g t) (slot T r) (follower (viewOf g t) (slot T r))) ≡ a
+      queued =
           ap (λ s. length (deleted (viewOf g t) s (follower (viewOf g t) s))) (slot-is g t r l el n) ∙
           ap (λ m. length (deleted (viewOf g t) (l - 1) m)) (sym eo) ∙ sym ea
-
-      words : length (written g T (Delete r)) ≡ a
-      unfolding stateOf
-      words = map-length (deleted (viewOf g t) (slot T r) (follower (viewOf g t) (slot T r))) ∙ freed
 
       shards : shardsFreed (T .view) (slot T r) (follower (T .view) (slot T r)) ≡ v
       unfolding stateOf
@@ -198,10 +193,9 @@ module _ (g : Geometry) (t out : List ℕ) (r l : ℕ) (el : l ≡ slotOf (viewO
           ap (λ s. shardsFreed (viewOf g t) s (follower (viewOf g t) s)) (slot-is g t r l el n) ∙
           ap (shardsFreed (viewOf g t) (l - 1)) (sym eo) ∙ sym ev
 
-      numbers : result g T (Estimate r) ≡ a ∷ a ∷ v ∷ []
+      numbers : result g T (Estimate r) ≡ a ∷ 0 ∷ v ∷ []
       unfolding stateOf
-      numbers = ap (λ (m : ℕ). m ∷ length (written g T (Delete r)) ∷ shardsFreed (T .view) (slot T r) (follower (T .view) (slot T r)) ∷ []) freed ∙
-          ap₂ (λ (m k : ℕ). a ∷ m ∷ k ∷ []) words shards
+      numbers = ap₂ (λ (m k : ℕ). m ∷ 0 ∷ k ∷ []) queued shards
 
       told : replied g t (Estimate r) ≡ accepted (result g T (Estimate r))
       unfolding replied
@@ -210,10 +204,10 @@ module _ (g : Geometry) (t out : List ℕ) (r l : ℕ) (el : l ≡ slotOf (viewO
           rw (has-slot g t r l el n, fork-is ∙ none, y) refl
 
       pub answered : OutLong g out →
-          (replyOf (Done 3) (set (set (set out 0 a) 1 a) 2 v) ≡ replied g t (Estimate r)) ×
-          (set (set (set out 0 a) 1 a) 2 v ≡ outLeft g t out (Estimate r))
+          (replyOf (Done 3) (set (set (set out 0 a) 1 0) 2 v) ≡ replied g t (Estimate r)) ×
+          (set (set (set out 0 a) 1 0) 2 v ≡ outLeft g t out (Estimate r))
       unfolding replyOf outLeft
       answered long = (
-        ap accepted (take-sets out (a ∷ a ∷ v ∷ []) 3 refl (omega arith)) ∙ ap accepted (sym numbers) ∙ sym told,
+        ap accepted (take-sets out (a ∷ 0 ∷ v ∷ []) 3 refl (omega arith)) ∙ ap accepted (sym numbers) ∙ sym told,
         ap (sets out 0) (sym numbers) ∙ ap (λ (k : Reply). leaves k out (sets out 0 (result g T (Estimate r)))) (sym told),
       )

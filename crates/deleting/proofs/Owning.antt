@@ -163,7 +163,7 @@ module _ (K : View) (s x n : ℕ) where
   pub joined-room : (c p : ℕ) → c ≡ length (rows (ownAt K s) 0 x) → x ≤ p → n ≤ p - x → c + length (rows (ownAt K s) x n) ≤ length (rows (ownAt K s) 0 p)
   joined-room c p e h k = omega (arith, joined-count c (c + length (rows (ownAt K s) x n)) e refl, rows-part (ownAt K s) 0 (x + n) p (omega arith))
 
--- all pages: what the deletion frees
+-- all pages: what the deletion queues
 module _ {g : Geometry} {t : List ℕ} (R : Ready g t) (s : ℕ) (live : 0 < viewOf g t .num s) where
   pub owned-all : (x : ℕ) → x ≤ g .pages → g .pages ≤ x → rows (ownAt (viewOf g t) s) 0 x ≡ pruned (viewOf g t) s (g .pages)
   owned-all x h k =

@@ -1,4 +1,4 @@
--- A deadlist is parted by birth: what is freed, and what stays.
+-- A deadlist is parted by birth: what leaves it, and what stays.
 use mathlib.Core.Path.{_≡_, refl, sym, ap, _∙_}
 use mathlib.Core.Bool.{Bool, true, false}
 use mathlib.Core.List.{List, [], _∷_, _++_, append-nil}
@@ -60,7 +60,7 @@ parts K p (b ∷ l) =
     (λ h. rw (lt-ltb p (K .birth b) h, lt-leb (K .birth b) p h) (omega (arith, parts K p l)))
     (λ h. rw (le-ltb p (K .birth b) h, le-leb (K .birth b) p h) (omega (arith, parts K p l)))
 
--- ── what is freed ──
+-- ── what leaves it ──
 
 module _ {g : Geometry} {t : List ℕ} (R : Ready g t) (s n p : ℕ) (ep : p ≡ predNum (viewOf g t) s) where
   pub freed-is : sortedOnto (viewOf g t .birth) [] (younger (viewOf g t) p (viewOf g t .list n)) ≡ unlinked (viewOf g t) s n
@@ -106,7 +106,7 @@ module _ {g : Geometry} {t₀ : List ℕ} (R : Ready g t₀) (n : ℕ) (hn : n <
     here : K .birth (getD l i 0) ≡ K .birth b
     here = ap (K .birth) (sym e)
 
-    -- it is freed
+    -- it leaves
     module _ (y : p < viewOf g t₀ .birth b) where
       young-more : younger K p (take (i + 1) l) ≡ younger K p (take i l) ++ (b ∷ [])
       young-more =

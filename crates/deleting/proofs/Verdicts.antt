@@ -5,14 +5,13 @@ use mathlib.Core.List.{List}
 use Prim.Native.Nat.{ℕ, zero, suc, pred, _-_, _≤_, _<_}
 use native.Mathlib.Omega.{arith}
 use lib.Dec.{eqb, ltb}
-use lib.ListN.{length, getD}
+use lib.ListN.{getD}
 use borrow.Author.Tests.{eq-eqb, ne-eqb, lt-ltb, le-ltb}
 use Rattle.answer.specs.Reply.{accepted, refused}
 use Rattle.geometry.specs.declared.Geometry.{Geometry}
 use Rattle.model.specs.Actions.{slotOf, follower, forked}
-use Rattle.model.specs.Held.{deleted}
 use Rattle.model.specs.State.{State}
-use Rattle.model.specs.Calls.{slot, short, result, written}
+use Rattle.model.specs.Calls.{slot, result}
 use Rattle.model.specs.Layout.{nameCell, viewOf, stateOf}
 use Rattle.model.specs.Command.{Delete}
 use Rattle.model.proofs.Fine.{Fine, named-slot}
@@ -22,7 +21,6 @@ use Rattle.tables.proofs.Fields
 use Rattle.deleting.specs.Verdict.{verdictOf}
 use Rattle.deleting.specs.declared.delete.Verdict.{Verdict}
 use Rattle.deleting.specs.declared.delete.Verdict.the-variants.{Refused, Accept}
-use Rattle.deleting.proofs.Logging.{map-length}
 
 pub ready-fine : {g : Geometry} {t : List ℕ} → Ready g t → Fine g (stateOf g t)
 unfolding stateOf viewOf
@@ -32,6 +30,7 @@ ready-fine R = record {
   pages = refl;
   blocks = refl;
   range = R .range;
+  queue = R .queue;
   waits = R .waiting;
   windows = R .windows;
   names = R .names;
@@ -47,7 +46,7 @@ module _ (g : Geometry) (t : List ℕ) (r l : ℕ) (e : l ≡ slotOf (viewOf g t
   abbrev T : State
   T = stateOf g t
 
-  pub no-slot : l ≡ 0 → Refused 8 ≡ verdictOf g (stateOf g t) r
+  pub no-slot : l ≡ 0 → Refused 8 ≡ verdictOf (stateOf g t) r
   unfolding verdictOf stateOf
   no-slot z = rw (eq-eqb (slotOf (viewOf g t) r) 0 (sym e ∙ z))
 
@@ -67,7 +66,7 @@ module _ (g : Geometry) (t : List ℕ) (r l : ℕ) (e : l ≡ slotOf (viewOf g t
     pub names-are : l ≤ g .records → stateOf g t .notes .names (slot (stateOf g t) r) ≡ getD t (nameCell (l - 1)) 0
     names-are below = ap (T .notes .names) slot-is ∙ Fields.names-is g t (l - 1) (let h : l - 1 < g .records = omega arith in h)
 
-    pub has-fork : (f : Bool) → f ≡ ltb 0 (forked (viewOf g t) (l - 1)) → f ≡ true → Refused 10 ≡ verdictOf g (stateOf g t) r
+    pub has-fork : (f : Bool) → f ≡ ltb 0 (forked (viewOf g t) (l - 1)) → f ≡ true → Refused 10 ≡ verdictOf (stateOf g t) r
     unfolding verdictOf stateOf
     has-fork f d y = rw (has-slot, ap (λ s. ltb 0 (forked (viewOf g t) s)) slot-is ∙ sym d ∙ y)
 
@@ -76,81 +75,60 @@ module _ (g : Geometry) (t : List ℕ) (r l : ℕ) (e : l ≡ slotOf (viewOf g t
       unfolding stateOf
       no-fork = ap (λ s. ltb 0 (forked (viewOf g t) s)) slot-is ∙ sym d ∙ z
 
-      pub has-name : 0 < getD t (nameCell (l - 1)) 0 → Refused 18 ≡ verdictOf g (stateOf g t) r
+      pub has-name : 0 < getD t (nameCell (l - 1)) 0 → Refused 18 ≡ verdictOf (stateOf g t) r
       unfolding verdictOf
       has-name h = rw (has-slot, no-fork, lt-ltb 0 (T .notes .names (slot T r)) (omega (arith, names-are below)))
 
-      module _ (h : getD t (nameCell (l - 1)) 0 ≤ 0) (o : ℕ) (eo : o ≡ follower (viewOf g t) (l - 1))
-          (q : Bool) (eq : q ≡ ltb (g .words - getD t 9 0) (length (deleted (viewOf g t) (l - 1) o))) where
-        no-name : ltb 0 (T .notes .names (slot T r)) ≡ false
-        no-name = le-ltb 0 (T .notes .names (slot T r)) (omega (arith, names-are below))
-
-        frees-are : length (written g T (Delete r)) ≡ length (deleted (viewOf g t) (l - 1) o)
-        unfolding stateOf
-        frees-are =
-            map-length (deleted (viewOf g t) (slot T r) (follower (viewOf g t) (slot T r))) ∙
-            ap (λ s. length (deleted (viewOf g t) s (follower (viewOf g t) s))) slot-is ∙
-            ap (λ m. length (deleted (viewOf g t) (l - 1) m)) (sym eo)
-
-        short-is : short g T (Delete r) ≡ q
-        short-is = ap₂ (λ u c. ltb (g .words - u) c) (Fields.used-is g t) frees-are ∙ sym eq
-
-        pub too-few : q ≡ true → Refused 14 ≡ verdictOf g (stateOf g t) r
-        unfolding verdictOf
-        too-few y = rw (has-slot, no-fork, no-name, short-is ∙ y)
-
-        pub enough : q ≡ false → Accept (l - 1) o ≡ verdictOf g (stateOf g t) r
-        unfolding verdictOf stateOf
-        enough n = rw (has-slot, no-fork, no-name, short-is ∙ n) (ap₂ Accept (sym slot-is) (eo ∙ ap (follower (viewOf g t)) (sym slot-is)))
+      pub goes : getD t (nameCell (l - 1)) 0 ≤ 0 → (o : ℕ) → o ≡ follower (viewOf g t) (l - 1) → Accept (l - 1) o ≡ verdictOf (stateOf g t) r
+      unfolding verdictOf stateOf
+      goes h o eo =
+          let no-name : ltb 0 (T .notes .names (slot T r)) ≡ false = le-ltb 0 (T .notes .names (slot T r)) (omega (arith, names-are below)) in
+          rw (has-slot, no-fork, no-name) (ap₂ Accept (sym slot-is) (eo ∙ ap (follower (viewOf g t)) (sym slot-is)))
 
 -- ── what the verdict says ──
 
-abbrev chain : Bool → Bool → Bool → Bool → Verdict → Verdict
-chain a b c d v = cond a (Refused 8) (cond b (Refused 10) (cond c (Refused 18) (cond d (Refused 14) v)))
+abbrev chain : Bool → Bool → Bool → Verdict → Verdict
+chain a b c v = cond a (Refused 8) (cond b (Refused 10) (cond c (Refused 18) v))
 
 same-refusal : {j k : ℕ} → Refused j ≡ Refused k → j ≡ k
 same-refusal e = cc
 
-refused-chain : (a b c d : Bool) (s f k : ℕ) (l : List ℕ) → chain a b c d (Accept s f) ≡ Refused k →
-    cond a (refused 8) (cond b (refused 10) (cond c (refused 18) (cond d (refused 14) (accepted l)))) ≡ refused k
-refused-chain true b c d s f k l e = ap refused (same-refusal e)
-refused-chain false true c d s f k l e = ap refused (same-refusal e)
-refused-chain false false true d s f k l e = ap refused (same-refusal e)
-refused-chain false false false true s f k l e = ap refused (same-refusal e)
-refused-chain false false false false s f k l e = absurd (let z : _≡_ {A = ℕ} 0 1 = cc in omega arith)
+refused-chain : (a b c : Bool) (s f k : ℕ) (l : List ℕ) → chain a b c (Accept s f) ≡ Refused k →
+    cond a (refused 8) (cond b (refused 10) (cond c (refused 18) (accepted l))) ≡ refused k
+refused-chain true b c s f k l e = ap refused (same-refusal e)
+refused-chain false true c s f k l e = ap refused (same-refusal e)
+refused-chain false false true s f k l e = ap refused (same-refusal e)
+refused-chain false false false s f k l e = absurd (let z : _≡_ {A = ℕ} 0 1 = cc in omega arith)
 
 same-slot : {s f s′ f′ : ℕ} → Accept s f ≡ Accept s′ f′ → (s ≡ s′) × (f ≡ f′)
 same-slot e = ((cc), (cc))
 
 -- what acceptance tells: the refusals, by their numbers, that are not true, the slot, and what follows
-pub record Told (g : Geometry) (T : State) (r s f : ℕ) : Type 0 where
+pub record Told (T : State) (r s f : ℕ) : Type 0 where
   pub eight : eqb (slotOf (T .view) r) 0 ≡ false
   pub ten : ltb 0 (forked (T .view) (slot T r)) ≡ false
   pub eighteen : ltb 0 (T .notes .names (slot T r)) ≡ false
-  pub fourteen : short g T (Delete r) ≡ false
   pub at : slot T r ≡ s
   pub next : follower (T .view) (slot T r) ≡ f
 
-accept-chain : (a b c d : Bool) (s f s′ f′ : ℕ) → chain a b c d (Accept s f) ≡ Accept s′ f′ →
-    (a ≡ false) × (b ≡ false) × (c ≡ false) × (d ≡ false) × (s ≡ s′) × (f ≡ f′)
-accept-chain true b c d s f s′ f′ e = absurd (let z : _≡_ {A = ℕ} 0 1 = cc in omega arith)
-accept-chain false true c d s f s′ f′ e = absurd (let z : _≡_ {A = ℕ} 0 1 = cc in omega arith)
-accept-chain false false true d s f s′ f′ e = absurd (let z : _≡_ {A = ℕ} 0 1 = cc in omega arith)
-accept-chain false false false true s f s′ f′ e = absurd (let z : _≡_ {A = ℕ} 0 1 = cc in omega arith)
-accept-chain false false false false s f s′ f′ e = let w = same-slot e in (refl, refl, refl, refl, w .0, w .1)
+accept-chain : (a b c : Bool) (s f s′ f′ : ℕ) → chain a b c (Accept s f) ≡ Accept s′ f′ → (a ≡ false) × (b ≡ false) × (c ≡ false) × (s ≡ s′) × (f ≡ f′)
+accept-chain true b c s f s′ f′ e = absurd (let z : _≡_ {A = ℕ} 0 1 = cc in omega arith)
+accept-chain false true c s f s′ f′ e = absurd (let z : _≡_ {A = ℕ} 0 1 = cc in omega arith)
+accept-chain false false true s f s′ f′ e = absurd (let z : _≡_ {A = ℕ} 0 1 = cc in omega arith)
+accept-chain false false false s f s′ f′ e = let w = same-slot e in (refl, refl, refl, w .0, w .1)
 
-module _ (g : Geometry) (t : List ℕ) (r : ℕ) (v : Verdict) (e : v ≡ verdictOf g (stateOf g t) r) where
+module _ (g : Geometry) (t : List ℕ) (r : ℕ) (v : Verdict) (e : v ≡ verdictOf (stateOf g t) r) where
   pub refusal : (k : ℕ) → v ≡ Refused k → replied g t (Delete r) ≡ refused k
   unfolding replied verdictOf
   refusal k d =
       let U : State = stateOf g t in
-      refused-chain (eqb (slotOf (U .view) r) 0) (ltb 0 (forked (U .view) (slot U r))) (ltb 0 (U .notes .names (slot U r))) (short g U (Delete r))
+      refused-chain (eqb (slotOf (U .view) r) 0) (ltb 0 (forked (U .view) (slot U r))) (ltb 0 (U .notes .names (slot U r)))
       (slot U r) (follower (U .view) (slot U r)) k (result g U (Delete r)) (sym e ∙ d)
 
-  pub acceptance : (s f : ℕ) → v ≡ Accept s f → Told g (stateOf g t) r s f
+  pub acceptance : (s f : ℕ) → v ≡ Accept s f → Told (stateOf g t) r s f
   unfolding verdictOf
   acceptance s f d =
       let U : State = stateOf g t in
-      let w = accept-chain (eqb (slotOf (U .view) r) 0) (ltb 0 (forked (U .view) (slot U r))) (ltb 0 (U .notes .names (slot U r))) (short g U (Delete r))
+      let w = accept-chain (eqb (slotOf (U .view) r) 0) (ltb 0 (forked (U .view) (slot U r))) (ltb 0 (U .notes .names (slot U r)))
       (slot U r) (follower (U .view) (slot U r)) s f (sym e ∙ d) in
-      record { eight = w .0; ten = w .1; eighteen = w .2; fourteen = w .3; at = w .4; next = w .5 }
+      record { eight = w .0; ten = w .1; eighteen = w .2; at = w .3; next = w .4 }

@@ -2,17 +2,14 @@
 use mathlib.Core.Bool.{cond}
 use Prim.Native.Nat.{ℕ}
 use lib.Dec.{eqb, ltb}
-use Rattle.geometry.specs.declared.Geometry.{Geometry}
 use Rattle.model.specs.Actions.{slotOf, follower, forked}
 use Rattle.model.specs.State.{State}
-use Rattle.model.specs.Calls.{slot, short}
-use Rattle.model.specs.Command.{Delete}
+use Rattle.model.specs.Calls.{slot}
 use Rattle.deleting.specs.declared.delete.Verdict.{Verdict}
 use Rattle.deleting.specs.declared.delete.Verdict.the-variants.{Refused, Accept}
 
-unfoldable pub verdictOf : Geometry → State → ℕ → Verdict
-verdictOf g T r =
+unfoldable pub verdictOf : State → ℕ → Verdict
+verdictOf T r =
     cond (eqb (slotOf (T .view) r) 0) (Refused 8)
     (cond (ltb 0 (forked (T .view) (slot T r))) (Refused 10)
-    (cond (ltb 0 (T .notes .names (slot T r))) (Refused 18)
-    (cond (short g T (Delete r)) (Refused 14) (Accept (slot T r) (follower (T .view) (slot T r))))))
+    (cond (ltb 0 (T .notes .names (slot T r))) (Refused 18) (Accept (slot T r) (follower (T .view) (slot T r)))))

@@ -1,4 +1,4 @@
-// Q: what a deletion would free and write, worked out without doing it.
+// Q: what a deletion would queue, worked out without doing it.
 ghost use mathlib.Core.Path.{_≡_};
 ghost use Prim.Native.Nat.{ℕ, _<_, _≤_};
 ghost use lib.ListN.{length, getD, take};
@@ -72,7 +72,7 @@ fn count_stretches(t: &[u32], g: Geometry, young: &[u32], n: usize, p: u32) -> u
     count
 }
 
-// How many shards of the record in slot n, which follows slot s, its deletion frees. The blocks are sorted as the deletion sorts them: a shard
+// How many shards of the record in slot n, which follows slot s, the deletion of s queues. The blocks are sorted as the deletion sorts them: a shard
 // begins where a birth is met for the first time.
 fn count_shards(t: &[u32], g: Geometry, s: usize, n: usize) -> usize
     requires { ⌜ Ready g (now t) × (s < g .records) × (0 < viewOf g (now t) .num s) × (n < g .records) ⌝ }
@@ -98,8 +98,8 @@ fn shards_of(t: &[u32], g: Geometry, s: usize, follower: usize) -> usize
     count_shards(t, g, s, follower - 1)
 }
 
-// Q on the record of that number, with its link: the numbers of the blocks that D would free, of the log words that it would write (one for
-// each block), and of the shards.
+// Q on the record of that number, with its link: the numbers of the blocks that D would queue, of the log words that it would write (none), and of the
+// shards.
 pub fn estimate(g: Geometry, t: &[u32], out: &mut [u32], number: u32, link: usize) -> Answer
     requires { ⌜ Ready g (now t) × OutLong g (now out) × LinkOf g (now t) number link ⌝ }
     ensures reply { λ r. ⌜ replyOf r (now (out .exit)) ≡ replied g (now (t .entry)) (Estimate number) ⌝ }
@@ -116,9 +116,8 @@ pub fn estimate(g: Geometry, t: &[u32], out: &mut [u32], number: u32, link: usiz
         return Answer::Refused(18);
     }
     let follower = follower_of(t, g, s);
-    let blocks = count_frees(t, g, s, follower);
-    out[0] = blocks as u32;
-    out[1] = blocks as u32;
+    out[0] = count_frees(t, g, s, follower) as u32;
+    out[1] = 0;
     out[2] = shards_of(t, g, s, follower) as u32;
     Answer::Done(3)
 }

@@ -66,7 +66,7 @@ fn count_word(t: &[u32], g: Geometry, s: usize, pred: usize, x: usize, n: usize)
     found
 }
 
-// How many blocks the deletion of slot s frees, where nothing follows.
+// How many blocks the deletion of slot s takes off their last page, where nothing follows.
 pub fn count_young(t: &[u32], g: Geometry, s: usize) -> usize
     requires { ⌜ Ready g (now t) × (s < g .records) × (0 < viewOf g (now t) .num s) ⌝ }
     ensures { λ r. ⌜ r ≡ length (pruned (viewOf g (now (t .entry))) s (g .pages)) ⌝ }

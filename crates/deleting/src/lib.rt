@@ -1,4 +1,4 @@
-// D: a record leaves the store. Q: what that would free.
+// D: a record leaves the store. Q: what that would queue.
 pub mod delete;
 pub mod estimate;
 pub mod last;

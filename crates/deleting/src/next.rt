@@ -19,7 +19,8 @@ use tables::cells::ROW;
 use tables::cells::ROWS;
 use tables::find::wide;
 
-// How many blocks on the deadlist of slot n were born above p: where n follows a record whose pred has the number p, the deletion of that record frees them.
+// How many blocks on the deadlist of slot n were born above p: where n follows a record whose pred has the number p, the deletion of that record takes
+// them off their last page.
 pub fn count_gone(t: &[u32], g: Geometry, n: usize, p: u32) -> usize
     requires { ⌜ Ready g (now t) × (n < g .records) ⌝ }
     ensures is { λ r. ⌜ r ≡ bornAbove (viewOf g (now (t .entry))) p n ⌝ }
@@ -81,7 +82,7 @@ fn join_rows(t: &mut [u32], g: Geometry, s: usize, n: usize, kept: usize)
     t[LENGTH + n] = (kept + more) as u32;
 }
 
-// The record in slot s, which slot n follows, is taken out of its line, with p the number of its pred: the blocks to be freed are written to `out`,
+// The record in slot s, which slot n follows, is taken out of its line, with p the number of its pred: the blocks to be queued are written to `out`,
 // by rising birth. Returns how many they are.
 pub fn delete_next(t: &mut [u32], g: Geometry, out: &mut [u32], s: usize, n: usize, p: u32) -> usize
     requires { ⌜ Ready g (now t) × (length (unlinked (viewOf g (now t)) s n) ≤ length (now out)) × Asks (viewOf g (now t)) (doD s) × (follower (viewOf g (now t)) s ≡ suc n) × (p ≡ predNum (viewOf g (now t)) s) ⌝ }

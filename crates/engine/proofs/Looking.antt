@@ -10,7 +10,7 @@ use Rattle.answer.specs.Reply.{replyOf}
 use Rattle.geometry.specs.declared.Geometry.{Geometry}
 use Rattle.model.specs.declared.Call.{Call}
 use Rattle.model.proofs.Call.{the-type}
-use Rattle.model.specs.declared.Call.the-variants.{Begin, Write, Erase, Seal, Fork, Delete, Read, Barrier, Compress, FreeList, Estimate, Retain}
+use Rattle.model.specs.declared.Call.the-variants.{Begin, Write, Erase, Seal, Fork, Delete, Read, Barrier, Compress, FreeList, Estimate, Retain, Reclaim}
 use Rattle.model.specs.Command.{Command, command}
 use Rattle.model.specs.Calls.{account, written, effect}
 use Rattle.model.specs.Layout.{stateOf}
@@ -67,7 +67,7 @@ seen-as c (look.Estimate n) e = rw e
 
 -- the places of the calls that do more, in the order of `Call`
 abbrev acting : List ℕ
-acting = 0 ∷ 1 ∷ 2 ∷ 3 ∷ 4 ∷ 5 ∷ 7 ∷ 8 ∷ 11 ∷ []
+acting = 0 ∷ 1 ∷ 2 ∷ 3 ∷ 4 ∷ 5 ∷ 7 ∷ 8 ∷ 11 ∷ 12 ∷ []
 
 pub not-seen : (c : Call) → OneOf acting (tagOf the-type c) → seenCall seen.Nothing ≡ onlyLooks (some c)
 not-seen Begin h = refl
@@ -82,3 +82,4 @@ not-seen Compress h = refl
 not-seen FreeList h = absurd (miss acting 9 tt h)
 not-seen (Estimate r) h = absurd (miss acting 10 tt h)
 not-seen (Retain r n) h = refl
+not-seen (Reclaim k) h = refl

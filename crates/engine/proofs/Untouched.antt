@@ -19,7 +19,7 @@ use Rattle.model.specs.Calls.{account, result, written, effect}
 use Rattle.model.specs.Layout.{stateOf, stored}
 use Rattle.model.specs.Memory.{writtenAt, midway, storedBy}
 use Rattle.model.proofs.Restored.{stored-state}
-use Rattle.tables.specs.Ready.{Ready, OutLong, LogLong, LinkOf, recordOf}
+use Rattle.tables.specs.Ready.{Ready, OutLong, LinkOf, recordOf}
 use Rattle.tables.specs.Outcome.{replied, tablesLeft, logLeft, outLeft}
 
 -- whatever the reply
@@ -100,21 +100,24 @@ pub name-performed : (r : Answer) (g : Geometry) (t log out t′ out′ l : List
 name-performed r g t log out t′ out′ l c p = (p .0, (p .1 .0, (log-stays g t (commandOn c l) log (writes-none g t l c), p .1 .1)))
 
 -- of a copy of the geometry: what a call asks, and its promises
-abbrev pub AskedOf : List ℕ → List ℕ → List ℕ → ℕ → ℕ → Geometry → Type 0
-AskedOf t log out n link g = Ready g t × LogLong g log × OutLong g out × LinkOf g t n link
-
-pub copy-asked : {h g : Geometry} → h ≡ g → (t log out : List ℕ) (n link : ℕ) → AskedOf t log out n link g → AskedOf t log out n link h
-copy-asked e t log out n link = subst (AskedOf t log out n link) (sym e)
-
 abbrev pub LookedAt : List ℕ → List ℕ → ℕ → ℕ → Geometry → Type 0
 LookedAt t out n link g = Ready g t × OutLong g out × LinkOf g t n link
 
 pub copy-looked : {h g : Geometry} → h ≡ g → (t out : List ℕ) (n link : ℕ) → LookedAt t out n link g → LookedAt t out n link h
 copy-looked e t out n link = subst (LookedAt t out n link) (sym e)
 
-pub copy-performed : {h g : Geometry} → h ≡ g → (r : Answer) (t′ log′ out′ t log out : List ℕ) (c : Command) →
-    Performed r t′ log′ out′ h t log out c → Performed r t′ log′ out′ g t log out c
-copy-performed e r t′ log′ out′ t log out c = subst (λ k. Performed r t′ log′ out′ k t log out c) e
+-- of one that is lent the tables alone
+abbrev pub AskedAlone : List ℕ → ℕ → ℕ → Geometry → Type 0
+AskedAlone t n link g = Ready g t × LinkOf g t n link
+
+pub copy-alone : {h g : Geometry} → h ≡ g → (t : List ℕ) (n link : ℕ) → AskedAlone t n link g → AskedAlone t n link h
+copy-alone e t n link = subst (AskedAlone t n link) (sym e)
+
+abbrev pub AloneLeft : Answer → List ℕ → List ℕ → Command → Geometry → Type 0
+AloneLeft r t′ t c g = ((out : List ℕ) → replyOf r out ≡ replied g t c) × (t′ ≡ tablesLeft g t c)
+
+pub copy-left : {h g : Geometry} → h ≡ g → (r : Answer) (t′ t : List ℕ) (c : Command) → AloneLeft r t′ t c h → AloneLeft r t′ t c g
+copy-left e r t′ t c = subst (AloneLeft r t′ t c) e
 
 abbrev pub Answers : Answer → List ℕ → List ℕ → List ℕ → Command → Geometry → Type 0
 Answers r out′ t out c g = (replyOf r out′ ≡ replied g t c) × (out′ ≡ outLeft g t out c)

@@ -2,7 +2,7 @@
 use mathlib.Core.Bool.{Bool, true, false, cond}
 use mathlib.Core.Option.{Option, none, some}
 use Rattle.model.specs.declared.Call.{Call}
-use Rattle.model.specs.declared.Call.the-variants.{Begin, Write, Erase, Seal, Fork, Delete, Read, Barrier, Compress, FreeList, Estimate, Retain}
+use Rattle.model.specs.declared.Call.the-variants.{Begin, Write, Erase, Seal, Fork, Delete, Read, Barrier, Compress, FreeList, Estimate, Retain, Reclaim}
 use Rattle.engine.specs.declared.looks.Look.{Look}
 use Rattle.engine.specs.declared.looks.Look.the-variants as look
 use Rattle.engine.specs.declared.looks.Seen.{Seen}
@@ -27,6 +27,7 @@ looks Compress = false
 looks FreeList = true
 looks (Estimate r) = true
 looks (Retain r n) = false
+looks (Reclaim k) = false
 
 -- of what is asked, a call that only looks
 abbrev pub onlyLooks : Option Call → Option Call

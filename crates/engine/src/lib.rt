@@ -1,4 +1,4 @@
-// The fifteen calls on tables that are known to be sound: twelve of a letter and numbers, and the three of names. Internal: `store` is what users call.
+// The sixteen calls on tables that are known to be sound: thirteen of a letter and numbers, and the three of names. Internal: `store` is what users call.
 pub mod looks;
 pub mod names;
 
@@ -22,6 +22,7 @@ use model::Call;
 use paging::erase::erase;
 use paging::read::read;
 use paging::write::write;
+use reclaiming::reclaim;
 use retaining::retain;
 use retaining::seal;
 
@@ -42,6 +43,7 @@ pub fn record_of(c: Call) -> u32
         Call::FreeList => 0,
         Call::Estimate(n) => n,
         Call::Retain(n, _) => n,
+        Call::Reclaim(_) => 0,
     }
 }
 
@@ -65,15 +67,16 @@ pub fn perform(
         Call::Begin => begin(g, t, out),
         Call::Write(n, page, kind) => write(g, t, log, out, n, link, page, kind),
         Call::Erase(n, page) => erase(g, t, log, out, n, link, page),
-        Call::Seal(n) => seal(copied(g), t, log, out, n, link),
+        Call::Seal(n) => seal(copied(g), t, out, n, link),
         Call::Fork(n) => fork(g, t, out, n, link),
-        Call::Delete(n) => delete(copied(g), t, log, out, n, link),
+        Call::Delete(n) => delete(copied(g), t, n, link),
         Call::Read(n, page) => read(g, t, out, n, link, page),
         Call::Barrier => barrier(g, t, log),
         Call::Compress => compress_log(g, t, log, out),
         Call::FreeList => free_list(g, t, out),
         Call::Estimate(n) => estimate(copied(g), t, out, n, link),
         Call::Retain(n, most) => retain(g, t, n, link, most),
+        Call::Reclaim(k) => reclaim(g, t, log, out, k),
     }
 }
 

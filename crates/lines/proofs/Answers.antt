@@ -45,7 +45,7 @@ one (x ∷ l) v h = refl
 -- an action with no log word, which frees nothing
 pub acted-is : (T : State) (a : Action) → frees (T .view) a ≡ [] → withView T (done (T .view) a) ≡ acted T a 0
 unfolding acted
-acted-is T a e = state-ext _ _ refl refl refl refl (omega arith) (sym (ap (λ l. T .waiting ++ l) e ∙ append-nil (T .waiting))) refl
+acted-is T a e = state-ext _ _ refl refl refl refl (omega arith) (sym (ap (λ l. T .waiting ++ l) e ∙ append-nil (T .waiting))) refl refl
 
 module _ {g : Geometry} {t : List ℕ} (R : Ready g t) where
   abbrev T : State

@@ -97,6 +97,7 @@ synced-holds {g} {t} {u} R e =
         blocks = S .blocks;
         mark = S .mark;
         notes = S .notes;
+        queue = S .queue;
         few = omega arith;
       };
     }

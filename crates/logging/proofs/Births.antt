@@ -1,6 +1,6 @@
 -- What a block's bit of the free words says: the block may be given, or it is held.
-use mathlib.Core.Path.{_≡_, ap, _∙_}
-use mathlib.Core.Bool.{Bool, not, and-true}
+use mathlib.Core.Path.{_≡_, refl, ap, _∙_}
+use mathlib.Core.Bool.{Bool, true, false, not, _&&_, _||_}
 use mathlib.Core.List.{List}
 use Prim.Native.Nat.{ℕ, _-_, _*_, _/_, _%_, _<_, min}
 use native.Mathlib.Omega.{arith}
@@ -13,7 +13,7 @@ use Rattle.choice.specs.Words.{freeIn}
 use Rattle.choice.proofs.Births.{says}
 use Rattle.model.specs.Lists.{elem}
 use Rattle.model.specs.State.{State, synced}
-use Rattle.model.specs.Held.{held, waits, available}
+use Rattle.model.specs.Held.{onPages, queued, held, waits, available}
 use Rattle.model.specs.Layout.{freeWord, viewOf, stateOf}
 use Rattle.tables.specs.Ready.{Roomy, FreeWords}
 
@@ -24,6 +24,12 @@ words t = take 64 (drop 64 t)
 -- a block that the free words keep from being given
 abbrev pub kept : List ℕ → ℕ → Bool
 kept l b = not (freeIn l b)
+
+-- neither of two is no more than not one or not the other
+not-either : (p q : Bool) → not (p && (q && true)) ≡ (not p || not q)
+not-either true true = refl
+not-either true false = refl
+not-either false q = refl
 
 module _ {g : Geometry} {t : List ℕ} (roomy : Roomy g t) (free : FreeWords g t) where
   pub words-long : length (words t) ≡ 64
@@ -44,6 +50,6 @@ module _ {g : Geometry} {t : List ℕ} (roomy : Roomy g t) (free : FreeWords g t
   free-is b h = says (available (stateOf g t)) (words t) _ b (word-at (b / 32) (low b h)) (inside b _ h)
 
   -- where no block waits, what may not be given is held
-  pub kept-is : (T : State) → stateOf g t ≡ synced T → (b : ℕ) → b < blocks g → kept (words t) b ≡ held (T .view) b
-  unfolding held available waits elem
-  kept-is T e b h = ap not (free-is b h ∙ ap (λ U. available U b) e ∙ and-true (eqb (T .view .birth b) 0))
+  pub kept-is : (T : State) → stateOf g t ≡ synced T → (b : ℕ) → b < blocks g → kept (words t) b ≡ held T b
+  unfolding held onPages queued available waits elem
+  kept-is T e b h = ap not (free-is b h ∙ ap (λ U. available U b) e) ∙ not-either (eqb (T .view .birth b) 0) (eqb (T .queue .birth b) 0)

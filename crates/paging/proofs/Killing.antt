@@ -1,5 +1,5 @@
 -- The kill of a page's block: each fate's stores leave the tables with the page emptied, and what it answers.
-use mathlib.Core.Path.{_≡_, sym, ap, _∙_}
+use mathlib.Core.Path.{_≡_, sym, ap, _∙_, subst}
 use mathlib.Core.List.{List, [], _∷_, _++_, append-nil}
 use Prim.Native.Nat.{ℕ, suc, _+_, _-_, _≤_, _<_}
 use native.Mathlib.Omega.{arith}
@@ -20,7 +20,7 @@ use Rattle.model.specs.Layout.{lengthCell, pageCell, listCell, birthCell, viewO
 use Rattle.model.proofs.TabFacts.{put-same}
 use Rattle.model.proofs.DoneSound.{done-sound}
 use Rattle.model.proofs.CheckFacts.{list-short}
-use Rattle.model.proofs.Shape.{Shaped}
+use Rattle.model.proofs.Shape.{Shaped, ShapedQueue}
 use Rattle.model.proofs.Sizes.{done-sized}
 use Rattle.model.proofs.DoneShaped.{done-shaped}
 use Rattle.model.proofs.LayoutFacts.{stored-length}
@@ -92,7 +92,7 @@ module _ {g : Geometry} {t : List ℕ} {s x : ℕ} (A : Target g t s x) where
   pub emptied-few : length (stateOf g t .waiting ++ freesOf g t s x) ≤ blocks g
   unfolding acted
   emptied-few =
-      let w = acted-waits (stateOf g t) (doE s x) (A .ready .sound) target-asks (A .ready .waiting) (λ c i. absurd i) 0 in
+      let w = acted-waits (stateOf g t) (doE s x) (A .ready .sound) target-asks (A .ready .queue) (A .ready .waiting) (λ c i. absurd i) 0 in
       let z : erase (stateOf g t .view) s x .blocks ≡ blocks g = done-sized (stateOf g t .view) (doE s x) .blocks ∙ holds-first (A .ready) .shaped .blocks in
       once-short (stateOf g t .waiting ++ freesOf g t s x) (blocks g) (w .once) (λ b i. omega (arith, w .below b i))
 
@@ -109,6 +109,7 @@ module _ {g : Geometry} {t : List ℕ} {s x : ℕ} (A : Target g t s x) where
         blocks = z .blocks ∙ S .blocks;
         mark = S .mark;
         notes = S .notes;
+        queue = subst (λ n. ShapedQueue n (stateOf g t .queue)) (sym (z .blocks)) (S .queue);
         few = omega (arith, emptied-few, z .blocks ∙ S .blocks);
       }
 

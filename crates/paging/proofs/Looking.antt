@@ -36,6 +36,7 @@ ready-fine R = record {
   pages = refl;
   blocks = refl;
   range = R .range;
+  queue = R .queue;
   waits = R .waiting;
   windows = R .windows;
   names = R .names;

@@ -1,5 +1,5 @@
 -- A free block goes on a page: the stores of its rows, its mark and its turn.
-use mathlib.Core.Path.{_≡_, refl, sym, ap, _∙_}
+use mathlib.Core.Path.{_≡_, refl, sym, ap, _∙_, subst}
 use mathlib.Core.List.{List}
 use Prim.Native.Nat.{ℕ, suc, _+_, _*_, _<_}
 use native.Mathlib.Omega.{arith}
@@ -16,7 +16,7 @@ use Rattle.model.specs.Actions.{doW, Asks}
 use Rattle.model.specs.Calls.{marksAfter, given}
 use Rattle.model.specs.Layout.{numCell, pageCell, viewOf, notesOf, stateOf, stored}
 use Rattle.model.proofs.BookFacts.{erase-paged}
-use Rattle.model.proofs.Shape.{Shaped}
+use Rattle.model.proofs.Shape.{Shaped, ShapedQueue}
 use Rattle.model.proofs.Sizes.{done-sized}
 use Rattle.model.proofs.DoneShaped.{done-shaped}
 use Rattle.tables.specs.Ready.{Roomy}
@@ -43,10 +43,11 @@ kept g t T u roomy H = record {
   short = λ s. omega (arith, H .shaped .view .short s, H .shaped .pages, ap (λ U. length (U .view .list s)) (holds-says g t roomy H));
   names = λ i. omega (arith, H .shaped .notes .short i, ap (λ U. length (U .notes .titles .text i)) (holds-says g t roomy H));
   few = omega (arith, H .shaped .few, H .shaped .blocks, ap (λ U. length (U .waiting)) (holds-says g t roomy H));
+  queued = omega (arith, H .shaped .queue .few, H .shaped .blocks, ap (λ U. length (U .queue .list)) (holds-says g t roomy H));
 }
 
 kept-holds : {g : Geometry} {t : List ℕ} → Storable g t → Holds g t (stateOf g t) t
-kept-holds {g} {t} k = holds-from g t (k .roomy) (k .made) (k .free) (k .short) (k .names) (k .few)
+kept-holds {g} {t} k = holds-from g t (k .roomy) (k .made) (k .free) (k .short) (k .names) (k .few) (k .queued)
 
 -- ── the block's page and birth ──
 
@@ -127,6 +128,7 @@ module _ {g : Geometry} {t : List ℕ} {s x a o : ℕ} (A : Target g t s x) (P :
         blocks = z .blocks ∙ S .blocks;
         mark = S .mark;
         notes = S .notes;
+        queue = subst (λ n. ShapedQueue n (stateOf g t .queue)) (sym (z .blocks)) (S .queue);
         few = omega (arith, Killing.emptied-few A, z .blocks ∙ S .blocks);
       }
 
@@ -152,7 +154,7 @@ module _ {g : Geometry} {t : List ℕ} {s x a o : ℕ} (A : Target g t s x) (P :
       unfolding emptied placed write place
       block-holds =
           step-to g t (A .ready .roomy) (Killing.emptied-holds A u eu) (λ U. placed U s x b) v ev written-shaped
-          (λ r h. tail-longer g t (emptied g t s x) W r (omega arith)) (omega arith) refl
+          (λ r h. tail-longer g t (emptied g t s x) W r (omega arith)) (omega arith) (omega arith) refl
 
       pub block-kept : Storable g v
       block-kept = kept g t W v (A .ready .roomy) block-holds
@@ -167,7 +169,7 @@ module _ {g : Geometry} {t : List ℕ} {s x a o : ℕ} (A : Target g t s x) (P :
       unfolding filled given
       page-filled w ew =
           step-to g t (A .ready .roomy) block-holds (λ U. given g U (At a o)) w ew (given-shaped g W a o written-shaped (P .arena))
-          (λ r h. tail-longer g t W (given g W (At a o)) r (omega arith)) (omega arith) refl .is
+          (λ r h. tail-longer g t W (given g W (At a o)) r (omega arith)) (omega arith) (omega arith) refl .is
 
   -- the tables with the page filled hold that state
   pub filled-shaped : Shaped g (filled g t s x a o)

@@ -26,6 +26,7 @@ pub record Storable (g : Geometry) (t : List ℕ) : Type 0 where
   pub short : (s : ℕ) → length (viewOf g t .list s) ≤ g .pages
   pub names : (i : ℕ) → length (titlesOf t .text i) ≤ 32
   pub few : length (stateOf g t .waiting) ≤ blocks g
+  pub queued : length (stateOf g t .queue .list) ≤ blocks g
 
 -- the block at offset o of arena a is free
 pub record FreeAt (g : Geometry) (t : List ℕ) (a o : ℕ) : Type 0 where

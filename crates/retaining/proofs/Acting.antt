@@ -2,18 +2,17 @@
 use mathlib.Core.Path.{_≡_, refl, sym, ap, _∙_, subst}
 use mathlib.Core.Logic.{inl, inr}
 use mathlib.Core.List.{List, [], _∷_, map}
-use Prim.Native.Nat.{ℕ, pred, _+_, _≤_, _<_}
+use Prim.Native.Nat.{ℕ, pred, _≤_, _<_}
 use native.Mathlib.Omega.{arith}
 use Rattle.geometry.specs.declared.Geometry.{Geometry}
 use Rattle.geometry.specs.Limits.{blocks}
 use Rattle.model.specs.Sound.{Sound}
 use Rattle.model.specs.Lists.{In}
 use Rattle.model.specs.NamesAgree.{NamesAgree}
-use Rattle.model.specs.State.{State, Notes, withView, withUsed, passedNotes, withNotes, freeAll, InRange, WaitingFits, WindowsFit}
+use Rattle.model.specs.State.{State, Notes, passedNotes, withNotes, InRange, QueueFits, WaitingFits, WindowsFit}
 use Rattle.model.specs.Effects.{seal, grow, close}
-use Rattle.model.specs.Actions.{Action, doS, doD, Asks, done, vacant, follower, deleteAt, delete}
-use Rattle.model.specs.Held.{deleted, frees}
-use Rattle.model.specs.Window.{AsksAlong, actedAll}
+use Rattle.model.specs.Actions.{Action, doS, doD, Asks, done, vacant, delete}
+use Rattle.model.specs.Window.{steps, AsksAlong, queueing}
 use Rattle.model.specs.Calls.{acted}
 use Rattle.model.specs.Layout.{viewOf, stateOf, stored}
 use Rattle.model.specs.Memory.{storedAlong}
@@ -21,17 +20,20 @@ use Rattle.model.proofs.DoneSound.{spare, done-sound}
 use Rattle.model.proofs.DoneShaped.{done-shaped}
 use Rattle.model.proofs.Sizes.{done-sized}
 use Rattle.model.proofs.BirthStays.{Gives}
-use Rattle.model.proofs.Waiting.{once-short, acted-waits}
+use Rattle.model.proofs.Waiting.{once-short}
 use Rattle.model.proofs.Windows.{fit-done}
 use Rattle.model.proofs.NameActions.{NamesFit, names-kept-done}
 use Rattle.model.proofs.NameShape.{passed-shaped}
 use Rattle.model.proofs.WindowDelete.{cut}
-use Rattle.model.proofs.WindowMoves.{acted-none, acted-next}
+use Rattle.model.proofs.WindowMoves.{Giveless}
+use Rattle.model.proofs.Queueing.{queueing-none, queueing-quiet, queueing-step, queueing-fits, queueing-waits}
 use Rattle.model.proofs.Shape.{ShapedNotes, Shaped}
+use Rattle.model.proofs.ShapeFacts.{fits-shaped}
 use Rattle.tables.specs.Ready.{Ready}
 use Rattle.tables.proofs.Fields
 use Rattle.tables.proofs.Ranges
 use Rattle.tables.proofs.Steps.{Holds, holds-first, holds-roomy, holds-made, holds-says, holds-free}
+use Rattle.lines.proofs.Answers.{acted-is}
 
 -- an action that gives no block, with the notes N after it
 module _ {g : Geometry} {t : List ℕ} (R : Ready g t) (a : Action) (asks : Asks (viewOf g t) a) (giveless : (c : ℕ) → Gives a c → ⊥) (N : Notes)
@@ -41,21 +43,28 @@ module _ {g : Geometry} {t : List ℕ} (R : Ready g t) (a : Action) (asks : Asks
   T = stateOf g t
 
   abbrev pub after : State
-  after = withNotes (acted (stateOf g t) a 0) N
+  after = withNotes (queueing (stateOf g t) (a ∷ [])) N
 
-  waits : WaitingFits (acted T a 0)
+  fits : QueueFits (queueing T (a ∷ []))
   unfolding stateOf
-  waits = acted-waits T a (Ranges.sound R) asks (R .waiting) (λ c i. absurd (giveless c i)) 0
+  fits = queueing-fits T (a ∷ []) (Ranges.sound R) (asks, tt) (giveless, tt) (R .queue)
+
+  waits : WaitingFits (queueing T (a ∷ []))
+  unfolding stateOf
+  waits = queueing-waits T (a ∷ []) (Ranges.sound R) (asks, tt) (giveless, tt) (R .waiting)
 
   after-sound : Sound (after .view)
-  unfolding acted stateOf
+  unfolding queueing steps stateOf
   after-sound = done-sound (viewOf g t) a (Ranges.sound R) asks
 
+  after-queue : QueueFits after
+  after-queue = record { below = fits .below; once = fits .once; births = fits .births; given = fits .given; unborn = fits .unborn }
+
   after-waits : WaitingFits after
-  after-waits = record { below = waits .below; unborn = waits .unborn; once = waits .once }
+  after-waits = record { below = waits .below; unborn = waits .unborn; unqueued = waits .unqueued; once = waits .once }
 
   after-shaped : Shaped g after
-  unfolding acted stateOf
+  unfolding queueing steps stateOf
   after-shaped =
       let S = holds-first R .shaped in
       let z = done-sized (viewOf g t) a in
@@ -68,33 +77,34 @@ module _ {g : Geometry} {t : List ℕ} (R : Ready g t) (a : Action) (asks : Asks
         mark = S .mark;
         notes = shape;
         few = once-short (after .waiting) (done (viewOf g t) a .blocks) (waits .once) (waits .below);
+        queue = fits-shaped after after-queue;
       }
 
   after-range : InRange g after
-  unfolding acted stateOf
+  unfolding queueing steps stateOf
   after-range =
       record {
         last = low;
         marks = R .range .marks;
         counter = R .range .counter;
         writes = R .range .writes;
-        used = omega (arith, R .range .used);
+        used = R .range .used;
       }
 
   after-fit : WindowsFit (after .view) (after .notes)
-  unfolding acted stateOf
+  unfolding queueing steps stateOf
   after-fit = fit
 
   after-names : NamesAgree (after .view) (after .notes .titles) (after .notes .names)
-  unfolding acted stateOf
+  unfolding queueing steps stateOf
   after-names = agree
 
   -- the tables u are those in which it is stored
-  module _ (u : List ℕ) (e : u ≡ stored g (withNotes (acted (stateOf g t) a 0) N) t) where
+  module _ (u : List ℕ) (e : u ≡ stored g (withNotes (queueing (stateOf g t) (a ∷ [])) N) t) where
     held : Holds g t after u
     held = record { is = e; shaped = after-shaped }
 
-    after-says : stateOf g u ≡ withNotes (acted (stateOf g t) a 0) N
+    after-says : stateOf g u ≡ withNotes (queueing (stateOf g t) (a ∷ [])) N
     after-says = holds-says g t (R .roomy) held
 
     after-ready : Ready g u
@@ -105,6 +115,7 @@ module _ {g : Geometry} {t : List ℕ} (R : Ready g t) (a : Action) (asks : Asks
           made = holds-made g t (R .roomy) held;
           sound = subst (λ U. Sound (U .view)) d after-sound;
           range = subst (InRange g) d after-range;
+          queue = subst QueueFits d after-queue;
           waiting = subst WaitingFits d after-waits;
           windows = subst (λ U. WindowsFit (U .view) (U .notes)) d after-fit;
           names = subst (λ U. NamesAgree (U .view) (U .notes .titles) (U .notes .names)) d after-names;
@@ -129,48 +140,46 @@ module _ {g : Geometry} {t : List ℕ} (R : Ready g t) (s : ℕ) (asks : Asks (v
   same-shape : ShapedNotes (g .records) (stateOf g t .notes)
   same-shape = holds-first R .shaped .notes
 
-  module _ (u : List ℕ) (e : u ≡ stored g (acted (stateOf g t) (doD s) 0) t) where
-    pub gone-says : stateOf g u ≡ acted (stateOf g t) (doD s) 0
-    unfolding acted
+  module _ (u : List ℕ) (e : u ≡ stored g (queueing (stateOf g t) (doD s ∷ [])) t) where
+    pub gone-says : stateOf g u ≡ queueing (stateOf g t) (doD s ∷ [])
+    unfolding queueing
     gone-says = after-says R (doD s) asks (λ c i. i) (stateOf g t .notes) gone-fit gone-names same-shape gone-last u e
 
     pub gone-view : viewOf g u ≡ delete (viewOf g t) s
-    unfolding acted stateOf
+    unfolding queueing steps stateOf
     gone-view = ap (λ B. B .view) gone-says
 
     pub gone-notes : stateOf g u .notes ≡ stateOf g t .notes
-    unfolding acted
+    unfolding queueing
     gone-notes = ap (λ (B : State). B .notes) gone-says
 
     pub gone-ready : Ready g u
-    unfolding acted
+    unfolding queueing
     gone-ready = after-ready R (doD s) asks (λ c i. i) (stateOf g t .notes) gone-fit gone-names same-shape gone-last u e
-
--- as `delete_record` says it, with the link of the record that follows
-module _ (g : Geometry) (t : List ℕ) (s : ℕ) where
-  pub gone-is : (l : ℕ) → follower (viewOf g t) s ≡ l →
-      freeAll (deleted (viewOf g t) s l) (withView (stateOf g t) (deleteAt (viewOf g t) s l)) ≡ acted (stateOf g t) (doD s) 0
-  unfolding acted stateOf delete
-  gone-is l e =
-      ap (λ m. freeAll (deleted (viewOf g t) s m) (withView (stateOf g t) (deleteAt (viewOf g t) s m))) (sym e) ∙
-      ap (λ n. freeAll (frees (viewOf g t) (doD s)) (withUsed (withView (stateOf g t) (delete (viewOf g t) s)) n))
-      (let z : stateOf g t .used ≡ stateOf g t .used + 0 = omega arith in z)
 
 -- ── deletes one after another ──
 
-pub acted-nothing : (T : State) → actedAll T [] 0 ≡ T
-acted-nothing T = acted-none T 0 ∙ ap (λ n. withUsed T n) (let z : T .used + 0 ≡ T .used = omega arith in z)
+-- they give no block
+deletes-giveless : (vs : List ℕ) → Giveless (map doD vs)
+deletes-giveless [] = tt
+deletes-giveless (v ∷ vs) = (λ c i. i, deletes-giveless vs)
+
+-- the first of them, then the others
+first-then : {g : Geometry} {t : List ℕ} → Ready g t → (v : ℕ) (vs : List ℕ) → AsksAlong (viewOf g t) (map doD (v ∷ vs)) →
+    queueing (stateOf g t) (map doD (v ∷ vs)) ≡ queueing (queueing (stateOf g t) (doD v ∷ [])) (map doD vs)
+unfolding stateOf
+first-then {g} {t} R v vs q = queueing-step (stateOf g t) (doD v) (map doD vs) (R .sound) q (deletes-giveless (v ∷ vs))
 
 -- where each is one that the store it meets allows, and none has a name, the tables are ready after them, and say what all of them leave
 pub gone-along : {g : Geometry} (vs : List ℕ) (t : List ℕ) → Ready g t → AsksAlong (viewOf g t) (map doD vs) →
     ((v : ℕ) → In v vs → stateOf g t .notes .names v ≡ 0) →
     Ready g (storedAlong g (stateOf g t) (map doD vs) t) ×
-    (stateOf g (storedAlong g (stateOf g t) (map doD vs) t) ≡ actedAll (stateOf g t) (map doD vs) 0)
+    (stateOf g (storedAlong g (stateOf g t) (map doD vs) t) ≡ queueing (stateOf g t) (map doD vs))
 unfolding storedAlong
-gone-along [] t R q z = (R, sym (acted-nothing (stateOf _ t)))
+gone-along [] t R q z = (R, sym (queueing-none (stateOf _ t)))
 gone-along {g} (v ∷ vs) t R (q, qs) z =
     let T : State = stateOf g t in
-    let U : State = acted T (doD v) 0 in
+    let U : State = queueing T (doD v ∷ []) in
     let u : List ℕ = stored g U t in
     let n : T .notes .names v ≡ 0 = z v (inl refl) in
     let d : stateOf g u ≡ U = gone-says R v q n u refl in
@@ -178,10 +187,14 @@ gone-along {g} (v ∷ vs) t R (q, qs) z =
     (λ x i. ap (λ (N : Notes). N .names x) (gone-notes R v q n u refl) ∙ z x (inr i)) in
     let e : storedAlong g (stateOf g u) (map doD vs) u ≡ storedAlong g U (map doD vs) u = ap (λ B. storedAlong g B (map doD vs) u) d in (
       subst (Ready g) e (w .0),
-      ap (stateOf g) (sym e) ∙ w .1 ∙ ap (λ B. actedAll B (map doD vs) 0) d ∙ sym (acted-next T (doD v) (map doD vs) 0 0),
+      ap (stateOf g) (sym e) ∙ w .1 ∙ ap (λ B. queueing B (map doD vs)) d ∙ sym (first-then R v vs (q, qs)),
     )
 
 -- ── the seal ──
+
+-- it queues nothing
+pub seal-quiet : (T : State) (s : ℕ) → acted T (doS s) 0 ≡ queueing T (doS s ∷ [])
+seal-quiet T s = sym (acted-is T (doS s) refl) ∙ sym (queueing-quiet T (doS s) refl)
 
 module _ {g : Geometry} {t : List ℕ} (R : Ready g t) (s : ℕ) (asks : Asks (viewOf g t) (doS s)) (low : viewOf g t .last < 999999)
     (f : ℕ) (ef : f ≡ pred (vacant (viewOf g t))) where
@@ -206,8 +219,13 @@ module _ {g : Geometry} {t : List ℕ} (R : Ready g t) (s : ℕ) (asks : Asks (v
   sealed-last = omega arith
 
   module _ (u : List ℕ) (e : u ≡ stored g (withNotes (acted (stateOf g t) (doS s) 0) (passedNotes (stateOf g t .notes) s f)) t) where
+    as-queueing : u ≡ stored g (withNotes (queueing (stateOf g t) (doS s ∷ [])) N) t
+    as-queueing = e ∙ ap (λ (U : State). stored g (withNotes U N) t) (seal-quiet (stateOf g t) s)
+
     pub sealed-says : stateOf g u ≡ withNotes (acted (stateOf g t) (doS s) 0) (passedNotes (stateOf g t .notes) s f)
-    sealed-says = after-says R (doS s) asks (λ c i. i) N sealed-fit sealed-names sealed-shape sealed-last u e
+    sealed-says =
+        after-says R (doS s) asks (λ c i. i) N sealed-fit sealed-names sealed-shape sealed-last u as-queueing ∙
+        ap (λ (U : State). withNotes U N) (sym (seal-quiet (stateOf g t) s))
 
     pub sealed-ready : Ready g u
-    sealed-ready = after-ready R (doS s) asks (λ c i. i) N sealed-fit sealed-names sealed-shape sealed-last u e
+    sealed-ready = after-ready R (doS s) asks (λ c i. i) N sealed-fit sealed-names sealed-shape sealed-last u as-queueing

@@ -1,54 +1,45 @@
--- An S that none of 8, 9, 11 and 12 refuses: the seal, then, in a line with a window, the deletes and their words in the log.
+-- An S that none of 8, 9, 11 and 12 refuses: the seal, then, in a line with a window, the deletes.
 use mathlib.Core.Path.{_≡_, refl, sym, ap, ap₂, _∙_, subst}
 use mathlib.Core.Logic.{inl, inr}
-use mathlib.Core.Bool.{Bool, true, false, cond, _&&_}
+use mathlib.Core.Bool.{Bool, cond, _&&_}
 use mathlib.Core.List.{List, [], _∷_, _++_, map}
-use Prim.Native.Nat.{ℕ, zero, suc, pred, _+_, _-_, _*_, _≤_, _<_}
-use native.Mathlib.Nat.{zero-add}
+use Prim.Native.Nat.{ℕ, zero, suc, pred, _+_, _-_, _<_}
 use native.Mathlib.Omega.{arith}
 use lib.Dec.{eqb, ltb}
-use lib.ListN.{length, getD, set, take, length-set}
-use lib.Seq.{sets, length-sets}
-use borrow.Author.Tests.{ltb-false, le-ltb}
-use borrow.Rule.Slice.PartMut.{midOf, putMid}
+use lib.ListN.{length, getD, set}
+use lib.Seq.{sets}
 use Rattle.answer.specs.Reply.{accepted, replyOf}
 use Rattle.answer.specs.declared.Answer.{Answer}
-use Rattle.answer.specs.declared.Answer.the-variants.{Done, Refused}
+use Rattle.answer.specs.declared.Answer.the-variants.{Done}
 use Rattle.geometry.specs.declared.Geometry.{Geometry}
-use Rattle.geometry.specs.Limits.{blocks}
-use Rattle.log.specs.Word.{writeAt, bytesOf, released}
-use Rattle.log.proofs.Writing.{write-none}
 use Rattle.model.specs.View.{View}
 use Rattle.model.specs.Lists.{In, trim, trimWalk}
 use Rattle.model.specs.Sound.{Sound}
-use Rattle.model.specs.State.{State, withView, withUsed, withNotes, passedNotes}
-use Rattle.model.specs.Effects.{seal, grow, close}
+use Rattle.model.specs.State.{State, Notes, withView, withNotes, passedNotes}
+use Rattle.model.specs.Effects.{seal}
 use Rattle.model.specs.Actions.{Action, doS, doD, done, forked}
-use Rattle.model.specs.Window.{freesAlong, AsksAlong, older, sealedOf, bare, victims, trimming, sealing, actedAll}
-use Rattle.model.specs.Results.{paired, blocksIn}
+use Rattle.model.specs.Window.{AsksAlong, older, sealedOf, bare, victims, trimming, sealing, queueing}
 use Rattle.model.specs.Calls.{acted}
 use Rattle.model.specs.Layout.{viewOf, stateOf, stored}
 use Rattle.model.specs.Memory.{storedAlong}
 use Rattle.model.proofs.DoneSound.{spare, done-sound}
-use Rattle.model.proofs.Few.{held-le}
-use Rattle.model.proofs.ResultFacts.{blocks-in-paired, paired-length}
 use Rattle.model.proofs.WindowLists.{trim-walked}
-use Rattle.model.proofs.WindowMoves.{acted-next}
+use Rattle.model.proofs.WindowMoves.{sealing-giveless}
 use Rattle.model.proofs.WindowLine.{older-less}
-use Rattle.model.proofs.WindowSeal.{seal-line, seal-num, seal-asks, seal-takes, seal-held}
+use Rattle.model.proofs.WindowSeal.{seal-line, seal-num, seal-asks, seal-takes}
+use Rattle.model.proofs.Queueing.{queueing-step}
 use Rattle.model.proofs.NameActions.{NamesFit, count-stays}
-use Rattle.tables.specs.Ready.{Ready, OutLong, LogLong}
+use Rattle.tables.specs.Ready.{Ready, OutLong}
 use Rattle.tables.proofs.Fields
 use Rattle.tables.proofs.Ranges
-use Rattle.tables.proofs.Steps.{holds-first, step-used}
+use Rattle.tables.proofs.Steps.{holds-first}
 use Rattle.lines.specs.Growing.{viewed}
 use Rattle.lines.proofs.Answers.{acted-is}
 use Rattle.deleting.proofs.Buffers.{take-sets}
 use Rattle.retaining.specs.Lines.{Lined}
-use Rattle.retaining.specs.Deletes.{oldest, oldestIn, oldestGone, oldestGiven, oldestLeft}
-use Rattle.retaining.specs.Closing.{Closes, gone, tooFew, given, sealedAs, closedState, deletedTables, closedReply, closedTables, closedLog, closedOut}
+use Rattle.retaining.specs.Deletes.{oldest, oldestIn, oldestLeft}
+use Rattle.retaining.specs.Closing.{Closes, sealedAs, closedState, deletedTables, closedReply, closedTables, closedOut}
 use Rattle.retaining.proofs.Lining.{lined-count, lined-newest}
-use Rattle.retaining.proofs.Parts.{part-length, part-sets, rest-length, rest-begins}
 use Rattle.retaining.proofs.Acting
 
 -- the window's deletes by a walk along the line
@@ -81,15 +72,14 @@ sealing-none : (K : View) (names : ℕ → ℕ) (s : ℕ) → sealing K names 0 
 unfolding sealing victims
 sealing-none K names s = refl
 
-gone-none : (T : State) (s : ℕ) → gone T s 0 ≡ []
-unfolding gone sealing victims freesAlong
-gone-none T s = refl
+-- other notes are no matter to what is queued
+noted-same : (U : State) (N : Notes) (l : List Action) → queueing (withNotes U N) l ≡ withNotes (queueing U l) N
+unfolding queueing
+noted-same U N l = refl
 
 -- the promises of an S on such slots
-abbrev pub Closed : Geometry → List ℕ → Answer → List ℕ → List ℕ → List ℕ → List ℕ → List ℕ → ℕ → ℕ → ℕ → Type 0
-Closed g t a u log log′ out out′ s f w =
-    (replyOf a out′ ≡ closedReply g t s w) ×
-    ((u ≡ closedTables g t s f w) × ((log′ ≡ closedLog g t log s w) × (out′ ≡ closedOut g t out s w)))
+abbrev pub Closed : Geometry → List ℕ → Answer → List ℕ → List ℕ → List ℕ → ℕ → ℕ → ℕ → Type 0
+Closed g t a u out out′ s f w = (replyOf a out′ ≡ closedReply g t) × ((u ≡ closedTables g t s f w) × (out′ ≡ closedOut g t out))
 
 module _ {g : Geometry} {t : List ℕ} (R : Ready g t) (s f w : ℕ) (C : Closes g t s f w) where
   abbrev K : View
@@ -122,32 +112,19 @@ module _ {g : Geometry} {t : List ℕ} (R : Ready g t) (s f w : ℕ) (C : Closes
         C .asks .1,
       )
 
-  -- what `log_is_short` says
-  pub short-is : (b : Bool) → b ≡ ltb (g .words - getD t 9 0) (length (freesAlong (viewOf g t) (sealing (viewOf g t) (stateOf g t .notes .names) w s))) →
-      tooFew g (stateOf g t) s w ≡ b
-  unfolding tooFew gone stateOf
-  short-is b e = sym e
+  -- ── the number of the new record ──
 
-  -- ── the log is too short ──
+  module _ (out : List ℕ) (long : OutLong g out) (v : ℕ) (ev : v ≡ getD t 6 0 + 1) where
+    number-is : v ∷ [] ≡ suc (K .last) ∷ []
+    number-is = ap (λ k. k ∷ []) (let z : v ≡ suc (K .last) = omega (arith, Fields.last-is g t) in z)
 
-  pub refused-left : tooFew g (stateOf g t) s w ≡ true → (log out : List ℕ) → Closed g t (Refused 14) t log log out out s f w
-  unfolding replyOf closedReply closedTables closedLog closedOut
-  refused-left too log out = (sym (rw too), (rw too, (rw too, rw too)))
+    reply-is : replyOf (Done 1) (set out 0 v) ≡ closedReply g t
+    unfolding replyOf closedReply
+    reply-is = ap accepted (take-sets out (v ∷ []) 1 refl (omega arith) ∙ number-is)
 
-  -- ── it is not ──
-
-  module _ (enough : tooFew g (stateOf g t) s w ≡ false) where
-    accepted-is : closedReply g t s w ≡ accepted (given T s w)
-    unfolding closedReply
-    accepted-is = rw enough
-
-    words-fit : T .used + length (gone T s w) ≤ g .words
-    unfolding tooFew
-    words-fit = omega (arith, ltb-false (g .words - T .used) (length (gone T s w)) enough, R .range .used)
-
-  gone-few : length (gone T s w) ≤ blocks g
-  unfolding gone stateOf
-  gone-few = omega (arith, seal-held K s S (C .asks) names w, held-le K, Fields.blocks-is g t)
+    out-is : set out 0 v ≡ closedOut g t out
+    unfolding closedOut
+    out-is = ap (sets out 0) number-is
 
   -- ── the tables t₁ after the seal ──
 
@@ -171,19 +148,12 @@ module _ {g : Geometry} {t : List ℕ} (R : Ready g t) (s f w : ℕ) (C : Closes
     -- ── without a window that is all ──
 
     module _ (z : w ≡ 0) where
-      none : gone T s w ≡ []
-      none = ap (gone T s) z ∙ gone-none T s
-
-      not-short : tooFew g T s w ≡ false
-      unfolding tooFew
-      not-short = ap (λ l. ltb (g .words - T .used) (length l)) none ∙ le-ltb (g .words - T .used) 0 (omega arith)
-
       bare-is : closedState T s f w ≡ sealedAs T s f
       unfolding closedState
       bare-is =
-          ap₂ (λ (l : List Action) (n : ℕ). withNotes (actedAll T l n) (passedNotes (T .notes) s f))
-          (ap (λ k. sealing (T .view) names k s) z ∙ sealing-none (T .view) names s) (ap length none) ∙
-          ap (λ U. withNotes U (passedNotes (T .notes) s f)) (acted-next T (doS s) [] 0 0 ∙ Acting.acted-nothing (acted T (doS s) 0))
+          ap (λ (l : List Action). withNotes (queueing T l) (passedNotes (T .notes) s f))
+          (ap (λ k. sealing (T .view) names k s) z ∙ sealing-none (T .view) names s) ∙
+          ap (λ U. withNotes U (passedNotes (T .notes) s f)) (sym (Acting.seal-quiet T s))
 
       deleted-is : deletedTables g t s f w ≡ t₁
       unfolding deletedTables victims storedAlong
@@ -192,33 +162,10 @@ module _ {g : Geometry} {t : List ℕ} (R : Ready g t) (s f w : ℕ) (C : Closes
 
       bare-tables : t₁ ≡ closedTables g t s f w
       unfolding closedTables
-      bare-tables =
-          rw (accepted-is not-short)
-          (holds-first ready₁ .is ∙ sym (ap₂ (λ (U : State) (u : List ℕ). stored g U u) (bare-is ∙ sym says₁) deleted-is))
+      bare-tables = holds-first ready₁ .is ∙ sym (ap₂ (λ (U : State) (u : List ℕ). stored g U u) (bare-is ∙ sym says₁) deleted-is)
 
-      bare-log : (log : List ℕ) → log ≡ closedLog g t log s w
-      unfolding closedLog
-      bare-log log =
-          rw (accepted-is not-short)
-          (sym (ap (λ l. writeAt log (8 * T .used) (bytesOf (map released l))) none ∙ write-none log (8 * T .used)))
-
-      module _ (out : List ℕ) (long : OutLong g out) (v : ℕ) (ev : v ≡ getD t 6 0 + 1) where
-        number-is : v ∷ [] ≡ given T s w
-        unfolding given paired stateOf
-        number-is =
-            ap (λ k. k ∷ []) (let y : v ≡ suc (K .last) = omega (arith, Fields.last-is g t) in y) ∙
-            ap (λ l. suc (K .last) ∷ paired (K .birth) l) (sym none)
-
-        bare-reply : replyOf (Done 1) (set out 0 v) ≡ closedReply g t s w
-        unfolding replyOf
-        bare-reply = ap accepted (take-sets out (v ∷ []) 1 refl (omega arith) ∙ number-is) ∙ sym (accepted-is not-short)
-
-        bare-out : set out 0 v ≡ closedOut g t out s w
-        unfolding closedOut
-        bare-out = rw (accepted-is not-short) (ap (sets out 0) number-is)
-
-        pub bare-left : (log : List ℕ) → Closed g t (Done 1) t₁ log log out (set out 0 v) s f w
-        bare-left log = (bare-reply, (bare-tables, (bare-log log, bare-out)))
+      pub bare-left : (out : List ℕ) → OutLong g out → (v : ℕ) → v ≡ getD t 6 0 + 1 → Closed g t (Done 1) t₁ out (set out 0 v) s f w
+      bare-left out long v ev = (reply-is out long v ev, (bare-tables, out-is out long v ev))
 
     -- ── the line in these tables ──
 
@@ -254,36 +201,15 @@ module _ {g : Geometry} {t : List ℕ} (R : Ready g t) (s f w : ℕ) (C : Closes
             window-walked L names s w most some
             (em ∙ ap (λ n. n - w) (lined-count D ∙ sym (ap length (seal-line K s S (C .asks)))))
 
-        gone-is : oldestGone g t₁ most r ≡ gone T s w
-        unfolding oldestGone gone sealing freesAlong stateOf
-        gone-is = ap₂ freesAlong view₁ deletes-are
-
-        given-is : oldestGiven g t₁ most r ≡ paired (T .view .birth) (gone T s w)
-        unfolding oldestGiven seal grow close stateOf
-        given-is = ap₂ (λ (B : View) (l : List ℕ). paired (B .birth) l) view₁ gone-is
-
         left-is : oldestLeft g t₁ most r ≡ deletedTables g t s f w
         unfolding oldestLeft deletedTables acted stateOf
         left-is =
             ap₂ (λ (U : State) (l : List Action). storedAlong g U l t₁) says₁ deletes-are ∙
             ap (storedAlong g (sealedAs T s f) (trimming L names w s)) sealed-is
 
-        pub delete-few : length (oldestGone g t₁ most (getD line 0 0)) ≤ 2048
-        delete-few = omega (arith, gone-few, ap length gone-is, R .roomy .inside .blocks-most)
+        -- ── the tables t₂ after them ──
 
-        -- there is room for what they free, after the number of the new record
-        pub delete-room : (out : List ℕ) → OutLong g out → (v : ℕ) →
-            2 * length (oldestGone g t₁ most (getD line 0 0)) ≤ length (midOf 1 (length (set out 0 v) - 1) (set out 0 v))
-        delete-room out h v =
-            omega (arith, gone-few, ap length gone-is, length-set out 0 v, part-length (set out 0 v) 1 (omega (arith, length-set out 0 v)))
-
-        -- ── the tables t₂ after them, where n blocks are freed ──
-
-        module _ (t₂ : List ℕ) (e₂ : t₂ ≡ oldestLeft g t₁ most (getD line 0 0))
-            (n : ℕ) (en : n ≡ length (oldestGone g t₁ most (getD line 0 0))) where
-          many : n ≡ length (gone T s w)
-          many = en ∙ ap length gone-is
-
+        module _ (t₂ : List ℕ) (e₂ : t₂ ≡ oldestLeft g t₁ most (getD line 0 0)) where
           asks-along : AsksAlong (viewOf g t₁) (trimming L names w s)
           unfolding sealing
           asks-along = subst (λ B. AsksAlong B (trimming L names w s)) (sym view₁) (seal-asks K s S (C .asks) names w .1)
@@ -302,101 +228,27 @@ module _ {g : Geometry} {t : List ℕ} (R : Ready g t) (s f w : ℕ) (C : Closes
           ready₂ : Ready g t₂
           ready₂ = subst (Ready g) (sym along-is) (Acting.gone-along (victims L names w s) t₁ ready₁ asks-along nameless .0)
 
-          says₂ : stateOf g t₂ ≡ actedAll (sealedAs T s f) (trimming L names w s) 0
+          says₂ : stateOf g t₂ ≡ queueing (sealedAs T s f) (trimming L names w s)
           says₂ =
               ap (stateOf g) along-is ∙ Acting.gone-along (victims L names w s) t₁ ready₁ asks-along nameless .1 ∙
-              ap (λ U. actedAll U (trimming L names w s) 0) says₁
+              ap (λ U. queueing U (trimming L names w s)) says₁
 
-          used₂ : getD t₂ 9 0 ≡ T .used
-          unfolding actedAll acted
-          used₂ = sym (Fields.used-is g t₂) ∙ ap (λ U. U .used) says₂ ∙ (let z : T .used + 0 + 0 ≡ T .used = omega arith in z)
+          -- the seal, then the deletes
+          both : queueing T (sealing (T .view) names w s) ≡ queueing (acted T (doS s) 0) (trimming L names w s)
+          unfolding sealing stateOf
+          both =
+              queueing-step T (doS s) (trimming L names w s) S (seal-asks K s S (C .asks) names w) (sealing-giveless K names w s) ∙
+              ap (λ U. queueing U (trimming L names w s)) (sym (Acting.seal-quiet T s))
 
-          closed-is : withUsed (stateOf g t₂) (getD t₂ 9 0 + n) ≡ closedState T s f w
-          unfolding closedState sealing stateOf actedAll acted
+          closed-is : stateOf g t₂ ≡ closedState T s f w
+          unfolding closedState
           closed-is =
-              ap₂ (λ (U : State) (m : ℕ). withUsed U m) says₂
-              (let z : getD t₂ 9 0 + n ≡ T .used + 0 + length (gone T s w) = omega (arith, used₂, many) in z) ∙
-              sym (ap (λ U. withNotes U (passedNotes (T .notes) s f))
-              (ap (actedAll T (doS s ∷ trimming L names w s)) (sym (zero-add (length (gone T s w)))) ∙
-              acted-next T (doS s) (trimming L names w s) 0 (length (gone T s w))))
+              says₂ ∙ noted-same (acted T (doS s) 0) (passedNotes (T .notes) s f) (trimming L names w s) ∙
+              ap (λ U. withNotes U (passedNotes (T .notes) s f)) (sym both)
 
-          logged-is : set t₂ 9 (getD t₂ 9 0 + n) ≡ stored g (closedState T s f w) (deletedTables g t s f w)
-          logged-is =
-              step-used g t₂ (ready₂ .roomy) (holds-first ready₂) (getD t₂ 9 0 + n) .is ∙
-              ap₂ (λ (U : State) (u : List ℕ). stored g U u) closed-is (e₂ ∙ left-is)
+          tables-are : t₂ ≡ closedTables g t s f w
+          unfolding closedTables
+          tables-are = holds-first ready₂ .is ∙ ap₂ (λ (U : State) (u : List ℕ). stored g U u) closed-is (e₂ ∙ left-is)
 
-          -- ── the buffer after them, v is the new record's number; the words and the answer, where the log is not too short ──
-
-          module _ (enough : tooFew g (stateOf g t) s w ≡ false) (out : List ℕ) (long : OutLong g out)
-              (v : ℕ) (ev : v ≡ getD t 6 0 + 1) (part : List ℕ)
-              (ep : part ≡ sets (midOf 1 (length (set out 0 v) - 1) (set out 0 v)) 0 (oldestGiven g t₁ most (getD line 0 0))) where
-            abbrev out₂ : List ℕ
-            out₂ = putMid 1 (length (set out 0 v) - 1) (set out 0 v) part
-
-            abbrev pairs : List ℕ
-            pairs = paired (T .view .birth) (gone T s w)
-
-            pairs-many : length pairs ≡ 2 * n
-            pairs-many = omega (arith, paired-length (T .view .birth) (gone T s w), many)
-
-            pairs-fit : length pairs < length out
-            pairs-fit = omega (arith, pairs-many, many, gone-few)
-
-            out-is : out₂ ≡ sets out 0 (v ∷ pairs)
-            out-is =
-                ap (putMid 1 (length (set out 0 v) - 1) (set out 0 v)) (ep ∙ ap (sets (midOf 1 (length (set out 0 v) - 1) (set out 0 v)) 0) given-is) ∙
-                part-sets (set out 0 v) 1 (omega (arith, length-set out 0 v)) pairs (omega (arith, length-set out 0 v, pairs-fit))
-
-            pub out-long : length (putMid 1 (length (set out 0 v) - 1) (set out 0 v) part) ≡ length out
-            out-long = ap length out-is ∙ length-sets out 0 (v ∷ pairs)
-
-            numbers-are : v ∷ pairs ≡ given T s w
-            unfolding given stateOf
-            numbers-are = ap (λ k. k ∷ pairs) (let z : v ≡ suc (K .last) = omega (arith, Fields.last-is g t) in z)
-
-            words : getD t₂ 9 0 + n ≤ g .words
-            words = omega (arith, used₂, many, words-fit enough)
-
-            pub log-needs : (log : List ℕ) → LogLong g log →
-                (10 ≤ length t₂) × (2 * n ≤ length (midOf 1 (length (putMid 1 (length (set out 0 v) - 1) (set out 0 v) part) - 1)
-                (putMid 1 (length (set out 0 v) - 1) (set out 0 v) part))) × (8 * (getD t₂ 9 0 + n) ≤ length log) × (getD t₂ 9 0 + n ≤ 8192)
-            log-needs log h = (
-              omega (arith, ready₂ .roomy .room),
-              omega (arith, rest-length out pairs v pairs-fit out₂ out-is, pairs-fit, pairs-many),
-              omega (arith, words),
-              omega (arith, words, R .roomy .inside .words-most),
-            )
-
-            reply-is : replyOf (Done (1 + 2 * n)) out₂ ≡ closedReply g t s w
-            unfolding replyOf
-            reply-is =
-                ap (λ l. accepted (take (1 + 2 * n) l)) out-is ∙
-                ap accepted (take-sets out (v ∷ pairs) (1 + 2 * n) (omega (arith, pairs-many)) (omega (arith, pairs-fit)) ∙ numbers-are) ∙
-                sym (accepted-is enough)
-
-            tables-are : set t₂ 9 (getD t₂ 9 0 + n) ≡ closedTables g t s f w
-            unfolding closedTables
-            tables-are = rw (accepted-is enough) logged-is
-
-            out-are : out₂ ≡ closedOut g t out s w
-            unfolding closedOut
-            out-are = rw (accepted-is enough) (out-is ∙ ap (sets out 0) numbers-are)
-
-            blocks-are : blocksIn (take (2 * n) (midOf 1 (length out₂ - 1) out₂)) ≡ gone T s w
-            blocks-are =
-                ap blocksIn (rest-begins out pairs v pairs-fit out₂ out-is (2 * n) (sym pairs-many)) ∙ blocks-in-paired (T .view .birth) (gone T s w)
-
-            log-is : (log : List ℕ) →
-                writeAt log (8 * getD t₂ 9 0) (bytesOf (map released (blocksIn (take (2 * n) (midOf 1 (length out₂ - 1) out₂)))))
-                ≡ closedLog g t log s w
-            unfolding closedLog
-            log-is log =
-                rw (accepted-is enough)
-                (ap₂ (λ (u : ℕ) (l : List ℕ). writeAt log (8 * u) (bytesOf (map released l))) used₂ blocks-are)
-
-            -- what `log_frees` leaves is what the call leaves
-            pub closed-left : (t₃ log log₃ : List ℕ) → t₃ ≡ set t₂ 9 (getD t₂ 9 0 + n) →
-                log₃ ≡ writeAt log (8 * getD t₂ 9 0) (bytesOf (map released (blocksIn (take (2 * n)
-                (midOf 1 (length (putMid 1 (length (set out 0 v) - 1) (set out 0 v) part) - 1) (putMid 1 (length (set out 0 v) - 1) (set out 0 v) part)))))) →
-                Closed g t (Done (1 + 2 * n)) t₃ log log₃ out (putMid 1 (length (set out 0 v) - 1) (set out 0 v) part) s f w
-            closed-left t₃ log log₃ et el = (reply-is, (et ∙ tables-are, (el ∙ log-is log, out-are)))
+          pub closed-left : (out : List ℕ) → OutLong g out → (v : ℕ) → v ≡ getD t 6 0 + 1 → Closed g t (Done 1) t₂ out (set out 0 v) s f w
+          closed-left out long v ev = (reply-is out long v ev, (tables-are, out-is out long v ev))

@@ -3,8 +3,6 @@ pub mod Verdicts
 pub mod Retaining
 pub mod Lining
 pub mod Bare
-pub mod Counting
-pub mod Parts
 pub mod Acting
 pub mod Walking
 pub mod Trimming

@@ -1,22 +1,22 @@
 -- A walk along the records of a line, oldest first, that deletes some of them.
-use mathlib.Core.Path.{_≡_, refl, sym, ap, _∙_, subst, fun-ext}
+use mathlib.Core.Path.{_≡_, refl, sym, ap, _∙_, fun-ext}
 use mathlib.Core.Logic.{inl, inr}
 use mathlib.Core.Bool.{Bool, true, false}
 use mathlib.Core.List.{List, [], _∷_, map}
 use Prim.Native.Nat.{ℕ, suc, pred, _-_, _<_}
 use native.Mathlib.Omega.{arith}
 use borrow.Author.Tests.{lt-ltb}
-use Rattle.answer.proofs.Cases.{cases, either, lt?}
+use Rattle.answer.proofs.Cases.{cases}
 use Rattle.model.specs.View.{View}
 use Rattle.model.specs.Lists.{In, trimWalk}
 use Rattle.model.specs.Sound.{Sound}
 use Rattle.model.specs.Effects.{leave, unlink}
 use Rattle.model.specs.Actions.{doD, follower, forked, deleteAt, delete}
-use Rattle.model.specs.Window.{AsksAlong, sealedOf, bare}
+use Rattle.model.specs.Window.{sealedOf, bare}
 use Rattle.model.proofs.TabFacts.{put-same}
 use Rattle.model.proofs.WindowLine.{Chain, sealed-chain}
-use Rattle.model.proofs.WindowFacts.{bare-is, bare-same}
-use Rattle.model.proofs.WindowDelete.{follower-is, cut-sound, cut-live, prev-stays, fork-cut}
+use Rattle.model.proofs.WindowFacts.{bare-same}
+use Rattle.model.proofs.WindowDelete.{follower-is, cut-live, prev-stays, fork-cut}
 use Rattle.retaining.specs.Deletes.{oldest}
 
 -- ── the deletes, record by record ──
@@ -106,9 +106,6 @@ module _ (K : View) (S : Sound K) where
 
     -- s is deleted
     module _ (none : forked K s ≡ 0) where
-      goes-sound : Sound (delete K s)
-      goes-sound = cut-sound K S s first-live none
-
       second-link : (delete K s) .prev u ≡ K .prev s
       unfolding delete deleteAt unlink leave
       second-link = ap (λ l. deleteAt K s l .prev u) first-follower ∙ put-same (K .prev) u (K .prev s)
@@ -136,21 +133,3 @@ module _ (K : View) (S : Sound K) where
       oldest-then names =
           oldest-same K (delete K s) names (λ t. bare-same K (delete K s) names t
           (fork-cut K S s first-live none r last-live (first-apart r (last-in .0)) (based (u ∷ m) s (suc r) r (A .chain .2) (last-in .0)) t))
-
--- each of the deletes is one that the store it meets allows
-pub oldest-asks : (l : List ℕ) (K : View) (names : ℕ → ℕ) → Sound K → (r k : ℕ) → Ahead K r l → AsksAlong K (oldest K names k l)
-oldest-asks [] K names S r k A = unfold oldest in unfold trimWalk in tt
-oldest-asks (s ∷ []) K names S r k A = rw (oldest-last K names k s) tt
-oldest-asks (s ∷ u ∷ m) K names S r k A =
-    cases (lt? 0 k)
-    (λ some. cases (either (bare K names s))
-    (λ b.
-    let f : forked K s ≡ 0 = bare-is K names s b .0 in
-    rw (oldest-goes K names k s u m some b) (
-      (first-live K S r s u m A, f),
-      subst (AsksAlong (delete K s)) (oldest-then K S r s u m A f names (k - 1) (u ∷ m))
-          (oldest-asks (u ∷ m) (delete K s) names (goes-sound K S r s u m A f) r (k - 1) (ahead-goes K S r s u m A f)),
-    ))
-    (λ b. rw (oldest-stays K names k s u m some b) (oldest-asks (u ∷ m) K names S r k (ahead-stays K S r s u m A))))
-    (λ none. subst (AsksAlong K)
-    (sym (ap (λ j. oldest K names j (s ∷ u ∷ m)) (let z : k ≡ 0 = omega arith in z) ∙ oldest-none K names (s ∷ u ∷ m))) tt)

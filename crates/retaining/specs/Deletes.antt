@@ -5,8 +5,7 @@ use Rattle.geometry.specs.declared.Geometry.{Geometry}
 use Rattle.model.specs.View.{View}
 use Rattle.model.specs.Lists.{trimWalk}
 use Rattle.model.specs.Actions.{Action, doD}
-use Rattle.model.specs.Window.{freesAlong, sealedOf, bare}
-use Rattle.model.specs.Results.{paired}
+use Rattle.model.specs.Window.{sealedOf, bare}
 use Rattle.model.specs.Layout.{viewOf, stateOf}
 use Rattle.model.specs.Memory.{storedAlong}
 
@@ -18,13 +17,6 @@ oldest K names k l = map doD (trimWalk (bare K names) k l)
 
 abbrev pub oldestIn : Geometry → List ℕ → ℕ → ℕ → List Action
 oldestIn g t k r = oldest (viewOf g t) (stateOf g t .notes .names) k (sealedOf (viewOf g t) r)
-
--- the blocks that they free, in order, and each with its birth
-unfoldable pub oldestGone : Geometry → List ℕ → ℕ → ℕ → List ℕ
-oldestGone g t k r = freesAlong (viewOf g t) (oldestIn g t k r)
-
-unfoldable pub oldestGiven : Geometry → List ℕ → ℕ → ℕ → List ℕ
-oldestGiven g t k r = paired (viewOf g t .birth) (oldestGone g t k r)
 
 -- the tables that they leave, each stored in those that the one before left
 unfoldable pub oldestLeft : Geometry → List ℕ → ℕ → ℕ → List ℕ

@@ -1,4 +1,4 @@
--- The verdict on an S before its log words are counted, as its code looks for it: the first of 8, 9, 11 and 12 that holds, or the slots that it works on.
+-- The verdict on an S, as its code looks for it: the first of 8, 9, 11 and 12 that holds, or the slots that it works on.
 use mathlib.Core.List.{List, [], _∷_}
 use Prim.Native.Nat.{ℕ}
 use Rattle.answer.specs.Refusal.{Condition}
@@ -9,7 +9,7 @@ use Rattle.model.specs.Layout.{stateOf}
 use Rattle.lines.specs.declared.verdict.Verdict.{Verdict}
 use Rattle.lines.specs.Verdicts.{verdictOf}
 
--- the refusals of an S on record r but for 14
+-- the refusals of an S on record r
 abbrev pub first : State → ℕ → List Condition
 first T r = noRecord T r ∷ isSealed T r ∷ tableFull T ∷ numbersUsed T ∷ []
 

@@ -9,16 +9,14 @@ ghost use mathlib.Core.List.{List};
 ghost use Prim.Native.Nat.{ℕ, _<_};
 ghost use Rattle.answer.specs.Reply.{replyOf};
 ghost use Rattle.model.specs.Command.{Seal, Retain};
-ghost use Rattle.tables.specs.Ready.{Ready, LogLong, OutLong, LinkOf};
-ghost use Rattle.tables.specs.Outcome.{replied, tablesLeft, logLeft, outLeft};
-ghost use Rattle.retaining.specs.Closing.{Closes, closedReply, closedTables, closedLog, closedOut};
-use crate::count::log_is_short;
+ghost use Rattle.tables.specs.Ready.{Ready, OutLong, LinkOf};
+ghost use Rattle.tables.specs.Outcome.{replied, tablesLeft, outLeft};
+ghost use Rattle.retaining.specs.Closing.{Closes, closedReply, closedTables, closedOut};
 use crate::count::surplus;
 use crate::line::line_of;
 use crate::oldest::delete_oldest;
 use crate::verdict::sealing;
 use answer::Answer;
-use deleting::delete::log_frees;
 use geometry::Geometry;
 use lines::grow::seal_at;
 use lines::verdict::Verdict;
@@ -48,48 +46,26 @@ pub fn retain(g: Geometry, t: &mut [u32], number: u32, link: usize, most: u32) -
     Answer::Done(0)
 }
 
-// S on the record in slot s of a line with a window, with the empty slot f: the seal, then the window's deletes and their words in the log.
-fn close(
-    g: Geometry,
-    t: &mut [u32],
-    log: &mut [u8],
-    out: &mut [u32],
-    s: usize,
-    f: usize,
-    window: usize,
-) -> Answer
-    requires { ⌜ Ready g (now t) × LogLong g (now log) × OutLong g (now out) × Closes g (now t) s f window × (0 < window) ⌝ }
-    ensures reply { λ r. ⌜ replyOf r (now (out .exit)) ≡ closedReply g (now (t .entry)) s window ⌝ }
+// S on the record in slot s of a line with a window, with the empty slot f: the seal, then the window's deletes.
+fn close(g: Geometry, t: &mut [u32], out: &mut [u32], s: usize, f: usize, window: usize) -> Answer
+    requires { ⌜ Ready g (now t) × OutLong g (now out) × Closes g (now t) s f window × (0 < window) ⌝ }
+    ensures reply { λ r. ⌜ replyOf r (now (out .exit)) ≡ closedReply g (now (t .entry)) ⌝ }
     ensures tables { λ r. ⌜ now (t .exit) ≡ closedTables g (now (t .entry)) s f window ⌝ }
-    ensures log { λ r. ⌜ now (log .exit) ≡ closedLog g (now (t .entry)) (now (log .entry)) s window ⌝ }
-    ensures out { λ r. ⌜ now (out .exit) ≡ closedOut g (now (t .entry)) (now (out .entry)) s window ⌝ }
+    ensures out { λ r. ⌜ now (out .exit) ≡ closedOut g (now (t .entry)) (now (out .entry)) ⌝ }
 {
     let mut line = [0u32; 64];
     let count = line_of(t, g, s, &mut line);
-    if log_is_short(t, g, s, &line, count, window) {
-        return Answer::Refused(14);
-    }
     out[0] = seal_at(t, g, f, s);
-    let n = delete_oldest(g, t, &mut out[1..], &line, count, surplus(count, window));
-    log_frees(t, log, &out[1..], n);
-    Answer::Done(1 + 2 * n)
+    delete_oldest(g, t, &line, count, surplus(count, window));
+    Answer::Done(1)
 }
 
 // S on the record of that number, with its link: it is sealed, and an open record with its pages follows; then, in a line with a window, the oldest sealed
-// records without a fork and without a name are deleted. The numbers of the result are the new record's number and the freed blocks, each with its birth
-// after it.
-pub fn seal(
-    g: Geometry,
-    t: &mut [u32],
-    log: &mut [u8],
-    out: &mut [u32],
-    n: u32,
-    link: usize,
-) -> Answer
-    requires { ⌜ Ready g (now t) × LogLong g (now log) × OutLong g (now out) × LinkOf g (now t) n link ⌝ }
+// records without a fork and without a name are deleted. The number of the result is the new record's.
+pub fn seal(g: Geometry, t: &mut [u32], out: &mut [u32], n: u32, link: usize) -> Answer
+    requires { ⌜ Ready g (now t) × OutLong g (now out) × LinkOf g (now t) n link ⌝ }
     ensures reply { λ r. ⌜ replyOf r (now (out .exit)) ≡ replied g (now (t .entry)) (Seal n) ⌝ }
     ensures tables { λ r. ⌜ now (t .exit) ≡ tablesLeft g (now (t .entry)) (Seal n) ⌝ }
-    ensures log { λ r. ⌜ now (log .exit) ≡ logLeft g (now (t .entry)) (now (log .entry)) (Seal n) ⌝ }
     ensures out { λ r. ⌜ now (out .exit) ≡ outLeft g (now (t .entry)) (now (out .entry)) (Seal n) ⌝ }
 {
     let verdict = sealing(t, g, n, link);
@@ -98,7 +74,7 @@ pub fn seal(
         Verdict::Accept(s, f) => {
             let window = wide(t[WINDOW + s]);
             if window != 0 {
-                return close(g, t, log, out, s, f, window);
+                return close(g, t, out, s, f, window);
             }
             out[0] = seal_at(t, g, f, s);
             Answer::Done(1)

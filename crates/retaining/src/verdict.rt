@@ -1,4 +1,4 @@
-// Whether an S is refused for anything but its log words, and on which slots it works.
+// Whether an S is refused, and on which slots it works.
 ghost use mathlib.Core.Path.{_≡_};
 ghost use Rattle.tables.specs.Ready.{Ready, LinkOf};
 ghost use Rattle.retaining.specs.Verdicts.{verdictOn};
@@ -7,7 +7,7 @@ use lines::verdict::Verdict;
 use lines::verdict::room;
 use tables::cells::OPEN;
 
-// The verdict on S of the record of number n, with its link, but for 14: 8, then 9 if it is sealed, then what `room` says.
+// The verdict on S of the record of number n, with its link: 8, then 9 if it is sealed, then what `room` says.
 pub fn sealing(t: &[u32], g: Geometry, n: u32, link: usize) -> Verdict
     requires { ⌜ Ready g (now t) × LinkOf g (now t) n link ⌝ }
     ensures { λ r. ⌜ r ≡ verdictOn g (now (t .entry)) n ⌝ }

@@ -7,7 +7,7 @@ use Rattle.model.specs.declared.Call.the-variants as call
 use Rattle.model.specs.declared.Naming.{Naming}
 use Rattle.model.specs.declared.Naming.the-variants as naming
 use Rattle.model.specs.Command.{Command, command, commandOn}
-use Rattle.model.specs.Command.{Begin, Write, Erase, Seal, Fork, Delete, Read, Barrier, Compress, FreeList, Estimate, Retain, Attach, Detach, Resolve}
+use Rattle.model.specs.Command.{Begin, Write, Erase, Seal, Fork, Delete, Read, Barrier, Compress, FreeList, Estimate, Retain, Reclaim, Attach, Detach, Resolve}
 
 pub data Kind : Type 0 where
   plain : Call → Kind
@@ -26,6 +26,7 @@ kind Compress = plain call.Compress
 kind FreeList = plain call.FreeList
 kind (Estimate r) = plain (call.Estimate r)
 kind (Retain r n) = plain (call.Retain r n)
+kind (Reclaim k) = plain (call.Reclaim k)
 kind (Attach l r) = on (naming.Attach r) l
 kind (Detach l) = on naming.Detach l
 kind (Resolve l) = on naming.Resolve l
@@ -48,6 +49,7 @@ asked-kind Compress = refl
 asked-kind FreeList = refl
 asked-kind (Estimate r) = refl
 asked-kind (Retain r n) = refl
+asked-kind (Reclaim k) = refl
 asked-kind (Attach l r) = refl
 asked-kind (Detach l) = refl
 asked-kind (Resolve l) = refl
@@ -65,6 +67,7 @@ kind-command call.Compress = refl
 kind-command call.FreeList = refl
 kind-command (call.Estimate r) = refl
 kind-command (call.Retain r n) = refl
+kind-command (call.Reclaim k) = refl
 
 pub kind-naming : (n : Naming) (l : List ℕ) → kind (commandOn n l) ≡ on n l
 kind-naming (naming.Attach r) l = refl

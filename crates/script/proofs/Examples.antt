@@ -5,11 +5,11 @@ use mathlib.Core.Option.{none, some}
 use Prim.Native.Nat.{ℕ}
 use lib.ListN.{replicate}
 use Rattle.answer.specs.Reply.{accepted, refused}
-use Rattle.model.specs.declared.Call.the-variants.{Write, Delete, FreeList, Estimate, Retain}
+use Rattle.model.specs.declared.Call.the-variants.{Write, Seal, Delete, FreeList, Estimate, Retain, Reclaim}
 use Rattle.model.specs.declared.Naming.the-variants as naming
 use Rattle.model.specs.Command.{Attach, Detach, Resolve}
-use Rattle.model.specs.declared.Spelling.the-variants.{Numbers, Blocks, NumberAndBlocks}
-use Rattle.model.specs.Results.{plain, born, bornIn, oneThenBorn, itemsOf}
+use Rattle.model.specs.declared.Spelling.the-variants.{Numbers, Blocks}
+use Rattle.model.specs.Results.{plain, born, bornIn, itemsOf}
 use Rattle.script.specs.declared.parse.Parsed.{Parsed}
 use Rattle.script.specs.declared.parse.Parsed.the-variants.{Store, Asks, Named}
 use Rattle.script.specs.Decimal.{digits, decimal, led}
@@ -18,7 +18,7 @@ use Rattle.script.specs.Letters.{made, callIn, listed, callOf, namingOf}
 use Rattle.script.specs.Lines.{run, linesOf}
 use Rattle.script.specs.Said.{saidAt}
 use Rattle.script.specs.Spoken.{Spoken, asks, nothing, spoken}
-use Rattle.script.specs.ReplyText.{itemText, itemsText, replyText, plus, minus, replyRead, itemsRead, insideRead}
+use Rattle.script.specs.ReplyText.{itemText, itemsText, spellingOf, replyText, plus, minus, replyRead, itemsRead, insideRead}
 
 -- `store 1 4 2 4 8 10`
 store-line : parsed (115 ∷ 116 ∷ 111 ∷ 114 ∷ 101 ∷ 32 ∷ 49 ∷ 32 ∷ 52 ∷ 32 ∷ 50 ∷ 32 ∷ 52 ∷ 32 ∷ 56 ∷ 32 ∷ 49 ∷ 48 ∷ [])
@@ -51,6 +51,11 @@ retain-line : parsed (75 ∷ 32 ∷ 51 ∷ 32 ∷ 50 ∷ []) ≡ Asks (Retain 3 
 unfolding parsed opens listed callLine made callIn callOf numbersFrom numberFrom firstDigit digitsFrom
 retain-line = refl
 
+-- `T 64`
+reclaim-line : parsed (84 ∷ 32 ∷ 54 ∷ 52 ∷ []) ≡ Asks (Reclaim 64)
+unfolding parsed opens listed callLine made callIn callOf numbersFrom numberFrom firstDigit digitsFrom
+reclaim-line = refl
+
 -- `D 09`, `L ` and the empty line are no calls
 leading-zero : parsed (68 ∷ 32 ∷ 48 ∷ 57 ∷ []) ≡ Parsed.No
 unfolding parsed opens listed callLine made callIn callOf numbersFrom numberFrom firstDigit digitsFrom
@@ -72,6 +77,19 @@ estimate-bare = refl
 estimate-two : parsed (81 ∷ 32 ∷ 49 ∷ 32 ∷ 50 ∷ []) ≡ Parsed.No
 unfolding parsed opens listed callLine made callIn callOf numbersFrom numberFrom firstDigit digitsFrom
 estimate-two = refl
+
+-- `T` has one number: `T` alone, `T 1 2` and `T x` are no calls
+reclaim-bare : parsed (84 ∷ []) ≡ Parsed.No
+unfolding parsed opens listed callLine made callIn callOf numbersFrom numberFrom firstDigit digitsFrom
+reclaim-bare = refl
+
+reclaim-two : parsed (84 ∷ 32 ∷ 49 ∷ 32 ∷ 50 ∷ []) ≡ Parsed.No
+unfolding parsed opens listed callLine made callIn callOf numbersFrom numberFrom firstDigit digitsFrom
+reclaim-two = refl
+
+reclaim-letter : parsed (84 ∷ 32 ∷ 120 ∷ []) ≡ Parsed.No
+unfolding parsed opens listed callLine made callIn callOf numbersFrom numberFrom firstDigit digitsFrom
+reclaim-letter = refl
 
 -- `D 12345678`: eight digits
 eight-digits : parsed (68 ∷ 32 ∷ 49 ∷ 50 ∷ 51 ∷ 52 ∷ 53 ∷ 54 ∷ 55 ∷ 56 ∷ []) ≡ Parsed.No
@@ -187,10 +205,19 @@ two-given : replyText Blocks (accepted (2 ∷ 2 ∷ 1 ∷ 2 ∷ [])) ≡ 43 ∷ 
 unfolding replyText itemsOf bornIn itemsText itemText led decimal digits
 two-given = refl
 
--- `+ 3 0:1`: a number, then a block with its birth
-number-first : replyText NumberAndBlocks (accepted (3 ∷ 0 ∷ 1 ∷ [])) ≡ 43 ∷ 32 ∷ 51 ∷ 32 ∷ 48 ∷ 58 ∷ 49 ∷ 10 ∷ []
-unfolding replyText itemsOf oneThenBorn bornIn itemsText itemText led decimal digits
-number-first = refl
+-- `+ 0:1` of `T 64`, by what the line says
+reclaim-given : replyText (spellingOf (Asks (Reclaim 64))) (accepted (0 ∷ 1 ∷ [])) ≡ 43 ∷ 32 ∷ 48 ∷ 58 ∷ 49 ∷ 10 ∷ []
+unfolding replyText spellingOf itemsOf bornIn itemsText itemText led decimal digits
+reclaim-given = refl
+
+-- `+` of `D 9` and `+ 3` of `S 2`
+delete-given : replyText (spellingOf (Asks (Delete 9))) (accepted []) ≡ 43 ∷ 10 ∷ []
+unfolding replyText spellingOf itemsOf itemsText
+delete-given = refl
+
+seal-given : replyText (spellingOf (Asks (Seal 2))) (accepted (3 ∷ [])) ≡ 43 ∷ 32 ∷ 51 ∷ 10 ∷ []
+unfolding replyText spellingOf itemsOf itemsText itemText led decimal digits
+seal-given = refl
 
 eight-refused : replyText Blocks (refused 8) ≡ 45 ∷ 32 ∷ 56 ∷ 10 ∷ []
 unfolding replyText led decimal digits

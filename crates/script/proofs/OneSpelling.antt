@@ -10,7 +10,7 @@ use lib.Dec.{eqb}
 use borrow.Author.Tests.{eqb-true}
 use Rattle.answer.proofs.Cases.{cases, either}
 use Rattle.model.specs.declared.Call.{Call}
-use Rattle.model.specs.declared.Call.the-variants.{Begin, Write, Erase, Seal, Fork, Delete, Read, Barrier, Compress, FreeList, Estimate, Retain}
+use Rattle.model.specs.declared.Call.the-variants.{Begin, Write, Erase, Seal, Fork, Delete, Read, Barrier, Compress, FreeList, Estimate, Retain, Reclaim}
 use Rattle.model.specs.declared.Naming.{Naming}
 use Rattle.model.specs.declared.Naming.the-variants.{Attach, Detach, Resolve}
 use Rattle.model.specs.Command.{Command}
@@ -41,6 +41,7 @@ sign Compress = by 67 [] refl
 sign FreeList = by 76 [] refl
 sign (Estimate r) = by 81 (r ∷ []) refl
 sign (Retain r n) = by 75 (r ∷ n ∷ []) refl
+sign (Reclaim k) = by 84 (k ∷ []) refl
 
 abbrev by-name : {n : Naming} (b : ℕ) (ns : List ℕ) → namingOf b ns ≡ some n → NameSigns n
 by-name b ns e = record { letter = b; numbers = ns; is = e }

@@ -1,13 +1,12 @@
 -- Laws of printing: a byte, a digit more, a number, many of them and a whole reply behind what was written before.
-use Prim.Native.Nat.{ℕ, zero, suc, _+_, _-_, _*_, _/_, _%_, _^_, _<_, _≤_}
+use Prim.Native.Nat.{ℕ, _+_, _-_, _*_, _/_, _%_, _^_, _<_, _≤_}
 use mathlib.Core.Path.{_≡_, refl, sym, ap, _∙_}
-use mathlib.Core.Bool.{true, cond, true≢false}
+use mathlib.Core.Bool.{cond}
 use mathlib.Core.List.{List, [], _∷_, _++_, map, append-assoc}
 use native.Mathlib.Numerals.{add-one}
 use native.Mathlib.Omega.{arith}
 use lib.ListN.{length, take, drop, set, getD, length-append, drop-of-length-le}
 use lib.Seq.{set-set, set-split, length-take-le, drop-cons, getD-take}
-use borrow.Author.Tests.{lt-ltb, ltb-true}
 use types.Run.{OneOf, miss}
 use denote.Enum.Declared.{tagOf}
 use Rattle.log.specs.Word.{writeAt}
@@ -16,17 +15,17 @@ use Rattle.answer.proofs.Cases.{cases, lt?}
 use Rattle.answer.specs.declared.Answer.{Answer}
 use Rattle.answer.specs.declared.Answer.the-variants.{Done}
 use Rattle.model.specs.declared.Call.{Call}
-use Rattle.model.specs.declared.Call.the-variants.{Begin, Write, Erase, Seal, Fork, Delete, Read, Barrier, Compress, FreeList, Estimate, Retain}
+use Rattle.model.specs.declared.Call.the-variants.{Begin, Write, Erase, Seal, Fork, Delete, Read, Barrier, Compress, FreeList, Estimate, Retain, Reclaim}
 use Rattle.model.specs.declared.Spelling.{Spelling}
-use Rattle.model.specs.declared.Spelling.the-variants.{Numbers, Blocks, NumberAndBlocks}
+use Rattle.model.specs.declared.Spelling.the-variants.{Numbers, Blocks}
 use Rattle.model.specs.Calls.{spelling}
 use Rattle.model.specs.Command.{command}
-use Rattle.model.specs.Results.{plain, bornIn, oneThenBorn, itemsOf}
+use Rattle.model.specs.Results.{plain, bornIn, itemsOf}
 use Rattle.model.proofs.Call.{the-type as call-type}
 use Rattle.script.specs.declared.parse.Parsed.{Parsed}
 use Rattle.script.specs.declared.parse.Parsed.the-variants.{Store, Asks, Named, No}
 use Rattle.script.specs.Decimal.{decimal, led, spaced}
-use Rattle.script.specs.ReplyText.{itemText, itemsText, isBlocks, isNumbered, spellingOf, Room}
+use Rattle.script.specs.ReplyText.{itemText, itemsText, isBlocks, spellingOf, Room}
 use Rattle.script.proofs.parse.Parsed.{the-type}
 use Rattle.script.proofs.Decimals.{decimal-one, decimal-more, decimal-two, decimal-three, decimal-four, length-decimal}
 use Rattle.script.proofs.Decimals.{length-one, length-more, length-two, length-three, length-four}
@@ -184,42 +183,18 @@ module _ (out : List ℕ) (n : ℕ) (h : n ≤ length out) where
       (λ f. rw (left-first i f, left-over (i + 1) k))
       (λ f. rw (left-over i f))
 
-  -- a number is written, then the blocks after it
-  pub numbered : (d e f : List ℕ) (at k r : ℕ) → 0 < n → e ≡ writeAt d at (led 32 (getD out 0 0)) →
-      k ≡ at + length (led 32 (getD out 0 0)) → k ≤ length d
-      → f ≡ writeAt e k (itemsText (bornIn (drop 1 (take n out)))) → r ≡ k + length (itemsText (bornIn (drop 1 (take n out))))
-      → (r ≡ at + length (itemsText (oneThenBorn (take n out)))) × (f ≡ writeAt d at (itemsText (oneThenBorn (take n out))))
-  unfolding itemsText itemText oneThenBorn
-  numbered d e f at k r z x y l w v =
-      let a : List ℕ = led 32 (getD out 0 0) in
-      let b : List ℕ = itemsText (bornIn (drop 1 (take n out))) in
-      rw (left-first 0 z) (
-        omega (arith, length-append a b),
-        w ∙ ap (λ (t : List ℕ). writeAt t k b) x ∙ write-write d at k a b y l,
-      )
-
 -- plain items are numbers behind spaces
 pub items-spaced : (ns : List ℕ) → itemsText (map plain ns) ≡ spaced ns
 unfolding itemsText itemText led spaced
 items-spaced [] = refl
 items-spaced (n ∷ ns) = ap (λ (l : List ℕ). 32 ∷ (decimal n ++ l)) (items-spaced ns)
 
--- the text by the two tests: a single number is the same text either way
-pub by-tests : (s : Spelling) (n : ℕ) (out : List ℕ) → itemsText (itemsOf s (take n out))
-    ≡ cond (isBlocks s) (itemsText (bornIn (take n out))) (cond (isNumbered s n) (itemsText (oneThenBorn (take n out))) (spaced (take n out)))
-unfolding itemsOf oneThenBorn bornIn itemsText itemText led spaced
-by-tests Numbers n out = items-spaced (take n out)
-by-tests Blocks n out = refl
-by-tests NumberAndBlocks zero out = refl
-by-tests NumberAndBlocks (suc zero) [] = refl
-by-tests NumberAndBlocks (suc zero) (x ∷ out) = refl
-by-tests NumberAndBlocks (suc (suc n)) out = rw (lt-ltb 1 (suc (suc n)) (omega arith))
-
--- such a result is not empty
-pub numbered-more : (s : Spelling) (n : ℕ) → isNumbered s n ≡ true → 0 < n
-numbered-more Numbers n h = absurd (true≢false (sym h))
-numbered-more Blocks n h = absurd (true≢false (sym h))
-numbered-more NumberAndBlocks n h = omega (arith, ltb-true 1 n h)
+-- the text by the test
+pub by-test : (s : Spelling) (n : ℕ) (out : List ℕ)
+    → itemsText (itemsOf s (take n out)) ≡ cond (isBlocks s) (itemsText (bornIn (take n out))) (spaced (take n out))
+unfolding itemsOf
+by-test Numbers n out = items-spaced (take n out)
+by-test Blocks n out = refl
 
 -- ── a reply ──
 
@@ -247,21 +222,22 @@ spelling-none No h = refl
 
 -- the places of the calls that name no block, in the order of `Call`
 abbrev others : List ℕ
-others = 0 ∷ 4 ∷ 7 ∷ 8 ∷ 9 ∷ 10 ∷ 11 ∷ []
+others = 0 ∷ 3 ∷ 4 ∷ 5 ∷ 7 ∷ 8 ∷ 9 ∷ 10 ∷ 11 ∷ []
 
 spelling-plain : (c : Call) → OneOf others (tagOf call-type c) → Numbers ≡ spelling (command c)
 spelling-plain Begin h = refl
 spelling-plain (Write r x k) h = absurd (miss others 1 tt h)
 spelling-plain (Erase r x) h = absurd (miss others 2 tt h)
-spelling-plain (Seal r) h = absurd (miss others 3 tt h)
+spelling-plain (Seal r) h = refl
 spelling-plain (Fork r) h = refl
-spelling-plain (Delete r) h = absurd (miss others 5 tt h)
+spelling-plain (Delete r) h = refl
 spelling-plain (Read r x) h = absurd (miss others 6 tt h)
 spelling-plain Barrier h = refl
 spelling-plain Compress h = refl
 spelling-plain FreeList h = refl
 spelling-plain (Estimate r) h = refl
 spelling-plain (Retain r n) h = refl
+spelling-plain (Reclaim k) h = absurd (miss others 12 tt h)
 
 -- a call that names no block is answered in numbers
 pub spelling-other : (p : Parsed) (c : Call) → p ≡ Asks c → OneOf others (tagOf call-type c) → Numbers ≡ spellingOf p

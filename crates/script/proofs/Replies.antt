@@ -9,8 +9,8 @@ use borrow.Author.Tests.{ne-eqb}
 use lib.ListN.{length}
 use Rattle.answer.specs.Reply.{Reply, accepted, refused}
 use Rattle.model.specs.declared.Spelling.{Spelling}
-use Rattle.model.specs.declared.Spelling.the-variants.{Numbers, Blocks, NumberAndBlocks}
-use Rattle.model.specs.Results.{Item, plain, born, bornIn, oneThenBorn, itemsOf, numbersOf}
+use Rattle.model.specs.declared.Spelling.the-variants.{Numbers, Blocks}
+use Rattle.model.specs.Results.{Item, plain, born, bornIn, itemsOf, numbersOf}
 use Rattle.script.specs.Decimal.{decimal, led}
 use Rattle.script.specs.Lines.{linesOf, ended, NoFeed, NoFeeds}
 use Rattle.script.specs.ReplyText.{itemText, itemsText, replyText, Printed, printedOf, Whole, WholeReply, replyIn}
@@ -123,12 +123,10 @@ born-back (b ∷ v ∷ ns) m h = ap (λ (l : List ℕ). b ∷ v ∷ l) (born-bac
 
 -- THE ITEMS HAVE ALL THE NUMBERS, and what is printed stands for the reply
 pub whole-back : (s : Spelling) (ns : List ℕ) → Whole s ns → numbersOf (itemsOf s ns) ≡ ns
-unfolding itemsOf oneThenBorn numbersOf
+unfolding itemsOf numbersOf
 whole-back Numbers [] w = refl
 whole-back Numbers (n ∷ ns) w = ap (λ (l : List ℕ). n ∷ l) (whole-back Numbers ns w)
 whole-back Blocks ns w = born-back ns (w .0) (w .1)
-whole-back NumberAndBlocks [] w = refl
-whole-back NumberAndBlocks (n ∷ ns) w = ap (λ (l : List ℕ). n ∷ l) (born-back ns (w .0) (omega (arith, w .1)))
 
 pub printed-back : (s : Spelling) (r : Reply) → WholeReply s r → replyIn (printedOf s r) ≡ r
 printed-back s (accepted ns) w = ap accepted (whole-back s ns w)

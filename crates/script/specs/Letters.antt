@@ -7,7 +7,7 @@ use mathlib.Core.List.{List, [], _∷_}
 use mathlib.Core.Option.{Option, none, some}
 use lib.Dec.{eqb}
 use Rattle.model.specs.declared.Call.{Call}
-use Rattle.model.specs.declared.Call.the-variants.{Begin, Write, Erase, Seal, Fork, Delete, Read, Barrier, Compress, FreeList, Estimate, Retain}
+use Rattle.model.specs.declared.Call.the-variants.{Begin, Write, Erase, Seal, Fork, Delete, Read, Barrier, Compress, FreeList, Estimate, Retain, Reclaim}
 use Rattle.model.specs.declared.Naming.{Naming}
 use Rattle.model.specs.declared.Naming.the-variants.{Attach, Detach, Resolve}
 
@@ -21,7 +21,7 @@ pub data FormOf (A : Type 0) : Type 0 where
 abbrev pub Form : Type 0
 Form = FormOf Call
 
--- B W E S F D R Y C L Q K
+-- B W E S F D R Y C L Q K T
 abbrev pub table : List (ℕ × Form)
 table =
     (66, bare Begin)
@@ -36,6 +36,7 @@ table =
     ∷ (76, bare FreeList)
     ∷ (81, one Estimate)
     ∷ (75, two Retain)
+    ∷ (84, one Reclaim)
     ∷ []
 
 -- N U M: a space and a name come between the letter and the numbers

@@ -5,12 +5,12 @@ use mathlib.Core.Bool.{Bool, true, false, cond, not, _&&_}
 use mathlib.Core.List.{List, [], _∷_, _++_}
 use mathlib.Core.Option.{Option, none, some}
 use lib.ListN.{length}
-use lib.Dec.{eqb, ltb}
+use lib.Dec.{eqb}
 use Rattle.answer.specs.declared.Answer.{Answer}
 use Rattle.answer.specs.declared.Answer.the-variants.{Done, Refused}
 use Rattle.answer.specs.Reply.{Reply, accepted, refused}
 use Rattle.model.specs.declared.Spelling.{Spelling}
-use Rattle.model.specs.declared.Spelling.the-variants.{Numbers, Blocks, NumberAndBlocks}
+use Rattle.model.specs.declared.Spelling.the-variants.{Numbers, Blocks}
 use Rattle.model.specs.Results.{Item, plain, born, itemsOf, numbersOf}
 use Rattle.model.specs.Calls.{spelling}
 use Rattle.model.specs.Command.{command}
@@ -35,17 +35,10 @@ unfoldable pub replyText : Spelling → Reply → List ℕ
 replyText s (accepted ns) = 43 ∷ (itemsText (itemsOf s ns) ++ (10 ∷ []))
 replyText s (refused k) = 45 ∷ (led 32 k ++ (10 ∷ []))
 
--- whether a result is blocks and nothing else
+-- whether a result is blocks, each with its birth
 abbrev pub isBlocks : Spelling → Bool
 isBlocks Numbers = false
 isBlocks Blocks = true
-isBlocks NumberAndBlocks = false
-
--- whether a result of n numbers is one number and then blocks; a single number has none after it
-abbrev pub isNumbered : Spelling → ℕ → Bool
-isNumbered Numbers n = false
-isNumbered Blocks n = false
-isNumbered NumberAndBlocks n = ltb 1 n
 
 -- how the numbers of the reply to a line are spelled
 unfoldable pub spellingOf : Parsed → Spelling
@@ -76,11 +69,10 @@ abbrev pub printedOf : Spelling → Reply → Printed
 printedOf s (accepted ns) = plus (itemsOf s ns)
 printedOf s (refused k) = minus k
 
--- numbers that are all printed: of blocks with their births there is an even count, after the number that stands before them
+-- numbers that are all printed: of blocks with their births there is an even count
 abbrev pub Whole : Spelling → List ℕ → Type 0
 Whole Numbers ns = Unit {0}
 Whole Blocks ns = (m : ℕ) × (length ns ≡ 2 * m)
-Whole NumberAndBlocks ns = (m : ℕ) × (length ns ≡ 2 * m + 1)
 
 -- a reply whose numbers are all printed
 abbrev pub WholeReply : Spelling → Reply → Type 0

@@ -110,6 +110,7 @@ pub fn one_of(letter: u8, x: u32) -> Parsed
         b'F' => Parsed::Asks(Call::Fork(x)),
         b'D' => Parsed::Asks(Call::Delete(x)),
         b'Q' => Parsed::Asks(Call::Estimate(x)),
+        b'T' => Parsed::Asks(Call::Reclaim(x)),
         _ => Parsed::No,
     }
 }

@@ -4,9 +4,9 @@ ghost use Prim.Native.Nat.{_+_, _*_, _<_, _≤_};
 ghost use lib.ListN.{length, take};
 ghost use Rattle.log.specs.Word.{writeAt};
 ghost use Rattle.answer.specs.Reply.{replyOf};
-ghost use Rattle.model.specs.Results.{bornIn, oneThenBorn, itemsOf};
+ghost use Rattle.model.specs.Results.{bornIn, itemsOf};
 ghost use Rattle.script.specs.Decimal.{decimal, led, spaced};
-ghost use Rattle.script.specs.ReplyText.{itemsText, isBlocks, isNumbered, spellingOf, replyText, Room};
+ghost use Rattle.script.specs.ReplyText.{itemsText, isBlocks, spellingOf, replyText, Room};
 use crate::parse::Parsed;
 use answer::Answer;
 use model::Call;
@@ -112,42 +112,13 @@ fn put_blocks(text: &mut [u8], at: usize, out: &[u32], n: usize) -> usize
     end
 }
 
-// Writes the first number of `out` after a space, then the blocks among the others of the first n; returns the position after them. It has a
-// loop of its own: with two callers `put_blocks` would be compiled apart, and most replies are blocks.
-fn put_numbered(text: &mut [u8], at: usize, out: &[u32], n: usize) -> usize
-    requires { ⌜ (0 < n) × (n ≤ length (now out)) × (at + 11 * n ≤ length (now text)) ⌝ }
-    ensures { λ r. ⌜ (r ≡ at + length (itemsText (oneThenBorn (take n (now (out .entry)))))) × (r ≤ at + 11 * n) ×
-        (now (text .exit) ≡ writeAt (now (text .entry)) at (itemsText (oneThenBorn (take n (now (out .entry)))))) ⌝ }
-{
-    let mut end = put_number(text, at, 32, out[0]);
-    let mut i: usize = 1;
-    while i + 1 < n {
-        end = put_number(text, end, 32, out[i]);
-        end = put_number(text, end, 58, out[i + 1]);
-        i += 2;
-    }
-    end
-}
-
-// Is a result blocks and nothing else?
+// Is a result blocks, each with its birth?
 fn is_blocks(spelling: Spelling) -> bool
     ensures { λ r. ⌜ r ≡ isBlocks spelling ⌝ }
 {
     match spelling {
         Spelling::Numbers => false,
         Spelling::Blocks => true,
-        Spelling::NumberAndBlocks => false,
-    }
-}
-
-// Is a result of n numbers one number and then blocks? A single number has none after it.
-fn is_numbered(spelling: Spelling, n: usize) -> bool
-    ensures { λ r. ⌜ r ≡ isNumbered spelling n ⌝ }
-{
-    match spelling {
-        Spelling::Numbers => false,
-        Spelling::Blocks => false,
-        Spelling::NumberAndBlocks => 1 < n,
     }
 }
 
@@ -158,9 +129,6 @@ fn put_items(text: &mut [u8], at: usize, spelling: Spelling, out: &[u32], n: usi
 {
     if is_blocks(spelling) {
         return put_blocks(text, at, out, n);
-    }
-    if is_numbered(spelling, n) {
-        return put_numbered(text, at, out, n);
     }
     put_numbers(text, at, out, n)
 }
@@ -202,9 +170,8 @@ pub fn spelling_of(says: Parsed) -> Spelling
     match c {
         Call::Write(_, _, _) => Spelling::Blocks,
         Call::Erase(_, _) => Spelling::Blocks,
-        Call::Seal(_) => Spelling::NumberAndBlocks,
-        Call::Delete(_) => Spelling::Blocks,
         Call::Read(_, _) => Spelling::Blocks,
+        Call::Reclaim(_) => Spelling::Blocks,
         _ => Spelling::Numbers,
     }
 }

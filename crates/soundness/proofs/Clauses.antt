@@ -12,12 +12,13 @@ use Rattle.geometry.specs.Limits.{blocks}
 use Rattle.log.specs.Marks.{heldIn}
 use Rattle.model.specs.Table.{all}
 use Rattle.model.specs.View.{View}
-use Rattle.model.specs.Held.{held}
+use Rattle.model.specs.Held.{onPages, held}
 use Rattle.model.specs.Layout.{numCell, openCell, prevCell, windowCell, birthCell, viewOf, stateOf}
 use Rattle.model.specs.Check.{imp, same, prev?, base?, two?}
 use Rattle.model.specs.Memory.{windows?}
 use Rattle.tables.proofs.Fields
 use Rattle.soundness.specs.Pairs.{linkedTo?}
+use Rattle.soundness.specs.Queue.{Marked}
 use Rattle.soundness.proofs.Loops.{all-at, all-same}
 
 module _ (K : View) (s : ℕ) where
@@ -112,13 +113,14 @@ module _ (g : Geometry) (t : List ℕ) where
   -- block b
   pub same-is : (m : List ℕ) (b : ℕ) → b < blocks g →
       (not (eqb (getD m b 0) 0) && not (eqb (getD t (birthCell (g .records) b) 0) 0)) ||
-      (not (not (eqb (getD m b 0) 0)) && not (not (eqb (getD t (birthCell (g .records) b) 0) 0))) ≡ same (heldIn m b) (held (viewOf g t) b)
-  unfolding heldIn held
+      (not (not (eqb (getD m b 0) 0)) && not (not (eqb (getD t (birthCell (g .records) b) 0) 0))) ≡ same (heldIn m b) (onPages (viewOf g t) b)
+  unfolding heldIn onPages
   same-is m b h = rw (Fields.birth-is g t b h)
 
 -- block b of two tables of marks
 pub marks-are : (m k : List ℕ) (b : ℕ) →
-    (not (eqb (getD m b 0) 0) && not (eqb (getD k b 0) 0)) || (not (not (eqb (getD m b 0) 0)) && not (not (eqb (getD k b 0) 0))) ≡ same (heldIn m b) (heldIn k b)
+    (not (eqb (getD m b 0) 0) && not (eqb (getD k b 0) 0)) || (not (not (eqb (getD m b 0) 0)) && not (not (eqb (getD k b 0) 0))) ≡
+    same (heldIn m b) (heldIn k b)
 unfolding heldIn
 marks-are m k b = refl
 
@@ -129,10 +131,10 @@ same-one true false e = sym e
 same-one false true e = e
 same-one false false e = refl
 
-pub own-are : (g : Geometry) (t m : List ℕ) → all (blocks g) (λ b. same (heldIn m b) (held (viewOf g t) b)) ≡ true →
-    (b : ℕ) → b < blocks g → heldIn m b ≡ held (viewOf g t) b
-own-are g t m e b h = same-one (heldIn m b) (held (viewOf g t) b) (all-at (blocks g) b (λ c. same (heldIn m c) (held (viewOf g t) c)) h e)
+pub own-are : (g : Geometry) (t m : List ℕ) → all (blocks g) (λ b. same (heldIn m b) (onPages (viewOf g t) b)) ≡ true →
+    Marked (blocks g) m (onPages (viewOf g t))
+own-are g t m e b h = same-one (heldIn m b) (onPages (viewOf g t) b) (all-at (blocks g) b (λ c. same (heldIn m c) (onPages (viewOf g t) c)) h e)
 
-pub births-are : (g : Geometry) (t m k : List ℕ) → ((b : ℕ) → b < blocks g → heldIn k b ≡ held (viewOf g t) b) →
-    all (blocks g) (λ b. same (heldIn m b) (heldIn k b)) ≡ all (blocks g) (λ b. same (heldIn m b) (held (viewOf g t) b))
-births-are g t m k f = all-same (blocks g) _ _ (λ b h. ap (same (heldIn m b)) (f b h))
+pub held-are : (g : Geometry) (t m k : List ℕ) → Marked (blocks g) k (held (stateOf g t)) →
+    all (blocks g) (λ b. same (heldIn m b) (heldIn k b)) ≡ all (blocks g) (λ b. same (heldIn m b) (held (stateOf g t) b))
+held-are g t m k f = all-same (blocks g) _ _ (λ b h. ap (same (heldIn m b)) (f b h))

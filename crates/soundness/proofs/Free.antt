@@ -1,6 +1,6 @@
--- The free words, as the check of them reads them: a copy of them, which the blocks that wait join, against the births.
+-- The free words, as the check of them reads them: a copy of them, which the blocks that wait and those that are queued join, against the births.
 use mathlib.Core.Path.{_≡_, refl, sym, ap, ap₂, _∙_}
-use mathlib.Core.Bool.{Bool, true, false, not, _&&_, _||_, and-true, and-false, or-true, or-false, false≢true}
+use mathlib.Core.Bool.{Bool, true, false, not, _&&_, _||_, and-true, or-true, or-false}
 use mathlib.Core.List.{List}
 use Prim.Native.Nat.{ℕ, zero, suc, _+_, _-_, _*_, _^_, _≤_, _<_, min}
 use native.Mathlib.Omega.{arith}
@@ -15,20 +15,20 @@ use Rattle.choice.proofs.Agree.{Agrees, agrees-iff}
 use Rattle.geometry.specs.declared.Geometry.{Geometry}
 use Rattle.geometry.specs.Limits.{blocks}
 use Rattle.model.specs.Table.{all}
-use Rattle.model.specs.Lists.{In, Once, elem}
-use Rattle.model.specs.State.{State}
+use Rattle.model.specs.Lists.{In, elem}
+use Rattle.model.specs.State.{State, QueueFits, WaitingFits}
 use Rattle.model.specs.Held.{waits, available}
-use Rattle.model.specs.Layout.{freeCell, waitCell, freeWord, numbers, viewOf, stateOf}
+use Rattle.model.specs.Layout.{freeCell, queueCell, waitCell, freeWord, numbers, viewOf, queueOf, stateOf}
 use Rattle.model.specs.Memory.{waiting?, free?}
-use Rattle.model.proofs.Reflect.{Says, _&_, says-map}
+use Rattle.model.proofs.Reflect.{Says, _&_}
 use Rattle.model.proofs.SoundTest.{says-waiting}
-use Rattle.model.proofs.Waiting.{in-elem, elem-in, not-in-elem, once-short, waits-unavailable}
+use Rattle.model.proofs.Waiting.{in-elem, elem-in, not-in-elem, elem-not-in, once-short, waits-unavailable, queued-unavailable}
 use Rattle.tables.specs.Ready.{Roomy}
 use Rattle.tables.proofs.Fields
 use Rattle.tables.proofs.Freeing.{waiting-length}
 use Rattle.soundness.specs.Waiting.{joined, joins?}
-use Rattle.soundness.proofs.Joining.{Joins, joined-long, joined-bit, joined-fits, or-none, says-joins}
-use Rattle.soundness.proofs.Loops.{all-none, all-next, and-first, failed, passed}
+use Rattle.soundness.proofs.Joining.{Joins, one-test, joined-long, joined-bit, joined-fits, or-none, says-joins}
+use Rattle.soundness.proofs.Loops.{all-none, all-next, and-first, and-second, failed, passed}
 
 -- words that are w, compared with those of a test
 words-are : (words : List ℕ) (w : ℕ → ℕ) (p : ℕ → Bool) (n m : ℕ) → ((k : ℕ) → k < m → getD words k 0 ≡ w k) →
@@ -73,81 +73,116 @@ copied-all t words k r W h =
     ext-getD 0 words (take 64 (drop 64 t)) (W .size ∙ sym (part-long t 64 64 (omega arith)))
     (λ j l. W .same j (omega (arith, W .size)) ∙ sym (part-at t 64 64 j (omega (arith, W .size))))
 
--- ── the words with the blocks that wait are those without a birth ──
-
--- two tests of one statement
-one-test : {t u : Bool} {P Q : Type 0} → Says t P → Says u Q → (P → Q) → (Q → P) → t ≡ u
-one-test {t} {u} a b f h =
-    cases (either t)
-    (λ y. y ∙ sym (b .passes (f (a .holds y))))
-    (λ n. cases (either u) (λ y. absurd (false≢true (sym n ∙ a .passes (h (b .holds y))))) (λ m. n ∙ sym m))
+-- ── the words with the blocks that wait and the queue's are those without a birth ──
 
 says-agree : (words : List ℕ) (p : ℕ → Bool) (n : ℕ) → ((k : ℕ) → getD words k 0 < 2 ^ 32) → Says (wordsAgree words p n 64) (Agrees words p n 64)
 says-agree words p n fits = let i = agrees-iff words p n fits 64 in record { holds = i .0; passes = i .1 }
 
--- what the test of the blocks that wait says
-abbrev Waits : State → Type 0
-Waits T = ((b : ℕ) → In b (T .waiting) → b < T .view .blocks) × (((b : ℕ) → In b (T .waiting) → T .view .birth b ≡ 0) × Once (T .waiting))
-
-says-waits : (T : State) → Says (waiting? T) (Waits T)
-says-waits T = says-map (λ w. (w .below, (w .unborn, w .once))) (λ p. record { below = p .0; unborn = p .1 .0; once = p .1 .1 }) (says-waiting T)
-
--- 64 words, and a test p that a block has no birth
+-- 64 words, and a test p that a block has no birth; the queue fits
 module _ (T : State) (words : List ℕ) (p : ℕ → Bool) (size : length words ≡ 64) (few : T .view .blocks ≤ 2048) (fits : (k : ℕ) → getD words k 0 < 2 ^ 32)
-    (born : (b : ℕ) → b < T .view .blocks → p b ≡ eqb (T .view .birth b) 0) where
+    (born : (b : ℕ) → b < T .view .blocks → p b ≡ eqb (T .view .birth b) 0) (Q : QueueFits T) where
   abbrev N : ℕ
   N = T .view .blocks
 
+  -- the blocks that wait, and the words with them; those that are queued
   abbrev l : List ℕ
   l = T .waiting
 
+  abbrev more : List ℕ
+  more = joined words l
+
+  abbrev q : List ℕ
+  q = T .queue .list
+
   abbrev Joined : Type 0
-  Joined = Joins N words l × Agrees (joined words l) p N 64
+  Joined = Joins N words l × (Joins N more q × Agrees (joined more q) p N 64)
 
   abbrev Apart : Type 0
-  Apart = Waits T × Agrees words (available T) N 64
+  Apart = WaitingFits T × Agrees words (available T) N 64
 
-  its-bit : ((b : ℕ) → In b l → b < N) → (c : ℕ) → freeIn (joined words l) c ≡ (freeIn words c || elem c l)
-  its-bit h c = joined-bit l words (λ b i. omega (arith, h b i)) c
+  waits-bit : ((b : ℕ) → In b l → b < N) → (c : ℕ) → freeIn more c ≡ (freeIn words c || elem c l)
+  waits-bit h c = joined-bit l words (λ b i. omega (arith, h b i)) c
+
+  its-bit : ((b : ℕ) → In b l → b < N) → (c : ℕ) → freeIn (joined more q) c ≡ ((freeIn words c || elem c l) || elem c q)
+  its-bit h c =
+      joined-bit q more (λ b i. omega (arith, Q .below b i, joined-long l words)) c ∙ ap (λ (x : Bool). x || elem c q) (waits-bit h c)
+
+  -- a block that neither waits nor is queued may be given just where it has no birth
+  plainly : (b : ℕ) → elem b l ≡ false → elem b q ≡ false → available T b ≡ eqb (T .view .birth b) 0
+  unfolding available waits
+  plainly b n m =
+      let z : T .queue .birth b ≡ 0 = cases (lt? 0 (T .queue .birth b)) (λ k. absurd (elem-not-in b q m (Q .births b .1 k))) (λ k. omega arith) in
+      rw (n, eq-eqb (T .queue .birth b) 0 z) (and-true (eqb (T .view .birth b) 0))
 
   apart : Joined → Apart
-  unfolding available waits
-  apart q =
-      let J = q .0 in
-      let A = q .1 in
-      let at : (b : ℕ) → b < N → (freeIn words b || elem b l) ≡ eqb (T .view .birth b) 0 =
-      λ b h. sym (its-bit (J .below) b) ∙ A .blocks b (omega arith) h ∙ born b h in (
-        (J .below, (λ b i. eqb-true (T .view .birth b) 0 (sym (at b (J .below b i)) ∙ rw (in-elem b l i) (or-true (freeIn words b))), J .once)),
+  apart w =
+      let J = w .0 in
+      let M = w .1 .0 in
+      let A = w .1 .1 in
+      let at : (b : ℕ) → b < N → ((freeIn words b || elem b l) || elem b q) ≡ eqb (T .view .birth b) 0 =
+      λ b h. sym (its-bit (J .below) b) ∙ A .blocks b (omega arith) h ∙ born b h in
+      let off : (b : ℕ) → In b q → (freeIn words b ≡ false) × (elem b l ≡ false) =
+      λ b i. or-none (freeIn words b) (elem b l) (sym (waits-bit (J .below) b) ∙ M .apart b i) in (
+        record {
+          below = J .below;
+          unborn = λ b i. eqb-true (T .view .birth b) 0 (sym (at b (J .below b i)) ∙ rw (in-elem b l i, or-true (freeIn words b)));
+          unqueued = λ b i. cases (lt? 0 (T .queue .birth b))
+              (λ k. absurd (elem-not-in b l (off b (Q .births b .1 k) .1) i))
+              (λ k. omega arith);
+          once = J .once;
+        },
         record {
           blocks = λ b h k. cases (either (elem b l))
-              (λ y. J .apart b (elem-in b l y) ∙ sym (rw y (and-false (eqb (T .view .birth b) 0))))
-              (λ n. sym (or-false (freeIn words b)) ∙ rw n (sym (and-true (eqb (T .view .birth b) 0) ∙ sym (rw n at (at b k)))));
-          behind = λ b h k. or-none (freeIn words b) (elem b l) (sym (its-bit (J .below) b) ∙ A .behind b h k) .0;
+              (λ y. J .apart b (elem-in b l y) ∙ sym (waits-unavailable T b (elem-in b l y)))
+              (λ n. cases (either (elem b q))
+              (λ y. off b (elem-in b q y) .0 ∙ sym (queued-unavailable T b (Q .births b .0 (elem-in b q y))))
+              (λ m. sym (or-false (freeIn words b)) ∙ sym (or-false (freeIn words b || false)) ∙ rw (n, m) at (at b k) ∙ sym (plainly b n m)));
+          behind = λ b h k.
+              or-none (freeIn words b) (elem b l)
+              (or-none (freeIn words b || elem b l) (elem b q) (sym (its-bit (J .below) b) ∙ A .behind b h k) .0) .0;
         },
       )
 
   joins : Apart → Joined
-  unfolding available waits
-  joins q =
-      let w = q .0 in
-      let A = q .1 in (
+  joins w =
+      let W = w .0 in
+      let A = w .1 in
+      let apart-q : (b : ℕ) → In b q → elem b l ≡ false =
+      λ b i. not-in-elem b l (λ j. let z : ⊥ = omega (arith, W .unqueued b j, Q .births b .0 i) in z) in (
         record {
-          below = w .0;
-          apart = λ b i. A .blocks b (omega (arith, w .0 b i)) (w .0 b i) ∙ waits-unavailable T b i;
-          once = w .1 .1;
+          below = W .below;
+          apart = λ b i. A .blocks b (omega (arith, W .below b i)) (W .below b i) ∙ waits-unavailable T b i;
+          once = W .once;
         },
-        record {
-          blocks = λ b h k. its-bit (w .0) b ∙ cases (either (elem b l))
-              (λ y. rw y (or-true (freeIn words b)) ∙ sym (born b k ∙ eq-eqb (T .view .birth b) 0 (w .1 .0 b (elem-in b l y))))
-              (λ n. rw n (or-false (freeIn words b)) ∙ A .blocks b h k ∙ rw n (and-true (eqb (T .view .birth b) 0)) ∙ sym (born b k));
-          behind = λ b h k. its-bit (w .0) b ∙ rw (A .behind b h k, not-in-elem b l (λ i. absurd (let z : ⊥ = omega (arith, w .0 b i) in z)));
-        },
+        (
+          record {
+            below = Q .below;
+            apart = λ b i.
+                waits-bit (W .below) b ∙
+                rw (apart-q b i, A .blocks b (omega (arith, Q .below b i)) (Q .below b i), queued-unavailable T b (Q .births b .0 i));
+            once = Q .once;
+          },
+          record {
+            blocks = λ b h k. its-bit (W .below) b ∙ cases (either (elem b l))
+                (λ y. rw (y, or-true (freeIn words b)) (sym (born b k ∙ eq-eqb (T .view .birth b) 0 (W .unborn b (elem-in b l y)))))
+                (λ n. cases (either (elem b q))
+                (λ y. rw y (or-true (freeIn words b || elem b l)) ∙ sym (born b k ∙ eq-eqb (T .view .birth b) 0 (Q .unborn b (elem-in b q y))))
+                (λ m. rw (n, m) (or-false (freeIn words b || false) ∙ or-false (freeIn words b)) ∙ A .blocks b h k ∙ plainly b n m ∙ sym (born b k)));
+            behind = λ b h k. its-bit (W .below) b ∙ rw (
+              A .behind b h k,
+              not-in-elem b l (λ i. absurd (let z : ⊥ = omega (arith, W .below b i) in z)),
+              not-in-elem b q (λ i. absurd (let z : ⊥ = omega (arith, Q .below b i) in z)),
+            );
+          },
+        ),
       )
 
-  pub waiting-is : joins? N words l && wordsAgree (joined words l) p N 64 ≡ waiting? T && wordsAgree words (available T) N 64
+  pub waiting-is : joins? N words l && (joins? N more q && wordsAgree (joined more q) p N 64) ≡ waiting? T && wordsAgree words (available T) N 64
   waiting-is =
-      one-test (says-joins N l words (omega arith) & says-agree (joined words l) p N (joined-fits l words fits))
-      (says-waits T & says-agree words (available T) N fits) apart joins
+      one-test
+      (says-joins N l words (omega arith) & (says-joins N q more (omega (arith, joined-long l words)) &
+      says-agree (joined more q) p N (joined-fits q more (joined-fits l words fits))))
+      (says-waiting T & says-agree words (available T) N fits) apart joins
 
 -- ── of the tables ──
 
@@ -185,41 +220,64 @@ module _ (g : Geometry) (t : List ℕ) (roomy : Roomy g t) where
   unfolding bornFree
   born b h = ap (λ (v : ℕ). eqb v 0) (part-at t start (length t - start) b (omega (arith, roomy .room)) ∙ sym (Fields.birth-is g t b h))
 
-  fit-of : ((k : ℕ) → getD t k 0 < 2 ^ 32) →
-      joins? (blocks g) free-words (stateOf g t .waiting) && wordsAgree (joined free-words (stateOf g t .waiting)) (bornFree births) (blocks g) 64 ≡ Fit
-  unfolding stateOf viewOf
-  fit-of fits =
-      waiting-is (stateOf g t) free-words (bornFree births) (copy-long refl) (births-long .0) (copy-fits fits) born ∙
-      ap (λ (x : Bool). waiting? (stateOf g t) && x) free-is
+  module _ (Q : QueueFits (stateOf g t)) (fits : (k : ℕ) → getD t k 0 < 2 ^ 32) where
+    -- the words with the blocks that wait, and with the queue's too
+    abbrev waiting-words : List ℕ
+    waiting-words = joined free-words (stateOf g t .waiting)
 
-  module _ {n : ℕ} (en : n ≡ getD t 11 0) where
-    -- more entries than blocks: one is none, or stands twice
-    pub fit-many : blocks g < n → false ≡ Fit
+    abbrev all-words : List ℕ
+    all-words = joined waiting-words (stateOf g t .queue .list)
+
+    fit-of : joins? (blocks g) free-words (stateOf g t .waiting) &&
+        (joins? (blocks g) waiting-words (stateOf g t .queue .list) && wordsAgree all-words (bornFree births) (blocks g) 64) ≡ Fit
     unfolding stateOf viewOf
-    fit-many h =
-        cases (either (waiting? (stateOf g t)))
-        (λ y.
-        let w = says-waits (stateOf g t) .holds y in
-        absurd (let z : ⊥ = omega (arith, once-short (stateOf g t .waiting) (blocks g) (w .1 .1) (w .0), waiting-length g t) in z))
-        (λ y. rw y)
+    fit-of =
+        waiting-is (stateOf g t) free-words (bornFree births) (copy-long refl) (births-long .0) (copy-fits fits) born Q ∙
+        ap (λ (x : Bool). waiting? (stateOf g t) && x) free-is
 
-    module _ {words after : List ℕ} {set : Bool} (copied : words ≡ take 64 (drop 64 t))
-        (is : (set ≡ joins? (blocks g) words (numbers t (waitCell (g .records) (blocks g) 0) n)) ×
-        (set ≡ true → after ≡ joined words (numbers t (waitCell (g .records) (blocks g) 0) n))) where
-      tested : set ≡ joins? (blocks g) free-words (stateOf g t .waiting)
-      unfolding stateOf
-      tested = rw (en, copied) at (is .0)
+    module _ {n : ℕ} (en : n ≡ getD t 11 0) where
+      -- more entries than blocks: one is none, or stands twice
+      pub fit-many : blocks g < n → false ≡ Fit
+      unfolding stateOf viewOf
+      fit-many h =
+          cases (either (waiting? (stateOf g t)))
+          (λ y.
+          let w = says-waiting (stateOf g t) .holds y in
+          absurd (let z : ⊥ = omega (arith, once-short (stateOf g t .waiting) (blocks g) (w .once) (w .below), waiting-length g t) in z))
+          (λ y. rw y)
 
-      left : not set ≡ false → after ≡ joined free-words (stateOf g t .waiting)
-      unfolding stateOf
-      left z = rw (en, copied) at (is .1 (not-false set z))
+      module _ {words after : List ℕ} {set : Bool} {from : ℕ} (copied : words ≡ take 64 (drop 64 t)) (ef : from ≡ waitCell (g .records) (blocks g) 0)
+          (is : (set ≡ joins? (blocks g) words (numbers t from n)) × (set ≡ true → after ≡ joined words (numbers t from n))) where
+        tested : set ≡ joins? (blocks g) free-words (stateOf g t .waiting)
+        unfolding stateOf
+        tested = rw (en, ef, copied) at (is .0)
 
-      pub after-long : not set ≡ false → length after ≡ 64
-      after-long z = ap length (left z) ∙ joined-long (stateOf g t .waiting) free-words ∙ copy-long refl
-
-      module _ (fits : (k : ℕ) → getD t k 0 < 2 ^ 32) where
         pub fit-fails : not set ≡ true → false ≡ Fit
-        fit-fails z = sym (and-first _ (failed tested z)) ∙ fit-of fits
+        fit-fails z = sym (and-first _ (failed tested z)) ∙ fit-of
 
-        pub fit-is : not set ≡ false → {r : Bool} → r ≡ wordsAgree after (bornFree births) (blocks g) 64 → r ≡ Fit
-        fit-is z e = rw (left z) at e ∙ sym (rw (passed tested z)) ∙ fit-of fits
+        module _ (z : not set ≡ false) where
+          left : after ≡ waiting-words
+          unfolding stateOf
+          left = rw (en, ef, copied) at (is .1 (not-false set z))
+
+          pub after-long : length after ≡ 64
+          after-long = ap length left ∙ joined-long (stateOf g t .waiting) free-words ∙ copy-long refl
+
+          module _ {end : List ℕ} {also : Bool} {at m : ℕ} (em : m ≡ getD t 10 0) (ea : at ≡ queueCell (g .records) (blocks g) 0)
+              (does : (also ≡ joins? (blocks g) after (numbers t at m)) × (also ≡ true → end ≡ joined after (numbers t at m))) where
+            also-tested : also ≡ joins? (blocks g) waiting-words (stateOf g t .queue .list)
+            unfolding stateOf queueOf
+            also-tested = rw (em, ea, left) at (does .0)
+
+            also-left : not also ≡ false → end ≡ all-words
+            unfolding stateOf queueOf
+            also-left y = rw (em, ea, left) at (does .1 (not-false also y))
+
+            pub end-long : not also ≡ false → length end ≡ 64
+            end-long y = ap length (also-left y) ∙ joined-long (stateOf g t .queue .list) waiting-words ∙ sym (ap length left) ∙ after-long
+
+            pub fit-stops : not also ≡ true → false ≡ Fit
+            fit-stops y = sym (and-second (joins? (blocks g) free-words (stateOf g t .waiting)) (and-first _ (failed also-tested y))) ∙ fit-of
+
+            pub fit-is : not also ≡ false → {r : Bool} → r ≡ wordsAgree end (bornFree births) (blocks g) 64 → r ≡ Fit
+            fit-is y e = rw (also-left y) at e ∙ sym (rw (passed tested z, passed also-tested y)) ∙ fit-of

@@ -61,7 +61,8 @@ module _ (words : List ℕ) (b : ℕ) where
       (λ e. rw e (ap (λ x. bit x (c % 32)) (getD-set-same words (b / 32) v 0 (omega arith)) ∙ bit-or (c % 32) (getD words (b / 32) 0) (2 ^ (b % 32)) ∙
       ap (λ (x : Bool). bit (getD words (b / 32) 0) (c % 32) || x) (bit-one (b % 32) (c % 32) ∙ same-bit b c e)))
       (λ d. ap (λ x. bit x (c % 32)) (getD-set-other words (b / 32) (c / 32) v 0 d) ∙
-      sym (ap (λ (x : Bool). bit (getD words (c / 32) 0) (c % 32) || x) (ne-eqb c b (λ e. d (ap (λ x. x / 32) e))) ∙ or-false (bit (getD words (c / 32) 0) (c % 32))))
+      sym (ap (λ (x : Bool). bit (getD words (c / 32) 0) (c % 32) || x) (ne-eqb c b (λ e. d (ap (λ x. x / 32) e))) ∙
+      or-false (bit (getD words (c / 32) 0) (c % 32))))
 
   with-fits : ((k : ℕ) → getD words k 0 < 2 ^ 32) → (k : ℕ) → getD (withBit words b) k 0 < 2 ^ 32
   unfolding withBit
@@ -108,6 +109,13 @@ pub record Joins (n : ℕ) (words l : List ℕ) : Type 0 where
   pub apart : (b : ℕ) → In b l → freeIn words b ≡ false
   pub once : Once l
 
+-- two tests of one statement
+pub one-test : {t u : Bool} {P Q : Type 0} → Says t P → Says u Q → (P → Q) → (Q → P) → t ≡ u
+one-test {t} {u} a b f h =
+    cases (either t)
+    (λ y. y ∙ sym (b .passes (f (a .holds y))))
+    (λ n. cases (either u) (λ y. absurd (false≢true (sym n ∙ a .passes (h (b .holds y))))) (λ m. n ∙ sym m))
+
 pub or-none : (s t : Bool) → (s || t) ≡ false → (s ≡ false) × (t ≡ false)
 or-none true t e = absurd (false≢true (sym e))
 or-none false t e = (refl, e)
@@ -152,7 +160,7 @@ pub record Setting (N a n : ℕ) (t words₀ words : List ℕ) (i : ℕ) : Type 
   pub sets : joined words (numbers t (a + i) (n - i)) ≡ joined words₀ (numbers t a n)
 
 module _ (N a n : ℕ) (t words₀ : List ℕ) where
-  -- what `set_waiting` answers, and leaves
+  -- what `set_listed` answers, and leaves
   abbrev Answer : Bool → List ℕ → Type 0
   Answer r words = (r ≡ joins? N words₀ (numbers t a n)) × (r ≡ true → words ≡ joined words₀ (numbers t a n))
 
@@ -169,13 +177,13 @@ module _ (N a n : ℕ) (t words₀ : List ℕ) where
         let d : n - i ≡ 0 = omega (arith, W .to) in
         (rw d at (W .same), λ e. rw d at (W .sets))
 
-    module _ (h : i < n) {from b : ℕ} (ef : from ≡ a) (eb : b ≡ getD t (from + i) 0) where
+    module _ (h : i < n) {b : ℕ} (eb : b ≡ getD t (a + i) 0) where
       entry : numbers t (a + i) (n - i) ≡ b ∷ numbers t (a + (i + 1)) (n - (i + 1))
       unfolding numbers
       entry =
           let d : n - i ≡ suc (n - (i + 1)) = omega arith in
           let k : suc (a + i) ≡ a + (i + 1) = omega arith in
-          rw (d, eb, ef, ← k)
+          rw (d, eb, ← k)
 
       fails : joins? N words (b ∷ numbers t (a + (i + 1)) (n - (i + 1))) ≡ false → Answer false words
       fails e = (sym e ∙ ap (joins? N words) (sym entry) ∙ W .same, λ z. absurd (false≢true z))

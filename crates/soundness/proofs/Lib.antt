@@ -4,6 +4,8 @@ pub mod Loops
 pub mod Clauses
 pub mod Pairing
 pub mod Joining
+pub mod Marking
+pub mod Queued
 pub mod Free
 pub mod Whole
 pub mod Short

@@ -14,11 +14,11 @@ use Rattle.log.specs.Marks.{heldIn}
 use Rattle.log.specs.Read.{Result, readLog}
 use Rattle.log.specs.Tool.{readable, marksOf}
 use Rattle.model.specs.Table.{all}
-use Rattle.model.specs.Held.{held}
+use Rattle.model.specs.Held.{onPages, held}
 use Rattle.model.specs.Layout.{viewOf, stateOf}
 use Rattle.model.specs.Check as check
 use Rattle.model.specs.Check.{imp, same, linked?, page?, list?, slot?, empty?, once?, allOwn, good?}
-use Rattle.model.specs.Memory.{numbers?, range?, waiting?, windows?, names?, free?, logHolds?, sound?}
+use Rattle.model.specs.Memory.{numbers?, range?, queue?, waiting?, windows?, names?, free?, logHolds?, sound?}
 use Rattle.soundness.specs.Pairs.{linkedTo?}
 use Rattle.soundness.proofs.Pairing.{pairs-exact}
 use Rattle.soundness.proofs.Loops.{all-both, all-same, and-first, and-second, and-left, and-right}
@@ -49,7 +49,7 @@ module _ (g : Geometry) (t : List ℕ) where
         let r : readLog (g .arenas) (g .per) (take (8 * getD t 9 0) log) .0 ≡ false = sym (ap (λ (x : Result). x .0) (rw u at read)) ∙ not-true ok z in
         rw r
 
-    pub log-read : {r : Bool} → not ok ≡ false → r ≡ all (blocks g) (λ b. same (heldIn marks b) (held (viewOf g t) b)) →
+    pub log-read : {r : Bool} → not ok ≡ false → r ≡ all (blocks g) (λ b. same (heldIn marks b) (held (stateOf g t) b)) →
         r ≡ logHolds? g (stateOf g t) log
     unfolding logHolds? readable marksOf stateOf
     log-read z e =
@@ -112,9 +112,13 @@ module _ (g : Geometry) (t : List ℕ) where
   abbrev pub single : (ℕ → ℕ) → Bool
   single f = once? f (allOwn (viewOf g t))
 
-  -- the held blocks are those that m marks
+  -- the blocks on pages are those that m marks
   abbrev pub agrees : List ℕ → Bool
-  agrees m = all (blocks g) (λ b. same (heldIn m b) (held (viewOf g t) b))
+  agrees m = all (blocks g) (λ b. same (heldIn m b) (onPages (viewOf g t) b))
+
+  -- the queue
+  abbrev pub queues : Bool
+  queues = queue? (stateOf g t)
 
   -- the blocks that wait and the free words
   abbrev pub words : Bool
@@ -139,18 +143,21 @@ module _ (g : Geometry) (t : List ℕ) where
   good-is =
       ap (λ (x : Bool). (x && single (λ c. 0)) && born)
       (all-both (g .records) _ _ _
-      (λ s. slot-parts (ltb 0 (viewOf g t .num s)) (linked? (viewOf g t) s) (all (g .pages) (page? (viewOf g t) s)) (list? (viewOf g t) s) (empty? (viewOf g t) s)))
+      (λ s. slot-parts (ltb 0 (viewOf g t .num s)) (linked? (viewOf g t) s) (all (g .pages) (page? (viewOf g t) s)) (list? (viewOf g t) s)
+      (empty? (viewOf g t) s)))
 
   module _ (log : List ℕ) where
     -- the whole test, from its parts
     abbrev joined : Bool → Bool → Bool
-    joined good words = numbers? g t && (range? g (stateOf g t) && (good && (words && (windows && (names && logHolds? g (stateOf g t) log)))))
+    joined good words =
+        numbers? g t && (range? g (stateOf g t) && (good && (queues && (words && (windows && (names && logHolds? g (stateOf g t) log))))))
 
     sound-is : sound? g t log ≡ joined (((links && paged) && single (λ c. 0)) && born) words
     unfolding sound? stateOf
     sound-is =
         ap (λ (x : Bool). numbers? g t && (range? g (stateOf g t) && x))
-        (ap₂ _&&_ good-is (moved (waiting? (stateOf g t)) windows names (free? (stateOf g t) t) (logHolds? g (stateOf g t) log)))
+        (ap₂ (λ (x y : Bool). x && (queues && y)) good-is
+        (moved (waiting? (stateOf g t)) windows names (free? (stateOf g t) t) (logHolds? g (stateOf g t) log)))
 
     pub sound-no-numbers : numbers? g t ≡ false → false ≡ sound? g t log
     sound-no-numbers h = sym (sound-is ∙ and-first _ h)
@@ -164,18 +171,21 @@ module _ (g : Geometry) (t : List ℕ) where
     pub sound-no-links : pairs ≡ false → false ≡ sound? g t log
     sound-no-links h = no-good (and-first born (and-first (single (λ c. 0)) (and-first paged (sym pairs-are ∙ h))))
 
-    no-rest : words && (windows && (names && logHolds? g (stateOf g t) log)) ≡ false → false ≡ sound? g t log
+    no-rest : queues && (words && (windows && (names && logHolds? g (stateOf g t) log))) ≡ false → false ≡ sound? g t log
     no-rest h = sym
         (sound-is ∙ and-second (numbers? g t) (and-second (range? g (stateOf g t)) (and-second (((links && paged) && single (λ c. 0)) && born) h)))
 
+    pub sound-no-queue : queues ≡ false → false ≡ sound? g t log
+    sound-no-queue h = no-rest (and-first _ h)
+
     pub sound-no-words : words ≡ false → false ≡ sound? g t log
-    sound-no-words h = no-rest (and-first _ h)
+    sound-no-words h = no-rest (and-second queues (and-first _ h))
 
     pub sound-no-windows : windows ≡ false → false ≡ sound? g t log
-    sound-no-windows h = no-rest (and-second words (and-first _ h))
+    sound-no-windows h = no-rest (and-second queues (and-second words (and-first _ h)))
 
     pub sound-no-names : names ≡ false → false ≡ sound? g t log
-    sound-no-names h = no-rest (and-second words (and-second windows (and-first _ h)))
+    sound-no-names h = no-rest (and-second queues (and-second words (and-second windows (and-first _ h))))
 
     -- marks z, all 0, and the marks m of the own blocks on top of them
     module _ (z : List ℕ) (empty : seen z ≡ (λ c. 0)) where
@@ -195,7 +205,7 @@ module _ (g : Geometry) (t : List ℕ) where
         own-is b = is b ∙ ap (λ (f : ℕ → ℕ). check.marksOf f (allOwn (viewOf g t)) b) empty
 
         born-is : agrees m ≡ born
-        unfolding born heldIn held
+        unfolding born heldIn onPages
         born-is = all-same (blocks g) _ _ (λ b l.
             ap₂ same (ap (λ (x : ℕ). not (eqb x 0)) (own-is b) ∙ marked-is (marked b)) (marked-is (viewOf g t .birth b)) ∙
             same-turned (ltb 0 (marked b)) (ltb 0 (viewOf g t .birth b)))
@@ -204,8 +214,8 @@ module _ (g : Geometry) (t : List ℕ) where
         sound-no-births h = no-good (and-second ((links && paged) && single (λ c. 0)) (sym born-is ∙ h))
 
         pub sound-yes : {r : Bool} → numbers? g t ≡ true → range? g (stateOf g t) ≡ true → pairs ≡ true → paged && single (seen z) ≡ true →
-            agrees m ≡ true → words ≡ true → windows ≡ true → names ≡ true → r ≡ logHolds? g (stateOf g t) log → r ≡ sound? g t log
-        sound-yes a b c d e f w n h =
+            agrees m ≡ true → queues ≡ true → words ≡ true → windows ≡ true → names ≡ true → r ≡ logHolds? g (stateOf g t) log → r ≡ sound? g t log
+        sound-yes a b c d e q f w n h =
             let d′ : paged && single (λ c. 0) ≡ true = sym regrouped ∙ d in
             h ∙ sym (sound-is ∙ rw
-            (a, b, sym pairs-are ∙ c, and-left paged (single (λ c. 0)) d′, and-right paged (single (λ c. 0)) d′, sym born-is ∙ e, f, w, n))
+            (a, b, sym pairs-are ∙ c, and-left paged (single (λ c. 0)) d′, and-right paged (single (λ c. 0)) d′, sym born-is ∙ e, q, f, w, n))

@@ -2,3 +2,4 @@
 pub mod Pairs
 pub mod Pages
 pub mod Waiting
+pub mod Queue

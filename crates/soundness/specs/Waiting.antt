@@ -1,4 +1,4 @@
--- The free words of a stranger's tables, joined by the blocks that wait.
+-- The free words of a stranger's tables, joined by the blocks that wait and by those that are queued.
 use mathlib.Core.Bool.{Bool, true, not, _&&_}
 use mathlib.Core.List.{List, [], _∷_}
 use Prim.Native.Nat.{ℕ, _/_, _%_, _^_}

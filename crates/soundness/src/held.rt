@@ -1,25 +1,32 @@
-// Which blocks are held: the births agree with marks, with the free words and the blocks that wait, and with what the log reads to.
+// Which blocks are held: the births agree with marks, the queue has other blocks, and both agree with the free words and the blocks that wait, and with
+// what the log reads to.
 ghost use mathlib.Core.Path.{_≡_};
 ghost use mathlib.Core.Bool.{true, _&&_};
-ghost use Prim.Native.Nat.{ℕ, _≤_, _<_};
+ghost use Prim.Native.Nat.{_+_, _≤_};
 ghost use lib.ListN.{length, getD, take, drop};
 ghost use Rattle.geometry.specs.Limits.{blocks};
 ghost use Rattle.log.specs.Marks.{heldIn};
 ghost use Rattle.model.specs.Table.{all};
 ghost use Rattle.model.specs.Check.{same};
-ghost use Rattle.model.specs.Held.{held};
-ghost use Rattle.model.specs.Layout.{waitCell, numbers, viewOf, stateOf};
-ghost use Rattle.model.specs.Memory.{waiting?, free?, logHolds?};
+ghost use Rattle.model.specs.Held.{tally, onPages, queued, held};
+ghost use Rattle.model.specs.State.{QueueFits};
+ghost use Rattle.model.specs.Layout.{numbers, viewOf, stateOf};
+ghost use Rattle.model.specs.Memory.{queue?, waiting?, free?, logHolds?};
 ghost use Rattle.tables.specs.Ready.{Roomy, LogLong};
 ghost use Rattle.soundness.specs.Waiting.{joined, joins?};
+ghost use Rattle.soundness.specs.Queue.{Marked, firstQueued, marking, marks?};
 use crate::read::header_number;
 use choice::bit_of;
 use choice::words_agree;
 use geometry::Geometry;
 use log::read::read_log;
+use tables::births::queue_at;
+use tables::births::queue_births_at;
 use tables::births::waiting_at;
 use tables::cells::FREE;
+use tables::cells::LAST;
 use tables::cells::PAGES;
+use tables::cells::QUEUED;
 use tables::cells::ROWS;
 use tables::cells::USED;
 use tables::cells::WAITS;
@@ -28,7 +35,7 @@ use tables::find::wide;
 // A block has a mark just where it has a birth. It looks at all blocks, several in one instruction.
 pub fn births_agree(g: Geometry, t: &[u32], marks: &[u8; 2048]) -> bool
     requires { ⌜ Roomy g (now t) ⌝ }
-    ensures { λ r. ⌜ r ≡ all (blocks g) (λ b. same (heldIn (now (marks .entry)) b) (held (viewOf g (now (t .entry))) b)) ⌝ }
+    ensures { λ r. ⌜ r ≡ all (blocks g) (λ b. same (heldIn (now (marks .entry)) b) (onPages (viewOf g (now (t .entry))) b)) ⌝ }
 {
     let mut agree = true;
     let mut b: usize = 0;
@@ -39,6 +46,65 @@ pub fn births_agree(g: Geometry, t: &[u32], marks: &[u8; 2048]) -> bool
         b += 1;
     }
     agree
+}
+
+// Each of the n queued blocks is a block without a mark, and gets one: it is on no page, and not queued twice. Its birth in the queue is a number from 1 to
+// `last`.
+fn mark_queued(g: Geometry, t: &[u32], own: &mut [u8; 2048], n: usize, last: u32) -> bool
+    requires { ⌜ Roomy g (now t) × (n ≤ blocks g) × (length (now own) ≡ 2048) ⌝ }
+    ensures is { λ r. ⌜ r ≡ marks? (blocks g) (stateOf g (now (t .entry)) .queue .birth) last (now (own .entry)) (firstQueued g (now (t .entry)) n) ⌝ }
+    ensures marked { λ r. ⌜ (r ≡ true → now (own .exit) ≡ marking (now (own .entry)) (firstQueued g (now (t .entry)) n)) ⌝ }
+{
+    let mut i: usize = 0;
+    while i < n {
+        let b = wide(t[queue_at(g) + i]);
+        if g.arenas * g.per <= b {
+            return false;
+        }
+        if own[b] != 0 {
+            return false;
+        }
+        if t[queue_births_at(g) + b] == 0 {
+            return false;
+        }
+        if last < t[queue_births_at(g) + b] {
+            return false;
+        }
+        own[b] = 1;
+        i += 1;
+    }
+    true
+}
+
+// How many blocks have a birth in the queue. It looks at all blocks, several in one instruction.
+fn count_queued(g: Geometry, t: &[u32]) -> usize
+    requires { ⌜ Roomy g (now t) ⌝ }
+    ensures { λ r. ⌜ r ≡ tally (queued (stateOf g (now (t .entry)))) (blocks g) ⌝ }
+{
+    let from = queue_births_at(g);
+    let mut count: u32 = 0;
+    let mut b: usize = 0;
+    while b < g.arenas * g.per {
+        count += (t[from + b] != 0) as u32;
+        b += 1;
+    }
+    wide(count)
+}
+
+// The queue has each of its blocks once and none that has a mark, which is on a page; its blocks, and no others, have a birth in the queue. They get a mark.
+pub fn queue_fits(g: Geometry, t: &[u32], own: &mut [u8; 2048]) -> bool
+    requires { ⌜ Roomy g (now t) × (length (now own) ≡ 2048) × Marked (blocks g) (now own) (onPages (viewOf g (now t))) ⌝ }
+    ensures is { λ r. ⌜ r ≡ queue? (stateOf g (now (t .entry))) ⌝ }
+    ensures marked { λ r. ⌜ (r ≡ true → Marked (blocks g) (now (own .exit)) (held (stateOf g (now (t .entry))))) ⌝ }
+{
+    let n = header_number(g, t, QUEUED);
+    if g.arenas * g.per < n {
+        return false;
+    }
+    if !mark_queued(g, t, own, n, t[LAST]) {
+        return false;
+    }
+    count_queued(g, t) == n
 }
 
 // A copy of the free words.
@@ -53,13 +119,12 @@ fn copy_words(t: &[u32], words: &mut [u32; 64])
     }
 }
 
-// Sets the bit of each of the n blocks that wait. Each must be a block, and its bit not set before.
-fn set_waiting(g: Geometry, t: &[u32], words: &mut [u32; 64], n: usize) -> bool
-    requires { ⌜ Roomy g (now t) × (n ≤ blocks g) × (length (now words) ≡ 64) ⌝ }
-    ensures is { λ r. ⌜ r ≡ joins? (blocks g) (now (words .entry)) (numbers (now (t .entry)) (waitCell (g .records) (blocks g) 0) n) ⌝ }
-    ensures set { λ r. ⌜ (r ≡ true → now (words .exit) ≡ joined (now (words .entry)) (numbers (now (t .entry)) (waitCell (g .records) (blocks g) 0) n)) ⌝ }
+// Sets the bit of each of the n blocks of the list that begins at `from`. Each must be a block, and its bit not set before.
+fn set_listed(g: Geometry, t: &[u32], words: &mut [u32; 64], from: usize, n: usize) -> bool
+    requires { ⌜ Roomy g (now t) × (from + n ≤ length (now t)) × (length (now words) ≡ 64) ⌝ }
+    ensures is { λ r. ⌜ r ≡ joins? (blocks g) (now (words .entry)) (numbers (now (t .entry)) from n) ⌝ }
+    ensures set { λ r. ⌜ (r ≡ true → now (words .exit) ≡ joined (now (words .entry)) (numbers (now (t .entry)) from n)) ⌝ }
 {
-    let from = waiting_at(g);
     let mut i: usize = 0;
     while i < n {
         let b = wide(t[from + i]);
@@ -77,9 +142,10 @@ fn set_waiting(g: Geometry, t: &[u32], words: &mut [u32; 64], n: usize) -> bool
     true
 }
 
-// The free words tell the blocks that may be given: with those that wait, which are other ones, they are the blocks that have no birth.
+// The free words tell the blocks that may be given: with those that wait and those that are queued, which are other ones, they are the blocks that have
+// no birth. The queue is known to fit.
 pub fn words_fit(g: Geometry, t: &[u32]) -> bool
-    requires { ⌜ Roomy g (now t) ⌝ }
+    requires { ⌜ Roomy g (now t) × QueueFits (stateOf g (now t)) ⌝ }
     ensures { λ r. ⌜ r ≡ (waiting? (stateOf g (now (t .entry))) && free? (stateOf g (now (t .entry))) (now (t .entry))) ⌝ }
 {
     let n = header_number(g, t, WAITS);
@@ -88,7 +154,10 @@ pub fn words_fit(g: Geometry, t: &[u32]) -> bool
     }
     let mut words = [0u32; 64];
     copy_words(t, &mut words);
-    if !set_waiting(g, t, &mut words, n) {
+    if !set_listed(g, t, &mut words, waiting_at(g), n) {
+        return false;
+    }
+    if !set_listed(g, t, &mut words, queue_at(g), header_number(g, t, QUEUED)) {
         return false;
     }
     let births = PAGES + ROWS * g.records;
@@ -111,9 +180,9 @@ fn marks_agree(marks: &[u8; 2048], others: &[u8; 2048], n: usize) -> bool
     agree
 }
 
-// The log reads to the held blocks, which are those with a mark in `own`.
+// The log reads to the held blocks, on pages or queued, which are those with a mark in `own`.
 pub fn log_holds(g: Geometry, t: &[u32], log: &[u8], own: &[u8; 2048]) -> bool
-    requires { ⌜ Roomy g (now t) × LogLong g (now log) × (getD (now t) 9 0 ≤ g .words) × ((b : ℕ) → b < blocks g → heldIn (now own) b ≡ held (viewOf g (now t)) b) ⌝ }
+    requires { ⌜ Roomy g (now t) × LogLong g (now log) × (getD (now t) 9 0 ≤ g .words) × Marked (blocks g) (now own) (held (stateOf g (now t))) ⌝ }
     ensures { λ r. ⌜ r ≡ logHolds? g (stateOf g (now (t .entry))) (now (log .entry)) ⌝ }
 {
     let used = header_number(g, t, USED);

@@ -16,6 +16,7 @@ use crate::header::numbers_fit;
 use crate::header::ranges_fit;
 use crate::held::births_agree;
 use crate::held::log_holds;
+use crate::held::queue_fits;
 use crate::held::words_fit;
 use crate::names::names_fit;
 use crate::pages::pages_fit;
@@ -42,6 +43,9 @@ pub fn is_sound(g: Geometry, t: &[u32], log: &[u8]) -> bool
         return false;
     }
     if !births_agree(g, t, &own) {
+        return false;
+    }
+    if !queue_fits(g, t, &mut own) {
         return false;
     }
     if !words_fit(g, t) {

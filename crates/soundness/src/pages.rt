@@ -280,6 +280,7 @@ pub fn pages_fit(g: Geometry, t: &[u32], own: &mut [u8; 2048]) -> bool
     requires { ⌜ Roomy g (now t) × (length (now own) ≡ 2048) ⌝ }
     ensures passes { λ r. ⌜ r ≡ (all (g .records) (λ s. cond (ltb 0 (viewOf g (now (t .entry)) .num s)) (all (g .pages) (page? (viewOf g (now (t .entry))) s) && list? (viewOf g (now (t .entry))) s) (empty? (viewOf g (now (t .entry))) s)) && once? (λ b. getD (now (own .entry)) b 0) (allOwn (viewOf g (now (t .entry))))) ⌝ }
     ensures marked { λ r. ⌜ (r ≡ true → (b : ℕ) → getD (now (own .exit)) b 0 ≡ marksOf (λ b. getD (now (own .entry)) b 0) (allOwn (viewOf g (now (t .entry)))) b) ⌝ }
+    ensures size { λ _. ⌜ length (now (own .exit)) ≡ 2048 ⌝ }
 {
     let mut gone = [0u8; 2048];
     let mut s: usize = 0;

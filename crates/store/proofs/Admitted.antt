@@ -34,6 +34,7 @@ sound-ready g t log R s = record {
   made = s .made;
   sound = sound-fine g t log s .sound;
   range = s .range;
+  queue = s .queue;
   waiting = s .waiting;
   windows = s .windows;
   names = s .names;

@@ -13,7 +13,8 @@ use Rattle.geometry.specs.declared.Geometry.{Geometry}
 use Rattle.log.specs.Word.{writeAt, bytesOf}
 use Rattle.log.proofs.Writing.{length-write, length-bytes}
 use Rattle.model.specs.State.{State, InRange}
-use Rattle.model.specs.Calls.{Account, looking, opening, freeing, closing, placing, marking, renewing, account, refusalsBy, renews, shortBy, wordsBy}
+use Rattle.model.specs.Calls.{Account, looking, opening, freeing, closing, removing, reclaiming, placing, marking, renewing, account, refusalsBy, renews}
+use Rattle.model.specs.Calls.{shortBy, wordsBy}
 use Rattle.model.specs.Calls.{freed, compressed, conditions, result, written}
 use Rattle.model.specs.Layout.{stateOf, made}
 use Rattle.model.specs.Memory.{Memory, writtenAt, reply, storedBy, after, makeReply, makeAfter}
@@ -38,9 +39,11 @@ module _ (g : Geometry) (T : State) (R : InRange g T) where
   fit-by (freeing cs a) n =
       let past = none-at ((14, shortBy g T (freeing cs a)) ∷ []) (none-right (cs g T) _ n) in
       behind (freed T (a T)) (ltb-false (g .words - T .used) (length (freed T (a T))) (past 14))
-  fit-by (closing r) n =
-      let past = none-at (refusalsBy g T (closing r)) n in
-      behind (wordsBy g T (closing r)) (ltb-false (g .words - T .used) (length (wordsBy g T (closing r))) (past 14))
+  fit-by (closing r) n = nothing
+  fit-by (removing r) n = nothing
+  fit-by (reclaiming k) n =
+      let past = none-at (refusalsBy g T (reclaiming k)) n in
+      behind (wordsBy g T (reclaiming k)) (ltb-false (g .words - T .used) (length (wordsBy g T (reclaiming k))) (past 14))
   fit-by (placing r x k) n =
       let past = none-at (refusalsBy g T (placing r x k)) n in
       behind (wordsBy g T (placing r x k)) (ltb-false (g .words - T .used) (length (wordsBy g T (placing r x k))) (past 14))

@@ -1,13 +1,14 @@
 -- The stores of a birth and its bit, as the code writes them, and what the bit makes of a free word.
 use mathlib.Core.Path.{_≡_, sym, ap, ap₂, _∙_}
-use mathlib.Core.Bool.{Bool, false, not, _&&_, _||_, and-true, and-false, or-true, or-false}
+use mathlib.Core.Bool.{Bool, false, not, _&&_, _||_, and-true, and-false, or-false}
 use mathlib.Core.List.{List}
 use Prim.Native.Nat.{ℕ, _+_, _-_, _*_, _/_, _%_, _^_, _≤_, _<_, min}
 use native.Mathlib.Nat.{lt-of-lt-of-le, lt-of-le-of-lt}
 use native.Mathlib.Omega.{arith}
 use lib.Bits.{bitAnd, bitOr, and-le-l, or-lt}
 use lib.Dec.{eqb}
-use lib.ListN.{getD, set}
+use lib.ListN.{length, getD, set, length-set}
+use lib.Seq.{getD-set-other}
 use lib.Pow.{pow-lt, pow-mono}
 use borrow.Author.Tests.{eq-eqb, ne-eqb}
 use Rattle.answer.proofs.Cases.{cases, same?, lt?}
@@ -19,9 +20,9 @@ use Rattle.model.specs.Lists.{elem}
 use Rattle.model.specs.View.{withBirth}
 use Rattle.model.specs.State.{State, withView}
 use Rattle.model.specs.Held.{waits, available}
-use Rattle.model.specs.Layout.{freeCell, birthCell, waitCell, freeWord}
+use Rattle.model.specs.Layout.{freeCell, birthCell, queueCell, queueBirthCell, waitCell, freeWord}
 use Rattle.model.proofs.TabFacts.{put-at, put-other}
-use Rattle.tables.specs.Births.{gave, freed, raised}
+use Rattle.tables.specs.Births.{gave, queued, waited, freed, raised}
 
 low : (b : ℕ) → b % 32 < 32
 low b = omega arith
@@ -39,11 +40,35 @@ unfolding raised
 raised-is t b x e = ap (λ (y : ℕ). set t (freeCell (b / 32)) (bitOr (getD t (freeCell (b / 32)) 0) y)) e
 
 -- n is how many wait, a where their list begins
-pub freed-is : (R N : ℕ) (t : List ℕ) (b n a : ℕ) → n ≡ getD t 11 0 → a ≡ waitCell R N 0 → set (set (set t (birthCell R b) 0) (a + n) b) 11 (n + 1) ≡ freed R N t b
-unfolding freed
-freed-is R N t b n a e d =
+pub waited-is : (R N : ℕ) (t : List ℕ) (b n a : ℕ) → n ≡ getD t 11 0 → a ≡ waitCell R N 0 → set (set t (a + n) b) 11 (n + 1) ≡ waited R N t b
+unfolding waited
+waited-is R N t b n a e d =
     let f : a + n ≡ waitCell R N (getD t 11 0) = omega arith in
-    ap₂ (λ (i m : ℕ). set (set (set t (birthCell R b) 0) i b) 11 (m + 1)) f e
+    ap₂ (λ (i m : ℕ). set (set t i b) 11 (m + 1)) f e
+
+pub waited-length : (R N : ℕ) (t : List ℕ) (b : ℕ) → length (waited R N t b) ≡ length t
+unfolding waited
+waited-length R N t b =
+    let n : ℕ = getD t 11 0 in
+    length-set (set t (waitCell R N n) b) 11 (n + 1) ∙ length-set t (waitCell R N n) b
+
+-- a block that loses its birth, and waits
+pub freed-is : (R N : ℕ) (t : List ℕ) (b : ℕ) → waited R N (set t (birthCell R b) 0) b ≡ freed R N t b
+unfolding waited freed
+freed-is R N t b =
+    let x : List ℕ = set t (birthCell R b) 0 in
+    let e : getD x 11 0 ≡ getD t 11 0 = getD-set-other t (birthCell R b) 11 0 0 (λ d. let z : ⊥ = omega arith in z) in
+    ap (λ (n : ℕ). set (set x (waitCell R N n) b) 11 (n + 1)) e
+
+-- n is how many are queued, a where the queue begins, c where the births of queued blocks begin
+pub queued-is : (R N : ℕ) (t : List ℕ) (b n a c : ℕ) → n ≡ getD t 10 0 → a ≡ queueCell R N 0 → c ≡ queueBirthCell R N 0 →
+    set (set (set (set t (c + b) (getD t (birthCell R b) 0)) (birthCell R b) 0) (a + n) b) 10 (n + 1) ≡ queued R N t b
+unfolding queued
+queued-is R N t b n a c e d f =
+    let i : a + n ≡ queueCell R N (getD t 10 0) = omega arith in
+    let j : c + b ≡ queueBirthCell R N b = omega arith in
+    ap (λ (k : ℕ). set (set (set (set t k (getD t (birthCell R b) 0)) (birthCell R b) 0) (a + n) b) 10 (n + 1)) j ∙
+    ap₂ (λ (k m : ℕ). set (set (set (set t (queueBirthCell R N b) (getD t (birthCell R b) 0)) (birthCell R b) 0) k b) 10 (m + 1)) i e
 
 -- ── the word of the block ──
 
@@ -98,7 +123,9 @@ pub word-given : (T : State) (b : ℕ) → b < T .view .blocks → (v : ℕ) →
 unfolding freeWord available waits
 word-given T b inside v h =
     let f : ℕ → ℕ = T .view .birth in
-    word-without (λ c. eqb (f c) 0 && not (elem c (T .waiting))) (λ c. eqb (put f b v c) 0 && not (elem c (T .waiting))) (min 32 (T .view .blocks - 32 * (b / 32))) b (omega arith) (omega arith) (λ c.
+    let rest : ℕ → Bool = λ c. eqb (T .queue .birth c) 0 && not (elem c (T .waiting)) in
+    word-without (λ c. eqb (f c) 0 && rest c) (λ c. eqb (put f b v c) 0 && rest c) (min 32 (T .view .blocks - 32 * (b / 32))) b (omega arith)
+    (omega arith) (λ c.
     cases (same? c b)
-    (λ e. rw (put-at f b v c e, eq-eqb c b e, ne-eqb v 0 (λ z. let y : ⊥ = omega arith in y)) (sym (and-false (eqb (f c) 0 && not (elem c (T .waiting))))))
-    (λ d. rw (put-other f b v c d, ne-eqb c b d) (sym (and-true (eqb (f c) 0 && not (elem c (T .waiting)))))))
+    (λ e. rw (put-at f b v c e, eq-eqb c b e, ne-eqb v 0 (λ z. let y : ⊥ = omega arith in y)) (sym (and-false (eqb (f c) 0 && rest c))))
+    (λ d. rw (put-other f b v c d, ne-eqb c b d) (sym (and-true (eqb (f c) 0 && rest c)))))

@@ -1,24 +1,23 @@
 -- A block that is freed: no free word changes, since it was held and now waits; and where the lists of blocks that wait agree.
 use mathlib.Core.Path.{_≡_, refl, sym, ap, _∙_}
 use mathlib.Core.Logic.{inl, inr}
-use mathlib.Core.Bool.{Bool, true, false, not, _&&_, _||_}
+use mathlib.Core.Bool.{_||_}
 use mathlib.Core.List.{List, [], _∷_, _++_}
-use Prim.Native.Nat.{ℕ, zero, suc, _+_, _-_, _*_, _/_, _≤_, _<_, min}
+use Prim.Native.Nat.{ℕ, zero, suc, _+_, _-_, _*_, _<_, min}
 use native.Mathlib.Omega.{arith}
 use lib.Dec.{eqb}
 use lib.ListN.{length, getD, length-append}
-use borrow.Author.Tests.{eq-eqb, ne-eqb}
+use borrow.Author.Tests.{ne-eqb}
 use Rattle.answer.proofs.Cases.{cases, same?, lt?}
 use Rattle.geometry.specs.declared.Geometry.{Geometry}
 use Rattle.geometry.specs.Limits.{blocks}
-use Rattle.model.specs.Table.{put}
-use Rattle.model.specs.Lists.{In, elem}
+use Rattle.model.specs.Lists.{elem}
 use Rattle.model.specs.Held.{waits, available}
 use Rattle.model.specs.State.{State}
-use Rattle.model.specs.Layout.{waitCell, freeWord, stateOf, headerNumber, columnNumber, pageNumber, listNumber, waitNumber}
-use Rattle.model.proofs.TabFacts.{put-at, put-other}
+use Rattle.model.specs.Layout.{waitCell, freeWord, stateOf, headerNumber, columnNumber, pageNumber, listNumber, rowNumber}
+use Rattle.model.proofs.TabFacts.{put-other}
 use Rattle.model.proofs.LayoutFacts.{length-numbers, getD-numbers}
-use Rattle.model.proofs.StoredFacts.{wait-number, wait-other}
+use Rattle.model.proofs.StoredFacts.{row-number, row-other}
 use Rattle.model.proofs.Restored.{wait-said}
 use Rattle.model.proofs.BirthPut.{word-ext}
 use Rattle.model.proofs.ListFacts.{in-right}
@@ -42,12 +41,12 @@ waits-header g T t = refl
 
 -- to drop them all leaves their numbers
 pub wait-dropped : (g : Geometry) (t : List ℕ) (i : ℕ) →
-    waitNumber [] t (waitCell (g .records) (blocks g) 0) i ≡ waitNumber (stateOf g t .waiting) t (waitCell (g .records) (blocks g) 0) i
+    rowNumber [] t (waitCell (g .records) (blocks g) 0) i ≡ rowNumber (stateOf g t .waiting) t (waitCell (g .records) (blocks g) 0) i
 wait-dropped g t i =
-    wait-other [] t (waitCell (g .records) (blocks g) 0) i (cases (lt? i (waitCell (g .records) (blocks g) 0)) (λ l. inl l) (λ l. inr (omega arith))) ∙
+    row-other [] t (waitCell (g .records) (blocks g) 0) i (cases (lt? i (waitCell (g .records) (blocks g) 0)) (λ l. inl l) (λ l. inr (omega arith))) ∙
     sym (wait-said g t i)
 
--- ── one more that waits ──
+-- ── one more in a row of blocks ──
 
 pub joined-last : (l : List ℕ) (b : ℕ) → getD (l ++ (b ∷ [])) (length l) 0 ≡ b
 joined-last [] b = refl
@@ -59,21 +58,21 @@ joined-before (c ∷ l) b zero h = refl
 joined-before (c ∷ l) b (suc i) h = joined-before l b i (omega arith)
 
 -- every number but its own stays
-pub wait-joined : (l t : List ℕ) (a b i : ℕ) → (i ≡ a + length l → ⊥) → waitNumber (l ++ (b ∷ [])) t a i ≡ waitNumber l t a i
-wait-joined l t a b i n =
+pub row-joined : (l t : List ℕ) (a b i : ℕ) → (i ≡ a + length l → ⊥) → rowNumber (l ++ (b ∷ [])) t a i ≡ rowNumber l t a i
+row-joined l t a b i n =
     let len : length (l ++ (b ∷ [])) ≡ length l + 1 = length-append l (b ∷ []) in
     cases (lt? i a)
-    (λ h. wait-other (l ++ (b ∷ [])) t a i (inl h) ∙ sym (wait-other l t a i (inl h)))
+    (λ h. row-other (l ++ (b ∷ [])) t a i (inl h) ∙ sym (row-other l t a i (inl h)))
     (λ h. cases (lt? i (a + length l))
     (λ k.
     let e : i ≡ a + (i - a) = omega arith in
-    ap (waitNumber (l ++ (b ∷ [])) t a) e ∙ wait-number (l ++ (b ∷ [])) t a (i - a) (omega arith) ∙ joined-before l b (i - a) (omega arith) ∙
-    sym (ap (waitNumber l t a) e ∙ wait-number l t a (i - a) (omega arith)))
-    (λ k. wait-other (l ++ (b ∷ [])) t a i (inr (omega arith)) ∙ sym (wait-other l t a i (inr k))))
+    ap (rowNumber (l ++ (b ∷ [])) t a) e ∙ row-number (l ++ (b ∷ [])) t a (i - a) (omega arith) ∙ joined-before l b (i - a) (omega arith) ∙
+    sym (ap (rowNumber l t a) e ∙ row-number l t a (i - a) (omega arith)))
+    (λ k. row-other (l ++ (b ∷ [])) t a i (inr (omega arith)) ∙ sym (row-other l t a i (inr k))))
 
 -- ── the state with b freed ──
 
-elem-other : (l : List ℕ) (b c : ℕ) → (c ≡ b → ⊥) → elem c (l ++ (b ∷ [])) ≡ elem c l
+pub elem-other : (l : List ℕ) (b c : ℕ) → (c ≡ b → ⊥) → elem c (l ++ (b ∷ [])) ≡ elem c l
 unfolding elem
 elem-other [] b c n = rw (ne-eqb c b n)
 elem-other (d ∷ l) b c n = ap (λ t. eqb c d || t) (elem-other l b c n)

@@ -79,7 +79,8 @@ module _ (g : Geometry) (t₀ : List ℕ) (R : Ready g t₀) where
   pub waiting-low : (k b : ℕ) → k < length (stateOf g t₀ .waiting) → b ≡ getD (stateOf g t₀ .waiting) k 0 → b < blocks g
   waiting-low k b h e = omega (arith, waiting-in R (getD (stateOf g t₀ .waiting) k 0) (in-getD (stateOf g t₀ .waiting) k h))
 
-  pub raised-next : (k b : ℕ) (t : List ℕ) → Raised g t₀ k t → k < length (stateOf g t₀ .waiting) → b ≡ getD (stateOf g t₀ .waiting) k 0 → Raised g t₀ (suc k) (raised t b)
+  pub raised-next : (k b : ℕ) (t : List ℕ) → Raised g t₀ k t → k < length (stateOf g t₀ .waiting) → b ≡ getD (stateOf g t₀ .waiting) k 0 →
+      Raised g t₀ (suc k) (raised t b)
   unfolding raised
   raised-next k b t H h e =
       let a : ℕ = freeCell (b / 32) in
@@ -101,10 +102,13 @@ module _ (g : Geometry) (t₀ : List ℕ) (R : Ready g t₀) where
   may-all : (c : ℕ) → may g t₀ (length (stateOf g t₀ .waiting)) c ≡ available (synced (stateOf g t₀)) c
   unfolding may available waits elem
   may-all c =
-      ap (λ l. (eqb (stateOf g t₀ .view .birth c) 0 && not (elem c (stateOf g t₀ .waiting))) || elem c l) (take-whole (stateOf g t₀ .waiting)) ∙
-      cases (either (elem c (stateOf g t₀ .waiting)))
-      (λ y. rw (y, eq-eqb (stateOf g t₀ .view .birth c) 0 (R .waiting .unborn c (elem-in c (stateOf g t₀ .waiting) y))))
-      (λ n. rw n (or-false (eqb (stateOf g t₀ .view .birth c) 0 && true)))
+      let T : State = stateOf g t₀ in
+      ap (λ l. (eqb (T .view .birth c) 0 && (eqb (T .queue .birth c) 0 && not (elem c (T .waiting)))) || elem c l) (take-whole (T .waiting)) ∙
+      cases (either (elem c (T .waiting)))
+      (λ y.
+      let i = elem-in c (T .waiting) y in
+      rw (y, eq-eqb (T .view .birth c) 0 (R .waiting .unborn c i), eq-eqb (T .queue .birth c) 0 (R .waiting .unqueued c i)))
+      (λ n. rw n (or-false (eqb (T .view .birth c) 0 && (eqb (T .queue .birth c) 0 && true))))
 
   word-synced : (j : ℕ) → wordOf (may g t₀ (length (stateOf g t₀ .waiting))) (32 * j) (width g j) ≡ freeWord (synced (stateOf g t₀)) j
   unfolding freeWord stateOf viewOf
@@ -117,13 +121,15 @@ module _ (g : Geometry) (t₀ : List ℕ) (R : Ready g t₀) where
       let U : State = synced (stateOf g t₀) in
       let room = R .roomy .room in
       several g t₀ (R .roomy) (R .made) (R .free) (set t 11 0) U (λ i. NoWord i × (i ≡ 11 → ⊥)) (record {
-        header = λ i h p. header-same g U (stateOf g t₀) t₀ i (λ e. refl) (λ e. refl) (λ e. refl) (λ e. refl) (λ e. absurd (p .1 e)) (λ e. refl)
+        header = λ i h p. header-same g U (stateOf g t₀) t₀ i (λ e. refl) (λ e. refl) (λ e. refl) (λ e. refl) (λ e. refl) (λ e. absurd (p .1 e)) (λ e. refl)
             (λ l m. absurd (cases (p .0) (λ k. let y : ⊥ = omega arith in y) (λ k. let y : ⊥ = omega arith in y)));
         column = λ f s hf hs p. refl;
         page = λ s x hs hx p. refl;
         list = λ s i hs hi p. refl;
         birth = λ b hb p. refl;
         note = λ i l h p. refl;
+        queue = λ i l h p. refl;
+        queueBirth = λ b hb p. refl;
         wait = λ i l h p. wait-dropped g t₀ i;
       })
       (length-set t 11 0 ∙ H .long)

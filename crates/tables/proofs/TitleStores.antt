@@ -103,6 +103,8 @@ module _ (g : Geometry) (t : List ℕ) (roomy : Roomy g t) (made : MadeFor g t) 
         note = λ a l h p. note-same (g .records) (U .notes) (T .notes) t a (λ e. refl) (λ e. refl) (λ e.
             let n : (a - 768) / 40 ≡ i → ⊥ = λ d. cases p (λ q. let z : ⊥ = omega arith in z) (λ q. let z : ⊥ = omega arith in z) in
             title-same Y X t ((a - 768) / 40) ((a - 768) % 40) (owners _ n) (texts _ n));
+        queue = λ a l h p. refl;
+        queueBirth = λ b hb p. refl;
         wait = λ a l h p. refl;
       })
       len same

@@ -1,14 +1,15 @@
-// A block is given, freed, or released: its birth, its bit of the free words, and its place among those that wait.
+// A block is given, queued, freed, or released: its birth, its bit of the free words, and its place in the queue and among those that wait.
 ghost use mathlib.Core.Path.{_≡_};
 ghost use Prim.Native.Nat.{_<_, _≤_};
 ghost use lib.ListN.{length, getD};
 ghost use Rattle.geometry.specs.Limits.{Inside, blocks};
-ghost use Rattle.model.specs.Layout.{waitCell, stateOf, stored};
+ghost use Rattle.model.specs.Layout.{queueCell, queueBirthCell, waitCell, stateOf, stored};
 ghost use Rattle.model.specs.State.{synced};
 ghost use Rattle.tables.specs.Ready.{Roomy, Ready};
-ghost use Rattle.tables.specs.Births.{gave, freed, raised};
+ghost use Rattle.tables.specs.Births.{gave, queued, waited, freed, raised};
 use crate::cells::FREE;
 use crate::cells::PAGES;
+use crate::cells::QUEUED;
 use crate::cells::ROWS;
 use crate::cells::WAITS;
 use crate::find::wide;
@@ -25,6 +26,22 @@ pub fn give_block(t: &mut [u32], g: Geometry, b: usize, n: u32)
     t[FREE + (b >> 5)] = word;
 }
 
+// Where the queue begins: its blocks, in order.
+pub fn queue_at(g: Geometry) -> usize
+    requires { ⌜ Inside g ⌝ }
+    ensures { λ r. ⌜ r ≡ queueCell (g .records) (blocks g) 0 ⌝ }
+{
+    PAGES + ROWS * g.records + g.arenas * g.per
+}
+
+// Where the births of queued blocks begin: a number for each block, 0 where it is not queued.
+pub fn queue_births_at(g: Geometry) -> usize
+    requires { ⌜ Inside g ⌝ }
+    ensures { λ r. ⌜ r ≡ queueBirthCell (g .records) (blocks g) 0 ⌝ }
+{
+    PAGES + ROWS * g.records + 2 * (g.arenas * g.per)
+}
+
 // Where the list of the blocks that wait begins.
 pub fn waiting_at(g: Geometry) -> usize
     requires { ⌜ Inside g ⌝ }
@@ -33,15 +50,36 @@ pub fn waiting_at(g: Geometry) -> usize
     PAGES + ROWS * g.records + 3 * (g.arenas * g.per)
 }
 
-// Block b has no birth, and waits: it joins the list at its end. Its bit of the free words is 0, as it was while it was held.
+// Block b is on no page from now on, and is queued with its birth: it joins the queue at its end. Its bit of the free words is 0, as it was while it was on
+// a page.
+pub fn queue_block(t: &mut [u32], g: Geometry, b: usize)
+    requires { ⌜ Roomy g (now t) × (b < blocks g) × (getD (now t) 10 0 < blocks g) ⌝ }
+    ensures { λ _. ⌜ now (t .exit) ≡ queued (g .records) (blocks g) (now (t .entry)) b ⌝ }
+{
+    let n = wide(t[QUEUED]);
+    t[queue_births_at(g) + b] = t[PAGES + ROWS * g.records + b];
+    t[PAGES + ROWS * g.records + b] = 0;
+    t[queue_at(g) + n] = b as u32;
+    t[QUEUED] = (n + 1) as u32;
+}
+
+// Block b waits: it joins the list at its end. Its bit of the free words is 0, as it was while it was held.
+pub fn wait_block(t: &mut [u32], g: Geometry, b: usize)
+    requires { ⌜ Roomy g (now t) × (b < blocks g) × (getD (now t) 11 0 < blocks g) ⌝ }
+    ensures { λ _. ⌜ now (t .exit) ≡ waited (g .records) (blocks g) (now (t .entry)) b ⌝ }
+{
+    let n = wide(t[WAITS]);
+    t[waiting_at(g) + n] = b as u32;
+    t[WAITS] = (n + 1) as u32;
+}
+
+// Block b has no birth, and waits.
 pub fn free_block(t: &mut [u32], g: Geometry, b: usize)
     requires { ⌜ Roomy g (now t) × (b < blocks g) × (getD (now t) 11 0 < blocks g) ⌝ }
     ensures { λ _. ⌜ now (t .exit) ≡ freed (g .records) (blocks g) (now (t .entry)) b ⌝ }
 {
-    let n = wide(t[WAITS]);
     t[PAGES + ROWS * g.records + b] = 0;
-    t[waiting_at(g) + n] = b as u32;
-    t[WAITS] = (n + 1) as u32;
+    wait_block(t, g, b);
 }
 
 // Block b may be given from now on.

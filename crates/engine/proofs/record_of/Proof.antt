@@ -39,6 +39,9 @@ enum-known-c-7 c = search needs
 enum-known-c-8 : tie.Need-enum-known-c-8
 enum-known-c-8 c = search needs
 
+enum-told-5 : tie.Need-enum-told-5
+enum-told-5 c = search needs
+
 returns : tie.Need-returns
 returns c = rw (c .enum-told .given .1)
 
@@ -75,6 +78,9 @@ returns-11 c = rw (c .before .c7 .given .1)
 returns-12 : tie.Need-returns-12
 returns-12 c = rw (c .before .c8 .given .1)
 
+returns-13 : tie.Need-returns-13
+returns-13 c = rw (c .enum-told5 .given .1)
+
 pub record-of-spec : {M : Type 1} → statement M
 record-of-spec =
     tie.close
@@ -91,6 +97,7 @@ record-of-spec =
     enum-told-4
     enum-known-c-7
     enum-known-c-8
+    enum-told-5
     returns
     returns-2
     returns-3
@@ -102,4 +109,5 @@ record-of-spec =
     returns-9
     returns-10
     returns-11
-    returns-12)
+    returns-12
+    returns-13)

@@ -7,9 +7,7 @@ use Rattle.retaining.proofs.seal.Statement.{statement}
 use Rattle.retaining.proofs.seal.Tie as tie
 
 sealing-requires : tie.Need-sealing-requires
-sealing-requires c κs =
-    let start = c .before .before .before .before in
-    (start .pre .0, start .pre .3)
+sealing-requires c κs = search needs
 
 enum-known-verdict : tie.Need-enum-known-verdict
 enum-known-verdict c = search needs
@@ -21,7 +19,7 @@ add-wide : tie.Need-add-wide
 add-wide c =
     let at-told = c in
     let at-verdict = at-told .before .before .before in
-    let start = at-verdict .before .before .before .before .before in
+    let start = at-verdict .before .before .before .before in
     let verdict = at-verdict .sealing .ensures in
     let accepted = at-told .before .verdict2 .given .1 in
     omega (arith, Sealing.slot-below (start .pre .0) _ _ verdict _ _ accepted, start .pre .0 .roomy .inside .records-most)
@@ -30,7 +28,7 @@ mul-wide : tie.Need-mul-wide
 mul-wide c =
     let at-told = c in
     let at-verdict = at-told .before .before .before in
-    let start = at-verdict .before .before .before .before .before in
+    let start = at-verdict .before .before .before .before in
     let verdict = at-verdict .sealing .ensures in
     let accepted = at-told .before .verdict2 .given .1 in
     omega (arith, Sealing.slot-below (start .pre .0) _ _ verdict _ _ accepted, start .pre .0 .roomy .inside .records-most)
@@ -39,26 +37,26 @@ slice-read-wide : tie.Need-slice-read-wide
 slice-read-wide c =
     let at-told = c .before in
     let at-verdict = at-told .before .before .before in
-    let start = at-verdict .before .before .before .before .before in
+    let start = at-verdict .before .before .before .before in
     let verdict = at-verdict .sealing .ensures in
     let accepted = at-told .before .verdict2 .given .1 in
-    omega (arith, Sealing.slot-below (start .pre .0) _ _ verdict _ _ accepted, start .pre .0 .roomy .inside .records-most, start .pre .0 .roomy .room)
+    omega (arith, Sealing.slot-below (start .pre .0) _ _ verdict _ _ accepted, start .pre .0 .roomy .room, start .pre .0 .roomy .inside .records-most)
 
 wide-requires : tie.Need-wide-requires
 wide-requires c κs = search needs
 
 close-requires : tie.Need-close-requires
 close-requires c κs =
-    let at-told = c .before .before .before .before .before .before in
+    let at-window = c .before .before .before in
+    let at-told = at-window .before .before in
     let at-verdict = at-told .before .before .before in
-    let start = at-verdict .before .before .before .before .before in
+    let start = at-verdict .before .before .before .before in
     let verdict = at-verdict .sealing .ensures in
     let accepted = at-told .before .verdict2 .given .1 in (
       start .pre .0,
       start .pre .1,
-      start .pre .2,
-      Sealing.closes-so (start .pre .0) _ _ verdict _ _ accepted _ (c .before .before .before .before .wide .ensures),
-      omega (arith, c .before .before .before .if1 .taken),
+      Sealing.closes-so (start .pre .0) _ _ verdict _ _ accepted _ (at-window .wide .ensures),
+      omega (arith, c .before .before .if1 .taken),
     )
 
 same-length : tie.Need-same-length
@@ -67,64 +65,62 @@ same-length c = search needs
 same-length-2 : tie.Need-same-length-2
 same-length-2 c = search needs
 
-same-length-3 : tie.Need-same-length-3
-same-length-3 c = search needs
-
 returns : tie.Need-returns
 returns c =
-    let at-told = c .before .before .before .before .before .before .before .before .before .before .before .before .before in
+    let at-close = c .before .before .before .before in
+    let at-window = at-close .before .before .before .before in
+    let at-told = at-window .before .before in
     let at-verdict = at-told .before .before .before in
-    let start = at-verdict .before .before .before .before .before in
+    let start = at-verdict .before .before .before .before in
     let verdict = at-verdict .sealing .ensures in
     let accepted = at-told .before .verdict2 .given .1 in
-    let a = start .args in
-    let at-close = c .before .before .before .before .before .before in
-    Sealing.closed-left (start .pre .0) _ _ verdict _ _ accepted _ (at-close .before .before .before .before .before .wide .ensures)
-    _ _ (a .log .now) _ (a .out .now) _ (at-close .close .ensures)
+    Sealing.closed-left (start .pre .0) _ _ verdict _ _ accepted _ (at-window .wide .ensures) _ _ (start .args .out .now) _ (at-close .close .ensures)
 
 seal-at-requires : tie.Need-seal-at-requires
 seal-at-requires c κs =
-    let at-told = c .before .before .before .before in
+    let at-window = c .before .before in
+    let at-told = at-window .before .before in
     let at-verdict = at-told .before .before .before in
-    let start = at-verdict .before .before .before .before .before in
+    let start = at-verdict .before .before .before .before in
     let verdict = at-verdict .sealing .ensures in
     let accepted = at-told .before .verdict2 .given .1 in
-    let closes = Sealing.closes-so (start .pre .0) _ _ verdict _ _ accepted _ (c .before .before .wide .ensures) in
+    let closes = Sealing.closes-so (start .pre .0) _ _ verdict _ _ accepted _ (at-window .wide .ensures) in
     let needs = Closing.seal-needs (start .pre .0) _ _ _ closes in
     (start .pre .0, needs .0, needs .1, needs .2, needs .3, needs .4, needs .5)
 
 slice-write-out : tie.Need-slice-write-out
 slice-write-out c = search needs
 
-same-length-4 : tie.Need-same-length-4
-same-length-4 c = search needs
+same-length-3 : tie.Need-same-length-3
+same-length-3 c = search needs
 
 returns-2 : tie.Need-returns-2
 returns-2 c =
     let at-verdict = c .before .before .before in
-    let start = at-verdict .before .before .before .before .before in
-    Sealing.refused-left (start .pre .0) _ _ (at-verdict .sealing .ensures) _ (c .before .verdict .given .1) (start .args .log .now) (start .args .out .now)
+    let start = at-verdict .before .before .before .before in
+    Sealing.refused-left (start .pre .0) _ _ (at-verdict .sealing .ensures) _ (c .before .verdict .given .1) (start .args .out .now)
+
+same-length-4 : tie.Need-same-length-4
+same-length-4 c = search needs
 
 same-length-5 : tie.Need-same-length-5
 same-length-5 c = search needs
 
-same-length-6 : tie.Need-same-length-6
-same-length-6 c = search needs
-
 returns-3 : tie.Need-returns-3
 returns-3 c =
-    let at-told = c .before .before .before .before .before .before .before in
+    let at-seal = c .before .before in
+    let at-window = at-seal .before .before .before in
+    let at-told = at-window .before .before in
     let at-verdict = at-told .before .before .before in
-    let start = at-verdict .before .before .before .before .before in
+    let start = at-verdict .before .before .before .before in
     let verdict = at-verdict .sealing .ensures in
     let accepted = at-told .before .verdict2 .given .1 in
-    let a = start .args in
-    let at-seal = c .before .before in
+    let out = start .args .out .now in
     let made = at-seal .seal-at .ensures in
-    let window = at-seal .before .before .before .wide .ensures in
+    let window = at-window .wide .ensures in
     let closes = Sealing.closes-so (start .pre .0) _ _ verdict _ _ accepted _ window in
-    Sealing.closed-left (start .pre .0) _ _ verdict _ _ accepted _ window _ _ (a .log .now) _ (a .out .now) _
-    (Closing.bare-left (start .pre .0) _ _ _ closes _ (made .0) (at-seal .before .before .if1 .left) (a .out .now) (start .pre .2) _ (made .1) (a .log .now))
+    Sealing.closed-left (start .pre .0) _ _ verdict _ _ accepted _ window _ _ out _
+    (Closing.bare-left (start .pre .0) _ _ _ closes _ (made .0) (at-seal .before .before .if1 .left) out (start .pre .1) _ (made .1))
 
 pub seal-spec : {M : Type 1} → statement M
 seal-spec =
@@ -140,12 +136,11 @@ seal-spec =
     close-requires
     same-length
     same-length-2
-    same-length-3
     returns
     seal-at-requires
     slice-write-out
-    same-length-4
+    same-length-3
     returns-2
+    same-length-4
     same-length-5
-    same-length-6
     returns-3)

@@ -1,4 +1,4 @@
--- How many blocks are freed, on either way.
+-- How many blocks are to be queued, on either way.
 use native.Mathlib.Omega.{arith}
 use mathlib.Core.Path.{ap, _∙_}
 use Prim.Native.Nat.{_-_}

@@ -14,7 +14,9 @@ is-forked-requires : tie.Need-is-forked-requires
 is-forked-requires c κs = (c .before .before .pre .0 .roomy, omega arith)
 
 returns-2 : tie.Need-returns-2
-returns-2 c = Verdicts.has-fork _ _ _ _ (c .before .before .before .before .pre .1 .0) (c .before .before .if1 .left) _ (c .before .is-forked .ensures) (c .if2 .taken)
+returns-2 c =
+    Verdicts.has-fork _ _ _ _ (c .before .before .before .before .pre .1 .0) (c .before .before .if1 .left) _ (c .before .is-forked .ensures)
+    (c .if2 .taken)
 
 add-if3 : tie.Need-add-if3
 add-if3 c = omega arith
@@ -35,33 +37,14 @@ returns-3 c =
 follower-of-requires : tie.Need-follower-of-requires
 follower-of-requires c κs = (c .before .before .before .before .before .before .pre .0, omega arith)
 
-log-is-short-requires : tie.Need-log-is-short-requires
-log-is-short-requires c κs =
-    let at-if1 = c .before .before .before .before .before in
-    let start = at-if1 .before .before in (
-      start .pre .0,
-      omega (arith, start .pre .1 .1),
-      Verdicts.slot-live _ _ _ _ (start .pre .1 .0) (at-if1 .if1 .left) (start .pre .0),
-      c .follower-of .ensures .1,
-    )
-
 returns-4 : tie.Need-returns-4
 returns-4 c =
-    let at-if3 = c .before .before .before in
+    let at-if3 = c .before in
     let at-if2 = at-if3 .before .before in
     let at-if1 = at-if2 .before .before in
     let start = at-if1 .before .before in
-    Verdicts.too-few _ _ _ _ (start .pre .1 .0) (at-if1 .if1 .left) _ (at-if2 .before .is-forked .ensures) (at-if2 .if2 .left) (start .pre .1 .1)
-    (at-if3 .if3 .left) _ (c .before .before .follower-of .ensures .0) _ (c .before .log-is-short .ensures) (c .if4 .taken)
-
-returns-5 : tie.Need-returns-5
-returns-5 c =
-    let at-if3 = c .before .before .before in
-    let at-if2 = at-if3 .before .before in
-    let at-if1 = at-if2 .before .before in
-    let start = at-if1 .before .before in
-    Verdicts.enough _ _ _ _ (start .pre .1 .0) (at-if1 .if1 .left) _ (at-if2 .before .is-forked .ensures) (at-if2 .if2 .left) (start .pre .1 .1)
-    (at-if3 .if3 .left) _ (c .before .before .follower-of .ensures .0) _ (c .before .log-is-short .ensures) (c .if4 .left)
+    Verdicts.goes _ _ _ _ (start .pre .1 .0) (at-if1 .if1 .left) _ (at-if2 .before .is-forked .ensures) (at-if2 .if2 .left) (start .pre .1 .1)
+    (at-if3 .if3 .left) _ (c .follower-of .ensures .0)
 
 pub delete-verdict-spec : {M : Type 1} → statement M
 delete-verdict-spec =
@@ -76,6 +59,4 @@ delete-verdict-spec =
     shared-slice-read-if3
     returns-3
     follower-of-requires
-    log-is-short-requires
-    returns-4
-    returns-5)
+    returns-4)

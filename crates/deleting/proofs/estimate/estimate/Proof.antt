@@ -20,7 +20,8 @@ is-forked-requires c κs = search needs
 
 returns-2 : tie.Need-returns-2
 returns-2 c =
-    Estimating.has-a-fork _ _ _ _ _ (c .before .before .before .before .before .pre .2 .0) (c .before .before .if1 .left) _ (c .before .is-forked .ensures) (c .if2 .taken)
+    Estimating.has-a-fork _ _ _ _ _ (c .before .before .before .before .before .pre .2 .0) (c .before .before .if1 .left) _
+    (c .before .is-forked .ensures) (c .if2 .taken)
 
 add-if3 : tie.Need-add-if3
 add-if3 c = omega arith
@@ -61,12 +62,6 @@ cast-out c =
 slice-write-out : tie.Need-slice-write-out
 slice-write-out c = search needs
 
-cast-out-2 : tie.Need-cast-out-2
-cast-out-2 c =
-    let start = c .before .before .before .before .before .before .before .before .before in
-    let most = Calling.deleted-most (start .args .g) (start .args .t .now) (start .args .link - 1) (start .pre .0) (c .before .follower-of .result) in
-    omega (arith, c .count-frees .ensures, most, start .pre .0 .roomy .inside .pages-most)
-
 slice-write-out-2 : tie.Need-slice-write-out-2
 slice-write-out-2 c =
     let start = c .before .before .before .before .before .before .before .before .before in
@@ -82,14 +77,14 @@ shards-of-requires c κs =
       c .before .follower-of .ensures .1,
     )
 
-cast-out-3 : tie.Need-cast-out-3
-cast-out-3 c = search needs
+cast-out-2 : tie.Need-cast-out-2
+cast-out-2 c = search needs
 
 slice-write-out-3 : tie.Need-slice-write-out-3
 slice-write-out-3 c =
     let start = c .before .before .before .before .before .before .before .before .before .before in
     let blocks = c .before .count-frees .result in
-    omega (arith, start .pre .1, length-set (start .args .out .now) 0 blocks, length-set (set (start .args .out .now) 0 blocks) 1 blocks)
+    omega (arith, start .pre .1, length-set (start .args .out .now) 0 blocks, length-set (set (start .args .out .now) 0 blocks) 1 0)
 
 same-length : tie.Need-same-length
 same-length c = search needs
@@ -119,10 +114,9 @@ estimate-spec =
     count-frees-requires
     cast-out
     slice-write-out
-    cast-out-2
     slice-write-out-2
     shards-of-requires
-    cast-out-3
+    cast-out-2
     slice-write-out-3
     same-length
     returns-4)

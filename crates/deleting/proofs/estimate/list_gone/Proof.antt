@@ -1,4 +1,4 @@
--- The blocks of a deadlist that would be freed, listed.
+-- The blocks of a deadlist that would be queued, listed.
 use native.Mathlib.Omega.{arith}
 use borrow.Author.Needs.{needs}
 use mathlib.Core.Path.{_≡_, refl, sym, ap, _∙_}

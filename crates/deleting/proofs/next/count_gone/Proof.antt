@@ -1,4 +1,4 @@
--- The blocks that are freed, counted along the deadlist.
+-- The blocks that leave it, counted along the deadlist.
 use native.Mathlib.Omega.{arith}
 use borrow.Author.Needs.{needs}
 use mathlib.Core.Path.{_≡_, refl, sym, ap, _∙_}

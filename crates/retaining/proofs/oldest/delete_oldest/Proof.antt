@@ -2,32 +2,30 @@
 use borrow.Author.Needs.{needs}
 use native.Mathlib.Omega.{arith}
 use mathlib.Core.Path.{_≡_, refl, sym, _∙_}
-use Prim.Native.Nat.{suc, _-_, _*_, _<_}
+use Prim.Native.Nat.{suc, _-_, _<_}
 use lib.ListN.{getD}
 use Rattle.retaining.proofs.Lining
-use Rattle.retaining.proofs.Parts
 use Rattle.retaining.proofs.Trimming
 use Rattle.retaining.proofs.Trimming.{Walk}
 use Rattle.retaining.proofs.oldest.delete_oldest.Statement.{statement}
 use Rattle.retaining.proofs.oldest.delete_oldest.Tie as tie
 
 abbrev Inv-loop : tie.InvT-loop
-Inv-loop g t₀ out₀ line count most done₀ left₀ i₀ t out done left i =
-    (i < count) × Walk g t₀ out₀ line (getD line 0 0) most t out done left i
+Inv-loop g t₀ line count most left₀ i₀ t left i = (i < count) × Walk g t₀ line (getD line 0 0) most t left i
 
 abbrev μ-loop : tie.MeasureT-loop
-μ-loop g t₀ out₀ line count most done₀ left₀ i₀ t out done left i = i
+μ-loop g t₀ line count most left₀ i₀ t left i = i
 
 sub-i : tie.Need-sub-i Inv-loop μ-loop
-sub-i c = omega (arith, Lining.lined-some (c .before .before .pre .1))
+sub-i c = omega (arith, Lining.lined-some (c .before .pre .1))
 
 loop-holds : tie.Need-loop-holds Inv-loop μ-loop
 loop-holds c =
-    let start = c .before .before in
+    let start = c .before in
     let a = start .args in
     let some = Lining.lined-some (start .pre .1) in (
       omega arith,
-      Trimming.walk-first (start .pre .0) _ _ _ (a .most) _ (start .pre .1) _ (let z : suc (a .count - 1) ≡ a .count = omega arith in z),
+      Trimming.walk-first (start .pre .0) _ _ (a .most) _ (start .pre .1) _ (let z : suc (a .count - 1) ≡ a .count = omega arith in z),
     )
 
 mul-wide : tie.Need-mul-wide Inv-loop μ-loop
@@ -42,36 +40,18 @@ wide-requires c κs = search needs
 same-length : tie.Need-same-length Inv-loop μ-loop
 same-length c = c .before .before .before .before .loop .inv .1 .same
 
-same-length-2 : tie.Need-same-length-2 Inv-loop μ-loop
-same-length-2 c = c .before .before .before .before .loop .inv .1 .long
-
 returns : tie.Need-returns Inv-loop μ-loop
 returns c =
     let turn = c .before .before .before .before .loop in
-    let start = c .before .before .before .before .before .before .before in
-    Trimming.walk-none (start .pre .0) _ _ _ (start .args .most) _ _ (turn .done) (turn .left) (turn .i) (turn .inv .1) (c .if1 .taken)
+    let start = c .before .before .before .before .before .before in
+    Trimming.walk-none (start .pre .0) _ _ (start .args .most) _ (turn .left) (turn .i) (turn .inv .1) (c .if1 .taken)
 
 is-bare-requires : tie.Need-is-bare-requires Inv-loop μ-loop
 is-bare-requires c κs =
     let turn = c .before .before .before .before .before .loop in
-    let start = c .before .before .before .before .before .before .before .before in
-    let slot = Trimming.walk-slot (start .pre .0) _ _ _ (start .args .most) _ _ (turn .done) (turn .left) (turn .i) (turn .inv .1) in
+    let start = c .before .before .before .before .before .before .before in
+    let slot = Trimming.walk-slot (start .pre .0) _ _ (start .args .most) _ (turn .left) (turn .i) (turn .inv .1) in
     (turn .inv .1 .ready .roomy, omega (arith, c .before .before .wide .ensures, slot))
-
-mul-at : tie.Need-mul-at Inv-loop μ-loop
-mul-at c = search needs
-
-mul-delete-record : tie.Need-mul-delete-record Inv-loop μ-loop
-mul-delete-record c = search needs
-
-sub-delete-record : tie.Need-sub-delete-record Inv-loop μ-loop
-sub-delete-record c = search needs
-
-part-delete-record-start : tie.Need-part-delete-record-start Inv-loop μ-loop
-part-delete-record-start c = search needs
-
-part-delete-record-end : tie.Need-part-delete-record-end Inv-loop μ-loop
-part-delete-record-end c = search needs
 
 sub-wide : tie.Need-sub-wide Inv-loop μ-loop
 sub-wide c = search needs
@@ -88,51 +68,33 @@ wide-requires-2 c κs = search needs
 add-delete-record : tie.Need-add-delete-record Inv-loop μ-loop
 add-delete-record c =
     let at-wide2 = c in
-    let at-bare = at-wide2 .before .before .before .before .before in
+    let at-bare = at-wide2 .before .before .before .before in
     let at-wide = at-bare .before .before .before in
     let at-test = at-wide .before .before in
     let turn = at-test .before .loop in
-    let start = at-test .before .before .before .before in
+    let start = at-test .before .before .before in
     let some = (let z : 0 < turn .left = omega (arith, at-bare .before .before .if1 .left) in z) in
-    let bare = sym (at-bare .is-bare .ensures) ∙ at-wide2 .before .before .before .before .if2 .taken in
-    let slot = Trimming.turn-slot (start .pre .0) _ _ _ (start .args .most) _ _ (turn .done) (turn .left) (turn .i) (turn .inv .1)
+    let bare = sym (at-bare .is-bare .ensures) ∙ at-wide2 .before .before .before .if2 .taken in
+    let slot = Trimming.turn-slot (start .pre .0) _ _ (start .args .most) _ (turn .left) (turn .i) (turn .inv .1)
     (at-test .loop-test .taken) some _ _ (at-wide .wide .ensures) (at-wide2 .wide2 .ensures) bare in
     omega (arith, start .pre .0 .roomy .inside .records-most)
 
 delete-record-requires : tie.Need-delete-record-requires Inv-loop μ-loop
 delete-record-requires c κs =
     let at-wide2 = c in
-    let at-bare = at-wide2 .before .before .before .before .before in
+    let at-bare = at-wide2 .before .before .before .before in
     let at-wide = at-bare .before .before .before in
     let at-test = at-wide .before .before in
     let turn = at-test .before .loop in
-    let start = at-test .before .before .before .before in
+    let start = at-test .before .before .before in
     let some = (let z : 0 < turn .left = omega (arith, at-bare .before .before .if1 .left) in z) in
-    let bare = sym (at-bare .is-bare .ensures) ∙ at-wide2 .before .before .before .before .if2 .taken in
-    let room = Trimming.turn-room (start .pre .0) _ _ _ (start .args .most) _ _ (turn .done) (turn .left) (turn .i) (turn .inv .1)
-    (at-test .loop-test .taken) some _ _ (at-wide .wide .ensures) (at-wide2 .wide2 .ensures) bare (start .pre .2) in
-    let part = Parts.part-length (turn .out) (2 * turn .done) (omega arith) in (
+    let bare = sym (at-bare .is-bare .ensures) ∙ at-wide2 .before .before .before .if2 .taken in (
       turn .inv .1 .ready,
-      omega arith,
-      Trimming.turn-asks (start .pre .0) _ _ _ (start .args .most) _ _ (turn .done) (turn .left) (turn .i) (turn .inv .1)
+      Trimming.turn-asks (start .pre .0) _ _ (start .args .most) _ (turn .left) (turn .i) (turn .inv .1)
           (at-test .loop-test .taken) some _ _ (at-wide .wide .ensures) (at-wide2 .wide2 .ensures) bare,
-      Trimming.turn-follower (start .pre .0) _ _ _ (start .args .most) _ _ (turn .done) (turn .left) (turn .i) (turn .inv .1)
+      Trimming.turn-follower (start .pre .0) _ _ (start .args .most) _ (turn .left) (turn .i) (turn .inv .1)
           (at-test .loop-test .taken) some _ _ (at-wide .wide .ensures) (at-wide2 .wide2 .ensures) bare,
     )
-
-add-done : tie.Need-add-done Inv-loop μ-loop
-add-done c =
-    let at-wide2 = c .before .before .before .before .before in
-    let at-bare = at-wide2 .before .before .before .before .before in
-    let at-wide = at-bare .before .before .before in
-    let at-test = at-wide .before .before in
-    let turn = at-test .before .loop in
-    let start = at-test .before .before .before .before in
-    let some = (let z : 0 < turn .left = omega (arith, at-bare .before .before .if1 .left) in z) in
-    let bare = sym (at-bare .is-bare .ensures) ∙ at-wide2 .before .before .before .before .if2 .taken in
-    let room = Trimming.turn-room (start .pre .0) _ _ _ (start .args .most) _ _ (turn .done) (turn .left) (turn .i) (turn .inv .1)
-    (at-test .loop-test .taken) some _ _ (at-wide .wide .ensures) (at-wide2 .wide2 .ensures) bare (start .pre .2) in
-    omega (arith, c .before .before .before .before .delete-record .ensures .0)
 
 sub-left : tie.Need-sub-left Inv-loop μ-loop
 sub-left c = search needs
@@ -145,19 +107,17 @@ loop-less c = search needs
 
 loop-again : tie.Need-loop-again Inv-loop μ-loop
 loop-again c =
-    let at-wide2 = c .before .before .before .before .before in
-    let at-bare = at-wide2 .before .before .before .before .before in
+    let at-wide2 = c .before .before .before in
+    let at-bare = at-wide2 .before .before .before .before in
     let at-wide = at-bare .before .before .before in
     let at-test = at-wide .before .before in
     let turn = at-test .before .loop in
-    let start = at-test .before .before .before .before in
+    let start = at-test .before .before .before in
     let some = (let z : 0 < turn .left = omega (arith, at-bare .before .before .if1 .left) in z) in
-    let bare = sym (at-bare .is-bare .ensures) ∙ at-wide2 .before .before .before .before .if2 .taken in
-    let (counted, (deleted, freed)) = c .before .before .before .before .delete-record .ensures in (
+    let bare = sym (at-bare .is-bare .ensures) ∙ at-wide2 .before .before .before .if2 .taken in (
       omega arith,
-      Trimming.walk-goes (start .pre .0) _ _ _ (start .args .most) _ _ (turn .done) (turn .left) (turn .i) (turn .inv .1)
-          (at-test .loop-test .taken) some _ _ (at-wide .wide .ensures) (at-wide2 .wide2 .ensures) bare
-          _ deleted _ counted _ freed (start .pre .2),
+      Trimming.walk-goes (start .pre .0) _ _ (start .args .most) _ (turn .left) (turn .i) (turn .inv .1)
+          (at-test .loop-test .taken) some _ _ (at-wide .wide .ensures) (at-wide2 .wide2 .ensures) bare _ (c .before .before .delete-record .ensures),
     )
 
 sub-i-3 : tie.Need-sub-i-3 Inv-loop μ-loop
@@ -171,25 +131,22 @@ loop-again-2 c =
     let at-wide = c .before .before .before .before in
     let at-test = at-wide .before .before in
     let turn = at-test .before .loop in
-    let start = at-test .before .before .before .before in
+    let start = at-test .before .before .before in
     let some = (let z : 0 < turn .left = omega arith in z) in
-    let named = sym (c .before .is-bare .ensures) ∙ c .if2 .left in (
+    let stays = sym (c .before .is-bare .ensures) ∙ c .if2 .left in (
       omega arith,
-      Trimming.walk-stays (start .pre .0) _ _ _ (start .args .most) _ _ (turn .done) (turn .left) (turn .i) (turn .inv .1)
-          (at-test .loop-test .taken) some _ _ (at-wide .wide .ensures) refl named,
+      Trimming.walk-stays (start .pre .0) _ _ (start .args .most) _ (turn .left) (turn .i) (turn .inv .1)
+          (at-test .loop-test .taken) some _ _ (at-wide .wide .ensures) refl stays,
     )
 
-same-length-3 : tie.Need-same-length-3 Inv-loop μ-loop
-same-length-3 c = c .before .loop .inv .1 .same
-
-same-length-4 : tie.Need-same-length-4 Inv-loop μ-loop
-same-length-4 c = c .before .loop .inv .1 .long
+same-length-2 : tie.Need-same-length-2 Inv-loop μ-loop
+same-length-2 c = c .before .loop .inv .1 .same
 
 returns-2 : tie.Need-returns-2 Inv-loop μ-loop
 returns-2 c =
     let turn = c .before .loop in
-    let start = c .before .before .before .before in
-    Trimming.walk-last (start .pre .0) _ _ _ (start .args .most) _ _ (turn .done) (turn .left) (turn .i) (turn .inv .1) (c .loop-test .left)
+    let start = c .before .before .before in
+    Trimming.walk-last (start .pre .0) _ _ (start .args .most) _ (turn .left) (turn .i) (turn .inv .1) (c .loop-test .left)
 
 pub delete-oldest-spec : {M : Type 1} → statement M
 delete-oldest-spec =
@@ -203,21 +160,14 @@ delete-oldest-spec =
     element-copy-out-wide
     wide-requires
     same-length
-    same-length-2
     returns
     is-bare-requires
-    mul-at
-    mul-delete-record
-    sub-delete-record
-    part-delete-record-start
-    part-delete-record-end
     sub-wide
     mul-wide-2
     element-copy-out-wide-2
     wide-requires-2
     add-delete-record
     delete-record-requires
-    add-done
     sub-left
     sub-i-2
     loop-less
@@ -225,6 +175,5 @@ delete-oldest-spec =
     sub-i-3
     loop-less-2
     loop-again-2
-    same-length-3
-    same-length-4
+    same-length-2
     returns-2)

@@ -22,7 +22,11 @@ unfolding made callIn callOf
 returns-4 c = rw (c .match .keys4)
 
 returns-5 : tie.Need-returns-5
-returns-5 c = no-call _ (_ ∷ []) (c .match .rest)
+unfolding made callIn callOf
+returns-5 c = rw (c .match .keys5)
+
+returns-6 : tie.Need-returns-6
+returns-6 c = no-call _ (_ ∷ []) (c .match .rest)
 
 pub one-of-spec : {M : Type 1} → statement M
-one-of-spec = tie.close (tie.spec returns returns-2 returns-3 returns-4 returns-5)
+one-of-spec = tie.close (tie.spec returns returns-2 returns-3 returns-4 returns-5 returns-6)

@@ -23,9 +23,6 @@ enum-told-3 c = search needs
 enum-told-4 : tie.Need-enum-told-4
 enum-told-4 c = search needs
 
-enum-told-5 : tie.Need-enum-told-5
-enum-told-5 c = search needs
-
 returns-2 : tie.Need-returns-2
 unfolding spellingOf
 returns-2 c = rw (c .before .before .before .says .given .1, c .enum-told .given .1)
@@ -43,11 +40,7 @@ unfolding spellingOf
 returns-5 c = rw (c .before .before .before .says .given .1, c .enum-told4 .given .1)
 
 returns-6 : tie.Need-returns-6
-unfolding spellingOf
-returns-6 c = rw (c .before .before .before .says .given .1, c .enum-told5 .given .1)
-
-returns-7 : tie.Need-returns-7
-returns-7 c = spelling-other (c .before .before .before .before .args .says) _ (c .before .before .says .given .1) (c .match2 .keys6)
+returns-6 c = spelling-other (c .before .before .before .before .args .says) _ (c .before .before .says .given .1) (c .match2 .keys5)
 
 pub spelling-of-spec : {M : Type 1} → statement M
 spelling-of-spec =
@@ -59,10 +52,8 @@ spelling-of-spec =
     enum-told-2
     enum-told-3
     enum-told-4
-    enum-told-5
     returns-2
     returns-3
     returns-4
     returns-5
-    returns-6
-    returns-7)
+    returns-6)

@@ -1,11 +1,11 @@
--- `births_agree`: so far they agree just where the blocks before b are marked where they are held.
+-- `births_agree`: so far they agree just where the blocks before b are marked where they have a birth.
 use native.Mathlib.Omega.{arith}
 use borrow.Author.Needs.{needs}
 use mathlib.Core.Path.{_≡_, sym}
 use Prim.Native.Nat.{_≤_, _-_}
 use Rattle.geometry.specs.Limits.{blocks}
 use Rattle.log.specs.Marks.{heldIn}
-use Rattle.model.specs.Held.{held}
+use Rattle.model.specs.Held.{onPages}
 use Rattle.model.specs.Layout.{viewOf}
 use Rattle.model.specs.Check.{same}
 use Rattle.model.specs.Table.{all}
@@ -15,7 +15,7 @@ use Rattle.soundness.proofs.held.births_agree.Statement.{statement}
 use Rattle.soundness.proofs.held.births_agree.Tie as tie
 
 abbrev Inv-loop : tie.InvT-loop
-Inv-loop g t marks agree₀ b₀ agree b = (b ≤ blocks g) × (agree ≡ all b (λ b. same (heldIn marks b) (held (viewOf g t) b)))
+Inv-loop g t marks agree₀ b₀ agree b = (b ≤ blocks g) × (agree ≡ all b (λ b. same (heldIn marks b) (onPages (viewOf g t) b)))
 
 abbrev μ-loop : tie.MeasureT-loop
 μ-loop g t marks agree₀ b₀ agree b = blocks g - b
@@ -52,8 +52,11 @@ loop-less c = omega arith
 
 loop-again : tie.Need-loop-again Inv-loop μ-loop
 loop-again c =
-    let a = c .before .before .before .before .before .before .args in
-    (omega arith, join-step _ _ (c .before .before .before .before .before .loop .inv .1) (same-is (a .g) (a .t .now) (a .marks .now) _ (c .before .before .before .if1 .taken)))
+    let a = c .before .before .before .before .before .before .args in (
+      omega arith,
+      join-step _ _ (c .before .before .before .before .before .loop .inv .1)
+          (same-is (a .g) (a .t .now) (a .marks .now) _ (c .before .before .before .if1 .taken)),
+    )
 
 returns : tie.Need-returns Inv-loop μ-loop
 returns c = join-end _ _ _ (c .before .before .loop .inv .0) (c .if1 .left) (c .before .before .loop .inv .1)

@@ -4,7 +4,7 @@ use Prim.Native.Nat.{_*_}
 use native.Mathlib.Omega.{arith}
 use lib.Seq.{length-take-le}
 use borrow.Author.Needs.{needs}
-use Rattle.soundness.proofs.Clauses.{births-are}
+use Rattle.soundness.proofs.Clauses.{held-are}
 use Rattle.soundness.proofs.Whole.{log-unread, log-read}
 use Rattle.soundness.proofs.held.log_holds.Statement.{statement}
 use Rattle.soundness.proofs.held.log_holds.Tie as tie
@@ -16,7 +16,10 @@ mul-end : tie.Need-mul-end
 mul-end c = search needs
 
 slice-aggregate-read-log : tie.Need-slice-aggregate-read-log
-slice-aggregate-read-log c = sym (length-take-le (8 * c .before .header-number .result) (c .before .before .before .before .args .log .now) (omega (arith, c .before .header-number .ensures, c .before .before .before .before .pre .1, c .before .before .before .before .pre .2)))
+slice-aggregate-read-log c =
+    let at-number = c .before in
+    let d = at-number .before .before .before in
+    sym (length-take-le (8 * at-number .header-number .result) (d .args .log .now) (omega (arith, at-number .header-number .ensures, d .pre .1, d .pre .2)))
 
 read-log-requires : tie.Need-read-log-requires
 read-log-requires c κs = search needs
@@ -37,7 +40,7 @@ returns-2 c =
     let at-header-number = at-read-log .before .before in
     let d = at-header-number .before .before .before in
     log-read _ _ _ (at-header-number .header-number .ensures) (at-read-log .read-log .ensures) (at-if1 .if1 .left)
-    (c .marks-agree .ensures ∙ births-are (d .args .g) (d .args .t .now) _ (d .args .own .now) (d .pre .3))
+    (c .marks-agree .ensures ∙ held-are (d .args .g) (d .args .t .now) _ (d .args .own .now) (d .pre .3))
 
 pub log-holds-spec : {M : Type 1} → statement M
 log-holds-spec =

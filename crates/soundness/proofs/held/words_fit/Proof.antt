@@ -3,7 +3,8 @@ use borrow.Author.Needs.{needs}
 use mathlib.Core.Path.{sym}
 use mir.Facts.{fits-lt-pow}
 use native.Mathlib.Omega.{arith}
-use Rattle.soundness.proofs.Free.{copy-long, births-long, after-long, fit-many, fit-fails, fit-is}
+use Rattle.soundness.proofs.Queued.{queue-short}
+use Rattle.soundness.proofs.Free.{copy-long, births-long, fit-many, fit-fails, after-long, end-long, fit-stops, fit-is}
 use Rattle.soundness.proofs.held.words_fit.Statement.{statement}
 use Rattle.soundness.proofs.held.words_fit.Tie as tie
 
@@ -15,24 +16,66 @@ mul-if1 c = search needs
 
 returns : tie.Need-returns
 returns c =
-    let d = c .before .before .before .before in
-    fit-many (d .args .g) (d .args .t .now) (d .pre) (c .before .before .header-number .ensures) (c .if1 .taken)
+    let at-number = c .before .before in
+    let d = at-number .before .before in
+    fit-many (d .args .g) (d .args .t .now) (d .pre .0) (d .pre .1) (λ k. fits-lt-pow (at-number .before .shared-slice-known .given k))
+    (at-number .header-number .ensures) (c .if1 .taken)
 
 copy-words-requires : tie.Need-copy-words-requires
 copy-words-requires c κs = search needs
 
-set-waiting-requires : tie.Need-set-waiting-requires
-set-waiting-requires c κs =
-    let d = c .before .before .before .before .before .before .before in
-    (d .pre, omega (arith, c .before .before .before .if1 .left), copy-long (d .args .g) (d .args .t .now) (d .pre) (c .before .copy-words .ensures))
+waiting-at-requires : tie.Need-waiting-at-requires
+waiting-at-requires c κs = search needs
+
+set-listed-requires : tie.Need-set-listed-requires
+set-listed-requires c κs =
+    let at-copy = c .before .before in
+    let at-if1 = at-copy .before .before in
+    let d = at-if1 .before .before .before .before in
+    let size = copy-long (d .args .g) (d .args .t .now) (d .pre .0) (at-copy .copy-words .ensures) in
+    (d .pre .0, omega (arith, c .waiting-at .ensures, at-if1 .if1 .left, d .pre .0 .room), size)
 
 returns-2 : tie.Need-returns-2
 returns-2 c =
-    let at-copy = c .before .before .before in
+    let at-set = c .before in
+    let at-copy = at-set .before .before .before in
     let at-number = at-copy .before .before .before .before in
     let d = at-number .before .before in
-    fit-fails (d .args .g) (d .args .t .now) (d .pre) (at-number .header-number .ensures) (at-copy .copy-words .ensures) (c .before .set-waiting .ensures)
-    (λ k. fits-lt-pow (at-number .before .shared-slice-known .given k)) (c .if2 .taken)
+    fit-fails (d .args .g) (d .args .t .now) (d .pre .0) (d .pre .1) (λ k. fits-lt-pow (at-number .before .shared-slice-known .given k))
+    (at-number .header-number .ensures) (at-copy .copy-words .ensures) (at-set .before .waiting-at .ensures) (at-set .set-listed .ensures) (c .if2 .taken)
+
+queue-at-requires : tie.Need-queue-at-requires
+queue-at-requires c κs = search needs
+
+header-number-requires-2 : tie.Need-header-number-requires-2
+header-number-requires-2 c κs = search needs
+
+set-listed-requires-2 : tie.Need-set-listed-requires-2
+set-listed-requires-2 c κs =
+    let at-if2 = c .before .before .before in
+    let at-set = at-if2 .before in
+    let at-copy = at-set .before .before .before in
+    let at-number = at-copy .before .before .before .before in
+    let d = at-number .before .before in (
+      d .pre .0,
+      omega (arith, c .before .queue-at .ensures, c .header-number2 .ensures, queue-short (d .args .g) (d .args .t .now) (d .pre .1), d .pre .0 .room),
+      after-long (d .args .g) (d .args .t .now) (d .pre .0) (d .pre .1) (λ k. fits-lt-pow (at-number .before .shared-slice-known .given k))
+          (at-number .header-number .ensures) (at-copy .copy-words .ensures) (at-set .before .waiting-at .ensures) (at-set .set-listed .ensures)
+          (at-if2 .if2 .left),
+    )
+
+returns-3 : tie.Need-returns-3
+returns-3 c =
+    let at-more = c .before in
+    let at-queue = at-more .before .before in
+    let at-if2 = at-queue .before .before in
+    let at-set = at-if2 .before in
+    let at-copy = at-set .before .before .before in
+    let at-number = at-copy .before .before .before .before in
+    let d = at-number .before .before in
+    fit-stops (d .args .g) (d .args .t .now) (d .pre .0) (d .pre .1) (λ k. fits-lt-pow (at-number .before .shared-slice-known .given k))
+    (at-number .header-number .ensures) (at-copy .copy-words .ensures) (at-set .before .waiting-at .ensures) (at-set .set-listed .ensures) (at-if2 .if2 .left)
+    (at-more .before .header-number2 .ensures) (at-queue .queue-at .ensures) (at-more .set-listed2 .ensures) (c .if3 .taken)
 
 mul-births : tie.Need-mul-births
 mul-births c = search needs
@@ -42,12 +85,17 @@ add-births c = search needs
 
 slice-aggregate-words-agree : tie.Need-slice-aggregate-words-agree
 slice-aggregate-words-agree c =
-    let at-if2 = c .before .before in
-    let at-copy = at-if2 .before .before .before in
+    let at-if3 = c .before .before in
+    let at-more = at-if3 .before in
+    let at-queue = at-more .before .before in
+    let at-if2 = at-queue .before .before in
+    let at-set = at-if2 .before in
+    let at-copy = at-set .before .before .before in
     let at-number = at-copy .before .before .before .before in
     let d = at-number .before .before in
-    sym (after-long (d .args .g) (d .args .t .now) (d .pre) (at-number .header-number .ensures) (at-copy .copy-words .ensures)
-    (at-if2 .before .set-waiting .ensures) (at-if2 .if2 .left))
+    sym (end-long (d .args .g) (d .args .t .now) (d .pre .0) (d .pre .1) (λ k. fits-lt-pow (at-number .before .shared-slice-known .given k))
+    (at-number .header-number .ensures) (at-copy .copy-words .ensures) (at-set .before .waiting-at .ensures) (at-set .set-listed .ensures) (at-if2 .if2 .left)
+    (at-more .before .header-number2 .ensures) (at-queue .queue-at .ensures) (at-more .set-listed2 .ensures) (at-if3 .if3 .left))
 
 mul-words-agree : tie.Need-mul-words-agree
 mul-words-agree c = search needs
@@ -66,28 +114,39 @@ mul-words-agree-2 c = search needs
 
 words-agree-requires : tie.Need-words-agree-requires
 words-agree-requires c κs =
-    let at-if2 = c .before .before .before .before in
-    let at-copy = at-if2 .before .before .before in
+    let at-if3 = c .before .before .before .before in
+    let at-more = at-if3 .before in
+    let at-queue = at-more .before .before in
+    let at-if2 = at-queue .before .before in
+    let at-set = at-if2 .before in
+    let at-copy = at-set .before .before .before in
     let at-number = at-copy .before .before .before .before in
     let d = at-number .before .before in
-    let long = births-long (d .args .g) (d .args .t .now) (d .pre) in (
+    let long = births-long (d .args .g) (d .args .t .now) (d .pre .0) in (
       omega (
         arith,
-        after-long (d .args .g) (d .args .t .now) (d .pre) (at-number .header-number .ensures) (at-copy .copy-words .ensures)
-            (at-if2 .before .set-waiting .ensures) (at-if2 .if2 .left),
+        end-long (d .args .g) (d .args .t .now) (d .pre .0) (d .pre .1) (λ k. fits-lt-pow (at-number .before .shared-slice-known .given k))
+            (at-number .header-number .ensures) (at-copy .copy-words .ensures) (at-set .before .waiting-at .ensures) (at-set .set-listed .ensures)
+            (at-if2 .if2 .left)
+            (at-more .before .header-number2 .ensures) (at-queue .queue-at .ensures) (at-more .set-listed2 .ensures) (at-if3 .if3 .left),
       ),
       long .0,
       long .1,
     )
 
-returns-3 : tie.Need-returns-3
-returns-3 c =
-    let at-if2 = c .before .before .before .before .before in
-    let at-copy = at-if2 .before .before .before in
+returns-4 : tie.Need-returns-4
+returns-4 c =
+    let at-if3 = c .before .before .before .before .before in
+    let at-more = at-if3 .before in
+    let at-queue = at-more .before .before in
+    let at-if2 = at-queue .before .before in
+    let at-set = at-if2 .before in
+    let at-copy = at-set .before .before .before in
     let at-number = at-copy .before .before .before .before in
     let d = at-number .before .before in
-    fit-is (d .args .g) (d .args .t .now) (d .pre) (at-number .header-number .ensures) (at-copy .copy-words .ensures) (at-if2 .before .set-waiting .ensures)
-    (λ k. fits-lt-pow (at-number .before .shared-slice-known .given k)) (at-if2 .if2 .left) (c .words-agree .ensures)
+    fit-is (d .args .g) (d .args .t .now) (d .pre .0) (d .pre .1) (λ k. fits-lt-pow (at-number .before .shared-slice-known .given k))
+    (at-number .header-number .ensures) (at-copy .copy-words .ensures) (at-set .before .waiting-at .ensures) (at-set .set-listed .ensures) (at-if2 .if2 .left)
+    (at-more .before .header-number2 .ensures) (at-queue .queue-at .ensures) (at-more .set-listed2 .ensures) (at-if3 .if3 .left) (c .words-agree .ensures)
 
 pub words-fit-spec : {M : Type 1} → statement M
 words-fit-spec =
@@ -97,8 +156,13 @@ words-fit-spec =
     mul-if1
     returns
     copy-words-requires
-    set-waiting-requires
+    waiting-at-requires
+    set-listed-requires
     returns-2
+    queue-at-requires
+    header-number-requires-2
+    set-listed-requires-2
+    returns-3
     mul-births
     add-births
     slice-aggregate-words-agree
@@ -108,4 +172,4 @@ words-fit-spec =
     part-words-agree-end
     mul-words-agree-2
     words-agree-requires
-    returns-3)
+    returns-4)

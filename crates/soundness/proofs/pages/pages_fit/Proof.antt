@@ -27,7 +27,11 @@ returns : tie.Need-returns Inv-loop μ-loop
 unfolding viewOf
 returns c = let d = c .before .before .before .before .before .before .before .before in
     let a = d .args in
-    (slots-stop (viewOf (a .g) (a .t .now)) (a .own .now) (c .before .before .before .before .before .before .loop .inv) (c .before .before .before .before .if1 .taken) (c .before .slot-fits .ensures .0) (c .if2 .taken), λ e. absurd (false≢true e))
+    let f = c .before .slot-fits .ensures in
+    let at-if1 = c .before .before .before .before in (
+      slots-stop (viewOf (a .g) (a .t .now)) (a .own .now) (at-if1 .before .before .loop .inv) (at-if1 .if1 .taken) (f .0) (c .if2 .taken),
+      (λ e. absurd (false≢true e), f .1 .1 .0),
+    )
 
 add-s : tie.Need-add-s Inv-loop μ-loop
 add-s c = search needs
@@ -47,7 +51,7 @@ unfolding viewOf
 returns-2 c = let d = c .before .before .before .before in
     let a = d .args in
     let r = slots-end (viewOf (a .g) (a .t .now)) (a .own .now) (c .before .before .loop .inv) (c .if1 .left) in
-    (r .0, λ e. r .1)
+    (r .0, (λ e. r .1, c .before .before .loop .inv .own-size))
 
 pub pages-fit-spec : {M : Type 1} → statement M
 pages-fit-spec =

@@ -1,0 +1,2 @@
+-- What the stages of a T do.
+pub mod Stages
