@@ -29,9 +29,12 @@
  * Every function returns SOGVECT_DONE (0), or the number of the reason why it refused the call. Where several reasons are true it is the first in the
  * order of docs/RULES.md, 7.1.
  * A done call sets the count to how many numbers its result has; they stand at the start of `out`, and the rest of `out` is as it was.
- * A block that sogvect_write, _erase, _seal, _delete or _read names is a pair of numbers in `out`, the block and after it its birth: the number of the
+ * A block that sogvect_write, _erase, _read or _reclaim names is a pair of numbers in `out`, the block and after it its birth: the number of the
  * record that was open when the block was given. A freed block's birth is the one that it had. The count counts both numbers. No other result has births.
  * A refused call changes nothing: tables, log, out and count are as they were.
+ *
+ * A delete, and a seal that deletes by a window, free nothing: the blocks that no page has any more join a queue, where they stay held. sogvect_reclaim
+ * frees them, so many at a time, in the order in which they were queued; so a large delete holds nobody up.
  *
  * A block that a call frees waits: it is given again, or listed as free, only once a sogvect_barrier or a sogvect_compress was done since. So where the
  * log of a store is cut, at any byte of the words appended since the last sogvect_compress, reading it (sogvect_log_read) gives the blocks held at the
@@ -51,7 +54,7 @@ extern "C" {
 
 /* Changes whenever the tables or the log of a store mean something else than before. A store that is kept in a file belongs to the layout that it was
  * made with: keep the number beside it. */
-#define SOGVECT_LAYOUT 3
+#define SOGVECT_LAYOUT 4
 
 /* Limits of the six numbers; the least of each but words is 1. */
 #define SOGVECT_ARENAS_MAX 16
@@ -72,6 +75,9 @@ extern "C" {
 /* The most names that a store can have, and the most letters that a name can have; the least is 1. */
 #define SOGVECT_NAMES_MAX 32
 #define SOGVECT_LETTERS_MAX 32
+
+/* The most blocks that a sogvect_reclaim frees; the least is 1. */
+#define SOGVECT_RECLAIM_MAX 64
 
 /* Least lengths of the lent memory; blocks is arenas x per. */
 #define SOGVECT_TABLES_NUMBERS(records, blocks) (2048 + 512 * (size_t)(records) + 4 * (size_t)(blocks))
@@ -109,12 +115,13 @@ extern "C" {
 #define SOGVECT_FORKED 10        /* delete or estimate of a record with a fork on it */
 #define SOGVECT_TABLE_FULL 11    /* as many records as there can be at one time */
 #define SOGVECT_NO_NUMBER 12     /* the last record number has been given */
-#define SOGVECT_NO_BLOCK 13      /* no free block: each is on a page or waiting for a barrier */
+#define SOGVECT_NO_BLOCK 13      /* no free block: each is on a page, queued or waiting for a barrier */
 #define SOGVECT_LOG_FULL 14      /* too few unused log words: sogvect_compress makes room */
 #define SOGVECT_NO_WINDOW 15     /* the window is outside 1 to 62 */
 #define SOGVECT_NO_NAME 16       /* the bytes are no name: 1 to 32 letters a to z */
 #define SOGVECT_WRONG_NAME 17    /* a name in use, a second one on an open record or a thirty-third in the store; a name that no record has */
 #define SOGVECT_NAMED 18         /* delete or estimate of a record with a name on it */
+#define SOGVECT_NO_AMOUNT 19     /* the number of blocks to reclaim is outside 1 to 64 */
 
 /* The reason of a refusal as an English phrase; of 0, and of a number that no refusal has, it says so. */
 static inline const char *sogvect_reason(uint32_t number) {
@@ -132,12 +139,13 @@ static inline const char *sogvect_reason(uint32_t number) {
     case SOGVECT_FORKED: return "delete or estimate of a record with a fork on it";
     case SOGVECT_TABLE_FULL: return "the record table is full";
     case SOGVECT_NO_NUMBER: return "no record number is left";
-    case SOGVECT_NO_BLOCK: return "no free block: each is on a page or waiting for a barrier";
+    case SOGVECT_NO_BLOCK: return "no free block: each is on a page, queued or waiting for a barrier";
     case SOGVECT_LOG_FULL: return "the log is too full: compressing makes room";
     case SOGVECT_NO_WINDOW: return "the window is outside 1 to 62";
     case SOGVECT_NO_NAME: return "the bytes are no name: 1 to 32 letters a to z";
     case SOGVECT_WRONG_NAME: return "the name is in use, a second on an open record, a thirty-third, or on no record";
     case SOGVECT_NAMED: return "delete or estimate of a record with a name on it";
+    case SOGVECT_NO_AMOUNT: return "the number of blocks to reclaim is outside 1 to 64";
     default: return "no refusal has this number";
     }
 }
@@ -150,11 +158,12 @@ uint32_t sogvect_make(size_t arenas, size_t per, size_t pages, size_t records, s
                       uint32_t *tables, size_t tables_len, const uint8_t *log, size_t log_len, const uint32_t *out, size_t out_len);
 
 /* The call of a letter and three numbers. The letter is the one that scripts have, as its byte; the functions on a store below say what each call does.
- * A call passes over the numbers that it does not take: x is the record, y the page or the window, z the kind.
+ * A call passes over the numbers that it does not take: x is the record, but of 'T' how many blocks; y is the page or the window, z the kind.
  *
  *   'B'        sogvect_begin          'S' x    sogvect_seal       'R' x y  sogvect_read         'L'      sogvect_free_list
  *   'W' x y z  sogvect_write          'F' x    sogvect_fork       'Y'      sogvect_barrier      'Q' x    sogvect_estimate
  *   'E' x y    sogvect_erase          'D' x    sogvect_delete     'C'      sogvect_compress     'K' x y  sogvect_retain
+ *   'T' x      sogvect_reclaim
  *
  * The calls with a name, which scripts have as N, U and M, are the three functions after sogvect_look.
  * Refusals: 1 (no call has the letter; nothing else is looked at then), and those of the call. */
@@ -300,10 +309,9 @@ static inline uint32_t sogvect_erase(struct sogvect_store *store, uint32_t recor
 
 /* Seals an open record; a new open record with the same pages follows it in its line, and gets its name if it has one. Where the line has a window
  * (sogvect_retain), its oldest sealed records without a fork or a name are then deleted, one after another, until no more sealed ones are left than the
- * window says, or only forked or named ones and the newest. Result: the new record's number; and after it a pair for each freed block, delete by delete:
- * the block and the birth that it had. So the count becomes 1, and two more for each freed block. 11 is judged before the deletes, and 14 on all of them
- * together.
- * Refusals: 2, 3, 4, 8, 9, 11, 12, 14. */
+ * window says, or only forked or named ones and the newest; their blocks join the queue, delete by delete. Result: the new record's number. 11 is judged
+ * before the deletes. No log word is written.
+ * Refusals: 2, 3, 4, 8, 9, 11, 12. */
 static inline uint32_t sogvect_seal(struct sogvect_store *store, uint32_t record) {
     return sogvect_call_store(store, 'S', record, 0, 0);
 }
@@ -322,11 +330,18 @@ static inline uint32_t sogvect_fork(struct sogvect_store *store, uint32_t record
     return sogvect_call_store(store, 'F', record, 0, 0);
 }
 
-/* Deletes a record, open or sealed, that has neither a fork nor a name on it. Result: a pair for each freed block, none to all of them: the block and the
- * birth that it had.
- * Refusals: 2, 3, 4, 8, 10, 18, 14, in this order. */
+/* Deletes a record, open or sealed, that has neither a fork nor a name on it. The blocks that it alone had join the queue. No log word is written. Result:
+ * nothing.
+ * Refusals: 2, 3, 4, 8, 10, 18, in this order. */
 static inline uint32_t sogvect_delete(struct sogvect_store *store, uint32_t record) {
     return sogvect_call_store(store, 'D', record, 0, 0);
+}
+
+/* Frees the first blocks of the queue: `most` of them, 1 to SOGVECT_RECLAIM_MAX, or all if fewer are queued. Result: a pair for each freed block, in the order
+ * of the queue: the block and the birth that it had. None is freed where the log has fewer unused words than it would free.
+ * Refusals: 2, 3, 4, 19, 14, in this order. */
+static inline uint32_t sogvect_reclaim(struct sogvect_store *store, uint32_t most) {
+    return sogvect_call_store(store, 'T', most, 0, 0);
 }
 
 /* Adds a barrier to the log; once it is done, no block waits. Result: nothing.
@@ -384,8 +399,8 @@ static inline uint32_t sogvect_read(struct sogvect_store *store, uint32_t record
     return sogvect_look_store(store, 'R', record, page);
 }
 
-/* Lists the free blocks but for those that wait. Result: a pair of numbers for each run of them, its first block and its length, rising; no run crosses
- * an arena's edge.
+/* Lists the free blocks but for those that wait. Queued blocks are not free. Result: a pair of numbers for each run of them, its first block and its
+ * length, rising; no run crosses an arena's edge.
  * Refusals: 2, 3, 4. */
 static inline uint32_t sogvect_free_list(struct sogvect_store *store) {
     return sogvect_look_store(store, 'L', 0, 0);
@@ -399,9 +414,9 @@ static inline uint32_t sogvect_resolve_store(struct sogvect_store *store, const 
                            sogvect_name_bytes(name, name_len), name_len, &store->count);
 }
 
-/* Says what the delete of a record would do. Result, three numbers: how many blocks the delete would free, how many log words it would write, and how
- * many non-empty shards with a birth above the record's pred the record that follows it in its line has, 0 where none follows (docs/RULES.md, 1.5, 1.8
- * and 3.12). A sogvect_delete straight after it, if done, frees exactly that many blocks, and its count is twice that.
+/* Says what the delete of a record would do. Result, three numbers: how many blocks the delete would put in the queue, how many log words it would write,
+ * which is 0, and how many non-empty shards with a birth above the record's pred the record that follows it in its line has, 0 where none follows
+ * (docs/RULES.md, 1.5, 1.8 and 3.12). A sogvect_delete straight after it, if done, queues exactly that many blocks.
  * Refusals: 2, 3, 4, 8, 10, 18. */
 static inline uint32_t sogvect_estimate(struct sogvect_store *store, uint32_t record) {
     return sogvect_look_store(store, 'Q', record, 0);

@@ -90,10 +90,6 @@ pub fn put_reply(out: &mut [u8], at: usize, reply: Reply, given: &[u32]) -> usiz
         }
         Reply::Numbers(count) => given[..count].iter().fold(at, |end, &n| put_number(out, end, n)),
         Reply::Blocks(count) => put_blocks(out, at, &given[..count]),
-        Reply::NumberAndBlocks(n, count) => {
-            let between = put_number(out, at, n);
-            put_blocks(out, between, &given[..count])
-        }
     };
     end + 1
 }

@@ -34,6 +34,7 @@ fn call(store: &mut Store, text: &[u8], out: &mut [u8], p: Places) -> Option<Pla
         b'L' => done!(free_list()),
         b'Q' => done!(estimate(r)),
         b'K' => done!(retain(r, most)),
+        b'T' => done!(reclaim(most)),
         _ => None,
     }
 }

@@ -12,6 +12,7 @@ fn agree_on<'n>(unproved: &mut fast::Store, reference: &mut Store, c: impl Into<
     assert_eq!(unproved.result(reply), reference.call(c), "seed {seed}: {c:?}");
     assert!(unproved.log_bytes() == bytes_of(&reference.log), "seed {seed}: the log after {c:?}");
     assert_eq!(unproved.name_count(), reference.names.len(), "seed {seed}: the names after {c:?}");
+    assert_eq!(unproved.queued_blocks(), reference.queue.len(), "seed {seed}: the queue after {c:?}");
 }
 
 /// Each call comes after a Q, that of a D's record if it is a D. In every other store one seal in four comes after a K of its record, and some other
@@ -53,6 +54,25 @@ fn with_store(f: impl FnOnce(&mut fast::Store) + Send + 'static) {
 #[test]
 fn replies_and_logs_agree() {
     with_store(|unproved| (1..=1000).for_each(|seed| agree(unproved, seed)));
+}
+
+/// So many blocks are queued, one record's after another's, that the queue moves again and again, with some of it left each time.
+#[test]
+fn queue_moves() {
+    with_store(|unproved| {
+        let six = [2, 1024, 256, 4, 64, 8192];
+        let mut reference = Store::new(Geometry::new(six).expect("inside the limits"));
+        unproved.start(fast::Geometry::new(six).expect("inside the limits"));
+        for r in 1..=40 {
+            agree_on(unproved, &mut reference, Call::Begin, 0);
+            (0..256).for_each(|page| agree_on(unproved, &mut reference, Call::Write(r, page, page % 3), 0));
+            agree_on(unproved, &mut reference, Call::Delete(r), 0);
+            let turns = if reference.queue.len() > 1024 { 5 } else { 3 };
+            (0..turns).for_each(|_| agree_on(unproved, &mut reference, Call::Reclaim(64), 0));
+            agree_on(unproved, &mut reference, Call::Compress, 0);
+        }
+        assert!(unproved.queued_blocks() > 256, "the queue is long");
+    });
 }
 
 /// The replies to whole scripts, with their bad lines and names of any bytes.

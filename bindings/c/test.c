@@ -73,14 +73,19 @@ static void every_call(void) {
     REFUSES(sogvect_estimate(&store, 1), SOGVECT_FORKED);
     GIVES(sogvect_estimate(&store, 3), 0, 0, 0);
     GIVES_NOTHING(sogvect_delete(&store, 3));
-    GIVES(sogvect_estimate(&store, 1), 1, 1, 1);
-    GIVES(sogvect_delete(&store, 1), 0, 1);
+    GIVES_NOTHING(sogvect_reclaim(&store, SOGVECT_RECLAIM_MAX));
+    GIVES(sogvect_estimate(&store, 1), 1, 0, 1);
+    GIVES_NOTHING(sogvect_delete(&store, 1));
+    /* 0 is queued, then it waits until the log is compressed */
+    GIVES(sogvect_free_list(&store), 1, 2, 4, 2);
+    GIVES(sogvect_reclaim(&store, 1), 0, 1);
     GIVES(sogvect_free_list(&store), 1, 2, 4, 2);
     GIVES(sogvect_compress(&store), 2);
     GIVES(sogvect_free_list(&store), 0, 3, 4, 2);
 }
 
-/* A line with a window: the seal of 2 deletes 1; that of 3 passes over 2, which is forked; once the fork is gone, that of 5 deletes 2 and 3. */
+/* A line with a window: the seal of 2 deletes 1; that of 3 passes over 2, which is forked; once the fork is gone, that of 5 deletes 2 and 3. The blocks are
+ * queued, and reclaimed in turns. */
 static void windows(void) {
     EXPECT(sogvect_make_store(&store) == SOGVECT_DONE);
     GIVES(sogvect_begin(&store), 1);
@@ -89,7 +94,7 @@ static void windows(void) {
     GIVES(sogvect_seal(&store, 1), 2);
     GIVES_NOTHING(sogvect_retain(&store, 2, 1));
     GIVES(sogvect_write(&store, 2, 0, SOGVECT_DATA), 1, 2);
-    GIVES(sogvect_seal(&store, 2), 3, 0, 1);
+    GIVES(sogvect_seal(&store, 2), 3);
     GIVES(sogvect_write(&store, 3, 0, SOGVECT_DATA), 2, 3);
     GIVES(sogvect_fork(&store, 2), 4);
     GIVES(sogvect_seal(&store, 3), 5);
@@ -101,12 +106,20 @@ static void windows(void) {
     REFUSES(sogvect_seal(&store, 5), SOGVECT_TABLE_FULL);
     GIVES_NOTHING(sogvect_delete(&store, 4));
     GIVES(sogvect_write(&store, 5, 0, SOGVECT_DATA), 3, 5);
-    /* the two deletes free a block each, and the log has one word left */
+    /* the two deletes queue a block each, and the log has one word left */
     while (SOGVECT_LOG_USED(&store) < SOGVECT_LOG_BYTES(20 - 1))
         GIVES_NOTHING(sogvect_barrier(&store));
-    REFUSES(sogvect_seal(&store, 5), SOGVECT_LOG_FULL);
+    GIVES(sogvect_seal(&store, 5), 6);
+    /* 19 comes before 14 */
+    REFUSES(sogvect_reclaim(&store, 0), SOGVECT_NO_AMOUNT);
+    REFUSES(sogvect_reclaim(&store, SOGVECT_RECLAIM_MAX + 1), SOGVECT_NO_AMOUNT);
+    REFUSES(sogvect_reclaim(&store, 2), SOGVECT_LOG_FULL);
+    GIVES(sogvect_reclaim(&store, 1), 0, 1);
+    REFUSES(sogvect_reclaim(&store, 1), SOGVECT_LOG_FULL);
     GIVES(sogvect_compress(&store), 4);
-    GIVES(sogvect_seal(&store, 5), 6, 1, 2, 2, 3);
+    GIVES(sogvect_free_list(&store), 0, 1, 4, 2);
+    GIVES(sogvect_reclaim(&store, SOGVECT_RECLAIM_MAX), 1, 2, 2, 3);
+    GIVES_NOTHING(sogvect_reclaim(&store, 1));
 }
 
 /* A name that is a string literal, as its bytes and their number. */
@@ -161,7 +174,8 @@ static void names_and_windows(void) {
     GIVES(sogvect_write(&store, 4, 0, SOGVECT_DATA), 0, 4);
     GIVES(sogvect_seal(&store, 4), 5);
     GIVES(sogvect_write(&store, 5, 0, SOGVECT_DATA), 1, 5);
-    GIVES(sogvect_seal(&store, 5), 6, 0, 4);
+    GIVES(sogvect_seal(&store, 5), 6);
+    GIVES(sogvect_reclaim(&store, 2), 0, 4);
     GIVES(sogvect_resolve_store(&store, NAME("kept")), 2);
     REFUSES(sogvect_read(&store, 4, 0), SOGVECT_NO_RECORD);
     for (i = 1; i < SOGVECT_NAMES_MAX; i++) {
@@ -208,12 +222,13 @@ static void refusals(void) {
     REFUSES(sogvect_delete(&store, 9), SOGVECT_NO_RECORD);
     REFUSES(sogvect_estimate(&store, 9), SOGVECT_NO_RECORD);
     REFUSES(sogvect_fork(&store, 2), SOGVECT_WRONG_STATE);
+    REFUSES(sogvect_reclaim(&store, UINT32_MAX), SOGVECT_NO_AMOUNT);
     EXPECT(memcmp(kept, tables, sizeof tables) == 0);
 }
 
 /* A letter that no call of numbers has is refused by 1, whatever else is wrong: N, U and M are none. */
 static void letters(void) {
-    static const char calls[] = "BWESFDRYCLQK";
+    static const char calls[] = "BWESFDRYCLQKT";
     uint32_t kept[sizeof tables / sizeof *tables], letter;
     struct sogvect_store sound = store;
     memcpy(kept, tables, sizeof tables);
@@ -233,7 +248,8 @@ static void letters(void) {
     store = sound;
     /* numbers that a call does not take are passed over */
     GIVES(sogvect_call_store(&store, 'L', 9, 9, 9), 0, 3, 4, 2);
-    GIVES(sogvect_call_store(&store, 'Q', 2, UINT32_MAX, 9), 1, 1, 0);
+    GIVES(sogvect_call_store(&store, 'Q', 2, UINT32_MAX, 9), 1, 0, 0);
+    GIVES_NOTHING(sogvect_call_store(&store, 'T', 1, UINT32_MAX, 9));
     EXPECT(memcmp(kept, tables, sizeof tables) == 0);
 }
 
@@ -262,12 +278,12 @@ static void looks(void) {
 /* Each refusal has a reason of its own. */
 static void reasons(void) {
     uint32_t i, j;
-    for (i = SOGVECT_DONE; i <= SOGVECT_NAMED + 1; i++) {
+    for (i = SOGVECT_DONE; i <= SOGVECT_NO_AMOUNT + 1; i++) {
         for (j = SOGVECT_DONE; j < i; j++)
             EXPECT(strcmp(sogvect_reason(i), sogvect_reason(j)) != 0);
     }
     EXPECT(strcmp(sogvect_reason(SOGVECT_NO_RECORD), "the record is not in the store") == 0);
-    EXPECT(sogvect_reason(UINT32_MAX) == sogvect_reason(SOGVECT_NAMED + 1));
+    EXPECT(sogvect_reason(UINT32_MAX) == sogvect_reason(SOGVECT_NO_AMOUNT + 1));
 }
 
 static void logs(void) {
@@ -296,8 +312,8 @@ static void logs(void) {
 static void script(void) {
     static uint32_t its_tables[SOGVECT_TABLES_NUMBERS_MAX], its_out[SOGVECT_OUT_NUMBERS_MAX];
     static uint8_t its_log[SOGVECT_LOG_BYTES_MAX], replies[65536];
-    const char *text = "store 2 3 5 4 7 20\nB\nW 1 4 0\nno call\nN a 1\nM a\nL";
-    const char *said = "+\n+ 1\n+ 0:1\n- 1\n+\n+ 1\n+ 1 2 3 3\n";
+    const char *text = "store 2 3 5 4 7 20\nB\nW 1 4 0\nno call\nN a 1\nM a\nL\nU a\nD 1\nT 64";
+    const char *said = "+\n+ 1\n+ 0:1\n- 1\n+\n+ 1\n+ 1 2 3 3\n+\n+\n+ 0:1\n";
     uint32_t run[SOGVECT_SCRIPT_RUN] = {0};
     size_t at = 0, bytes = 0;
 #define PART(tables_len) \

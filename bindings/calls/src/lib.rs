@@ -51,7 +51,7 @@ macro_rules! calls {
 }
 
 calls! {
-    /// A call and its numbers. Records, pages, kinds and windows may be any numbers: a store refuses those that it does not have.
+    /// A call and its numbers. Records, pages, kinds, windows and turns may be any numbers: a store refuses those that it does not have.
     ///
     /// As text it is a line of a script: its letter and its numbers, `W 1 0 2`.
     Call;
@@ -63,11 +63,11 @@ calls! {
     /// E record page: a page of an open record becomes empty. The result is the block that was there and its birth, if it was freed.
     b'E' Erase(record: u32, page: u32);
     /// S record: the record is sealed, an open one with the same pages and the record's name follows it; in a line with a window the oldest sealed records
-    /// are then deleted. The result is the open record's number, and each freed block and its birth.
+    /// are then deleted, and their blocks join the queue. The result is the open record's number.
     b'S' Seal(record: u32);
     /// F record: a new line forks from a sealed record. The result is the number of its open record.
     b'F' Fork(record: u32);
-    /// D record: the record leaves the store. The result is each freed block and its birth.
+    /// D record: the record leaves the store, and the blocks that it alone had join the queue. There is no result.
     b'D' Delete(record: u32);
     /// R record page: the block on a page and its birth, or nothing.
     b'R' Read(record: u32, page: u32);
@@ -77,11 +77,13 @@ calls! {
     b'C' Compress;
     /// L: the free blocks but for those that wait. The result is the first block and the length of each run.
     b'L' FreeList;
-    /// Q record: what the delete of the record would do. The result is the numbers of blocks, log words and shards.
+    /// Q record: what the delete of the record would do. The result is the numbers of blocks that it would queue, of log words, which is 0, and of shards.
     b'Q' Estimate(record: u32);
     /// K record most: a window on the line of an open record: from now on a seal there deletes the oldest sealed records without a fork or a name until so
     /// many are left. There is no result.
     b'K' Retain(record: u32, most: u32);
+    /// T most: the first blocks of the queue are freed, so many or all. The result is each of them and its birth.
+    b'T' Reclaim(most: u32);
 }
 
 calls! {
@@ -116,8 +118,7 @@ impl Call {
     /// How the numbers of a result are spelled.
     pub const fn spelling(self) -> Spelling {
         match self {
-            Call::Write(..) | Call::Erase(..) | Call::Delete(_) | Call::Read(..) => Spelling::Blocks,
-            Call::Seal(_) => Spelling::NumberAndBlocks,
+            Call::Write(..) | Call::Erase(..) | Call::Read(..) | Call::Reclaim(_) => Spelling::Blocks,
             _ => Spelling::Numbers,
         }
     }
@@ -179,29 +180,21 @@ pub enum Spelling {
     Numbers,
     /// All of them: blocks, each with its birth.
     Blocks,
-    /// All but the first, which stands by itself.
-    NumberAndBlocks,
 }
 
 impl Spelling {
-    /// How many numbers stand before the blocks; of a result without blocks, all of `length`.
-    const fn plain(self, length: usize) -> usize {
-        match self {
-            Spelling::Numbers => length,
-            Spelling::Blocks => 0,
-            Spelling::NumberAndBlocks => 1,
-        }
-    }
-
     /// The blocks of a result, each with its birth.
     pub fn blocks(self, numbers: &[u32]) -> impl Iterator<Item = (u32, u32)> + '_ {
-        numbers[self.plain(numbers.len())..].chunks_exact(2).map(|pair| (pair[0], pair[1]))
+        let blocks = if self == Spelling::Blocks { numbers } else { &[] };
+        blocks.chunks_exact(2).map(|pair| (pair[0], pair[1]))
     }
 
     /// The numbers of a result as text, a space before each, but a colon before a birth.
     pub fn text(self, numbers: &[u32]) -> String {
-        let plain = numbers[..self.plain(numbers.len())].iter().map(|n| format!(" {n}"));
-        plain.chain(self.blocks(numbers).map(|(block, birth)| format!(" {block}:{birth}"))).collect()
+        match self {
+            Spelling::Numbers => numbers.iter().map(|n| format!(" {n}")).collect(),
+            Spelling::Blocks => self.blocks(numbers).map(|(block, birth)| format!(" {block}:{birth}")).collect(),
+        }
     }
 }
 
@@ -273,7 +266,7 @@ mod tests {
             assert_eq!(call.map(Call::letter), Call::LETTERS.contains(&letter).then_some(letter));
         }
         let numbers = Call::LETTERS.map(|letter| Call::of(letter, [1, 20, 300]).unwrap().takes());
-        assert_eq!(numbers, [0, 3, 2, 1, 1, 1, 2, 0, 0, 0, 1, 2]);
+        assert_eq!(numbers, [0, 3, 2, 1, 1, 1, 2, 0, 0, 0, 1, 2, 1]);
         for letter in 0..=u8::MAX {
             let naming = Naming::of(letter, [1, 20, 300]);
             assert_eq!(naming.map(Naming::letter), Naming::LETTERS.contains(&letter).then_some(letter));
@@ -293,16 +286,15 @@ mod tests {
     #[test]
     fn numbers_and_blocks() {
         let spelled = |letter: u8, numbers: &[u32]| Call::of(letter, [0; 3]).unwrap().spelling().text(numbers);
-        for letter in *b"WEDR" {
+        for letter in *b"WERT" {
             assert_eq!((spelled(letter, &[]), spelled(letter, &[3, 2, 5, 4])), (String::new(), " 3:2 5:4".into()));
         }
-        assert_eq!((spelled(b'S', &[7]), spelled(b'S', &[7, 3, 2, 5, 4])), (" 7".into(), " 7 3:2 5:4".into()));
-        for letter in *b"BFYCLQK" {
+        for letter in *b"BSFDYCLQK" {
             assert_eq!((spelled(letter, &[]), spelled(letter, &[3, 2, 5])), (String::new(), " 3 2 5".into()));
         }
         assert_eq!(Command::Naming(Naming::Resolve, b"easter").spelling(), Spelling::Numbers);
-        assert_eq!(Command::from(Call::Seal(1)).spelling(), Spelling::NumberAndBlocks);
-        assert!(Spelling::NumberAndBlocks.blocks(&[7, 3, 2, 5, 4]).eq([(3, 2), (5, 4)]));
+        assert_eq!(Command::from(Call::Reclaim(1)).spelling(), Spelling::Blocks);
+        assert!(Spelling::Blocks.blocks(&[3, 2, 5, 4]).eq([(3, 2), (5, 4)]));
         assert!(Spelling::Numbers.blocks(&[3, 2, 5, 4]).eq([]));
     }
 
@@ -317,6 +309,7 @@ mod tests {
         assert_eq!(Call::Write(1, 0, 2).to_string(), "W 1 0 2");
         assert_eq!(Call::Begin.to_string(), "B");
         assert_eq!(Call::Retain(1, 62).to_string(), "K 1 62");
+        assert_eq!(Call::Reclaim(64).to_string(), "T 64");
         assert_eq!(Call::Seal(u32::MAX).to_string(), "S 4294967295");
     }
 
@@ -351,7 +344,8 @@ mod tests {
     fn lines_that_are_no_calls() {
         let lines =
             ["", " ", "B ", " B", "b", "BB", "B 1", "S", "S ", "S 01", "S 00", "S +1", "S -1", "S 1 ", "S  1", "S 12345678", "W 1 0", "W 1 0 0 0"];
-        for line in lines.into_iter().chain(["store", "S\t1", "S 1\n", "S ١", "É 1", "T 3", "K 1", "K 1 01", "K 1 2 3", "N a 1", "M a"]) {
+        for line in lines.into_iter().chain(["store", "S\t1", "S 1\n", "S ١", "É 1", "T", "T 1 2", "H 3", "K 1", "K 1 01", "K 1 2 3", "N a 1", "M a"])
+        {
             assert_eq!(line.parse::<Call>(), Err(NoCall), "{line:?}");
         }
     }

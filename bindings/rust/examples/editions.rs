@@ -1,4 +1,4 @@
-//! Two editions of a book that share a page: what each has, a name for the first, what a delete would free, and what it frees.
+//! Two editions of a book that share a page: what each has, a name for the first, what a delete would queue, and what is then reclaimed.
 //! Run: cargo run --example editions
 use sogvect::{log_read, Block, Geometry, Kind, Refusal, Space, Store};
 
@@ -15,7 +15,7 @@ fn main() -> Result<(), Refusal> {
     let first = store.begin()?;
     store.write(first, 0, Kind::Data)?;
     store.write(first, 1, Kind::Leaf)?;
-    let next = store.seal(first)?.record;
+    let next = store.seal(first)?;
     let other = store.fork(first)?;
     store.write(other, 0, Kind::Data)?;
     store.erase(next, 1)?;
@@ -28,11 +28,14 @@ fn main() -> Result<(), Refusal> {
     println!("easter is record {}", store.resolve(b"easter")?);
 
     println!("deleting the forked record: {}", store.delete(first).unwrap_err());
-    println!("deleting the fork frees {}", spelled(store.delete(other)?));
+    store.delete(other)?;
+    println!("the fork is deleted, and reclaiming frees {}", spelled(store.reclaim(64)?));
     println!("deleting the named record: {}", store.delete(first).unwrap_err());
     store.unname(b"easter")?;
     println!("deleting the first would do this: {:?}", store.estimate(first)?);
-    println!("it frees {}", spelled(store.delete(first)?));
+    store.delete(first)?;
+    println!("free, but for what is queued or waits: {:?}", store.free_list()?);
+    println!("reclaiming one block frees {}", spelled(store.reclaim(1)?));
     println!("free, but for what waits: {:?}", store.free_list()?);
     store.barrier()?;
     println!("free after a barrier: {:?}", store.free_list()?);

@@ -6,6 +6,8 @@
 //! A [`Store`] lives in memory that is lent with every call ([`Memory`], or a [`Space`] of its own), for six numbers ([`Geometry`]). Nothing that is lent
 //! is trusted: a call checks tables and log in full and refuses what is not sound ([`Refusal`]), and a refused call changes nothing.
 //!
+//! A delete frees nothing: the blocks that no page has any more join a *queue*, and [`Store::reclaim`] frees them, so many at a time.
+//!
 //! A block that a call frees *waits*: it is given again, or listed as free, only once a [`Store::barrier`] or a [`Store::compress`] was done since.
 //! So a log that is cut after its last compression reads ([`log_read`]) to the blocks held at the last whole barrier, and none of those was given to a
 //! write between that barrier and the cut.
@@ -19,11 +21,13 @@
 //! let first = store.begin()?;
 //! let written = store.write(first, 0, Kind::Data)?;
 //! assert_eq!(written, Written { block: Block { number: 0, birth: first }, freed: None });
-//! let second = store.seal(first)?.record;
+//! let second = store.seal(first)?;
 //! store.write(second, 0, Kind::Data)?;
 //! assert_eq!(store.read(first, 0)?, Some(Block { number: 0, birth: first }));
 //! assert_eq!(store.read(second, 0)?, Some(Block { number: 1, birth: second }));
 //! assert_eq!(store.call(Call::FreeList)?, [2, 2]);
+//! store.delete(first)?;
+//! assert_eq!(store.reclaim(64)?, [Block { number: 0, birth: first }]);
 //! # Ok::<(), sogvect::Refusal>(())
 //! ```
 //!
@@ -50,10 +54,10 @@ pub use block::{Block, Record};
 pub use calls::{Call, Command, Naming, NoCall, Spelling};
 pub use refusal::Refusal;
 pub use script::{script_part, Part, Script, SCRIPT_LOG, SCRIPT_OUT, SCRIPT_REPLIES, SCRIPT_RUN, SCRIPT_TABLES};
-pub use store::{Estimate, Kind, Memory, Sealed, Space, Store, Written};
+pub use store::{Estimate, Kind, Memory, Space, Store, Written};
 
 /// Changes whenever the tables or the log of a store mean something else than before: keep it beside a store that is kept in a file.
-pub const LAYOUT: u32 = 3;
+pub const LAYOUT: u32 = 4;
 
 /// The six numbers that a store is made from. Any numbers can be given; a call refuses those outside the limits with [`Refusal::OUTSIDE_LIMITS`].
 #[derive(Clone, Copy, Debug, PartialEq, Eq, Hash)]

@@ -32,7 +32,8 @@ impl Refusal {
     pub const TABLE_FULL: Refusal = Refusal(11);
     /// 12: no record number is left.
     pub const NO_NUMBER: Refusal = Refusal(12);
-    /// 13: no free block: each is on a page or waiting for a barrier ([`crate::Store::barrier`], [`crate::Store::compress`]).
+    /// 13: no free block: each is on a page, queued ([`crate::Store::reclaim`]) or waiting for a barrier ([`crate::Store::barrier`],
+    /// [`crate::Store::compress`]).
     pub const NO_BLOCK: Refusal = Refusal(13);
     /// 14: too few unused log words; [`crate::Store::compress`] makes room.
     pub const LOG_FULL: Refusal = Refusal(14);
@@ -44,6 +45,8 @@ impl Refusal {
     pub const WRONG_NAME: Refusal = Refusal(17);
     /// 18: a delete, or the estimate of one, of a record with a name on it.
     pub const NAMED: Refusal = Refusal(18);
+    /// 19: a number of blocks to reclaim outside 1 to 64.
+    pub const NO_AMOUNT: Refusal = Refusal(19);
 
     /// The number, as include/sogvect.h has it.
     pub const fn number(self) -> u32 {
@@ -74,12 +77,13 @@ impl fmt::Display for Refusal {
             10 => "delete or estimate of a record with a fork on it",
             11 => "the record table is full",
             12 => "no record number is left",
-            13 => "no free block: each is on a page or waiting for a barrier",
+            13 => "no free block: each is on a page, queued or waiting for a barrier",
             14 => "the log is too full: compressing makes room",
             15 => "window outside 1 to 62",
             16 => "no name: 1 to 32 letters a to z",
             17 => "name in use, a second on an open record, a thirty-third, or on no record",
             18 => "delete or estimate of a record with a name on it",
+            19 => "number of blocks to reclaim outside 1 to 64",
             number => return write!(f, "refused by {number}"),
         };
         f.write_str(reason)

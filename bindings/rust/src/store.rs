@@ -57,21 +57,12 @@ pub struct Written {
     pub freed: Option<Block>,
 }
 
-/// What a seal opened, and what the window of its line freed.
-#[derive(Clone, Debug, PartialEq, Eq, Hash)]
-pub struct Sealed {
-    /// The open record that follows the sealed one.
-    pub record: Record,
-    /// The freed blocks, in the order in which they were freed; none in a line without a window.
-    pub freed: Vec<Block>,
-}
-
 /// What a delete would do.
 #[derive(Clone, Copy, Debug, PartialEq, Eq, Hash)]
 pub struct Estimate {
-    /// How many blocks it would free.
+    /// How many blocks it would put in the queue.
     pub blocks: u32,
-    /// How many log words it would write. With fewer unused ones it is refused by [`Refusal::LOG_FULL`].
+    /// How many log words it would write: none.
     pub words: u32,
     /// How many non-empty shards with a birth above the record's pred the record that follows it in its line has; 0 where none follows
     /// (docs/RULES.md, 1.5, 1.8 and 3.12).
@@ -246,14 +237,13 @@ impl<'a> Store<'a> {
 
     /// Seals an open record; an open one with the same pages follows it in its line, and gets its name if it has one. Where the line has a window
     /// ([`Store::retain`]), its oldest sealed records without a fork or a name are then deleted, one after another, until no more sealed ones are left than
-    /// the window says, or only forked or named ones and the newest. Gives the new record and the freed blocks.
+    /// the window says, or only forked or named ones and the newest; their blocks join the queue ([`Store::reclaim`]). Gives the new record.
     ///
     /// # Errors
     ///
-    /// Refused by 2, 3, 4, 8, 9, 11, 12 or 14; see [`Refusal`]. 11 is judged before the deletes, and 14 on all of them together.
-    pub fn seal(&mut self, record: Record) -> Result<Sealed, Refusal> {
-        let numbers = self.call(Call::Seal(record.0))?;
-        Ok(Sealed { record: Record(numbers[0]), freed: numbers[1..].chunks_exact(2).map(Block::of).collect() })
+    /// Refused by 2, 3, 4, 8, 9, 11 or 12; see [`Refusal`]. 11 is judged before the deletes.
+    pub fn seal(&mut self, record: Record) -> Result<Record, Refusal> {
+        Ok(Record(self.call(Call::Seal(record.0))?[0]))
     }
 
     /// Sets a window on the line of an open record, or replaces the one that it had: from now on a seal in the line deletes its oldest sealed records until
@@ -275,13 +265,22 @@ impl<'a> Store<'a> {
         Ok(Record(self.call(Call::Fork(record.0))?[0]))
     }
 
-    /// Deletes a record, open or sealed, that has neither a fork nor a name on it. Gives the freed blocks, in the order in which they were freed.
+    /// Deletes a record, open or sealed, that has neither a fork nor a name on it. The blocks that it alone had join the queue; [`Store::reclaim`] frees them.
     ///
     /// # Errors
     ///
-    /// Refused by 2, 3, 4, 8, 10, 18 or 14, in this order; see [`Refusal`].
-    pub fn delete(&mut self, record: Record) -> Result<Vec<Block>, Refusal> {
-        Ok(self.call(Call::Delete(record.0))?.chunks_exact(2).map(Block::of).collect())
+    /// Refused by 2, 3, 4, 8, 10 or 18, in this order; see [`Refusal`].
+    pub fn delete(&mut self, record: Record) -> Result<(), Refusal> {
+        self.call(Call::Delete(record.0)).map(|_| ())
+    }
+
+    /// Frees the first blocks of the queue: so many, 1 to 64, or all if fewer are queued. Gives the freed blocks, in the order of the queue.
+    ///
+    /// # Errors
+    ///
+    /// Refused by 2, 3, 4, 19 or 14, in this order; see [`Refusal`]. Where the log has too few unused words for all of them, none is freed.
+    pub fn reclaim(&mut self, most: u32) -> Result<Vec<Block>, Refusal> {
+        Ok(self.call(Call::Reclaim(most))?.chunks_exact(2).map(Block::of).collect())
     }
 
     /// Gives the block on a page of a record, if there is one.
@@ -311,7 +310,8 @@ impl<'a> Store<'a> {
         Ok(self.call(Call::Compress)?[0])
     }
 
-    /// Gives the free blocks but for those that wait, as runs, rising: the first block and the length. No run crosses an arena's edge.
+    /// Gives the free blocks but for those that wait, as runs, rising: the first block and the length. Queued blocks are not free. No run crosses an arena's
+    /// edge.
     ///
     /// # Errors
     ///
@@ -348,7 +348,7 @@ impl<'a> Store<'a> {
         Ok(Record(self.call(Command::Naming(Naming::Resolve, name))?[0]))
     }
 
-    /// Says what [`Store::delete`] of a record would do, and changes nothing. A delete straight after it, if done, frees exactly so many blocks.
+    /// Says what [`Store::delete`] of a record would do, and changes nothing. A delete straight after it, if done, queues exactly so many blocks.
     ///
     /// # Errors
     ///

@@ -6,7 +6,7 @@ use common::{
 };
 use reference::generate;
 use reference::script::{parse, Line};
-use sogvect::{raw, Block, Call, Command, Estimate, Geometry, Kind, Naming, Record, Refusal, Sealed, Space, Store, Written};
+use sogvect::{raw, Block, Call, Command, Estimate, Geometry, Kind, Naming, Record, Refusal, Space, Store, Written};
 
 const fn block(number: u32, birth: u32) -> Block {
     Block { number, birth: Record(birth) }
@@ -15,11 +15,6 @@ const fn block(number: u32, birth: u32) -> Block {
 /// A write that frees nothing.
 const fn given(number: u32, birth: u32) -> Written {
     Written { block: block(number, birth), freed: None }
-}
-
-/// A seal that frees nothing.
-fn sealed(number: u32) -> Sealed {
-    Sealed { record: Record(number), freed: vec![] }
 }
 
 /// The listing (section 11 of the rules), with typed results.
@@ -31,14 +26,14 @@ fn listing() {
     let mut s = m.store(g);
     assert_eq!(s.begin(), Ok(Record(1)));
     assert_eq!(s.write(Record(1), 0, Kind::Data), Ok(given(0, 1)));
-    assert_eq!(s.seal(Record(1)), Ok(sealed(2)));
+    assert_eq!(s.seal(Record(1)), Ok(Record(2)));
     assert_eq!(s.write(Record(2), 0, Kind::Data), Ok(given(1, 2)));
     assert_eq!(s.write(Record(2), 0, Kind::Data), Ok(Written { block: block(2, 2), freed: Some(block(1, 2)) }));
     assert_eq!(s.fork(Record(1)), Ok(Record(3)));
     assert_eq!(s.delete(Record(1)), Err(Refusal::FORKED));
     assert_eq!(s.erase(Record(3), 0), Ok(None));
-    assert_eq!(s.delete(Record(3)), Ok(vec![]));
-    assert_eq!(s.delete(Record(1)), Ok(vec![block(0, 1)]));
+    assert_eq!((s.delete(Record(3)), s.reclaim(64)), (Ok(()), Ok(vec![])));
+    assert_eq!((s.delete(Record(1)), s.reclaim(64)), (Ok(()), Ok(vec![block(0, 1)])));
     assert_eq!(m.words(), [0x1, 0x4001, 0x8001, 0x4002, 0x2]);
     let mut s = m.store(g);
     assert_eq!(s.compress(), Ok(2));
@@ -62,19 +57,19 @@ fn births() {
     let mut s = m.store(g);
     assert_eq!(s.begin(), Ok(Record(1)));
     assert_eq!(s.write(Record(1), 0, Kind::Data), Ok(given(0, 1)));
-    assert_eq!(s.seal(Record(1)), Ok(sealed(2)));
+    assert_eq!(s.seal(Record(1)), Ok(Record(2)));
     assert_eq!(s.write(Record(2), 1, Kind::Data), Ok(given(1, 2)));
     assert_eq!(s.write(Record(2), 2, Kind::Data), Ok(given(2, 2)));
-    assert_eq!(s.seal(Record(2)), Ok(sealed(3)));
-    assert_eq!(s.delete(Record(2)), Ok(vec![]));
+    assert_eq!(s.seal(Record(2)), Ok(Record(3)));
+    assert_eq!((s.delete(Record(2)), s.reclaim(1)), (Ok(()), Ok(vec![])));
     assert_eq!(s.read(Record(3), 0), Ok(Some(block(0, 1))));
     assert_eq!(s.read(Record(3), 1), Ok(Some(block(1, 2))));
     assert_eq!(s.write(Record(3), 1, Kind::Data), Ok(Written { block: block(3, 3), freed: Some(block(1, 2)) }));
     assert_eq!(s.erase(Record(3), 2), Ok(Some(block(2, 2))));
     assert_eq!(s.write(Record(3), 2, Kind::Data), Ok(given(4, 3)));
     assert_eq!(s.erase(Record(3), 0), Ok(None));
-    assert_eq!(s.delete(Record(1)), Ok(vec![block(0, 1)]));
-    assert_eq!(s.delete(Record(3)), Ok(vec![block(3, 3), block(4, 3)]));
+    assert_eq!((s.delete(Record(1)), s.delete(Record(3))), (Ok(()), Ok(())));
+    assert_eq!(s.reclaim(64), Ok(vec![block(0, 1), block(3, 3), block(4, 3)]));
     assert_eq!(block(2047, 999_999).to_string(), "2047:999999");
 }
 
@@ -129,8 +124,8 @@ fn lines() {
     assert!(calls > 10_000 && namings > 1_000, "only {calls} calls, {namings} with a name");
 }
 
-/// An estimate says what the delete then does, and changes nothing but its three numbers in the result buffer: blocks and words are one number, shards
-/// another. Record 3 is followed by 4, whose deadlist has a block born in 1, two in 2 and one in 3; 2 is gone, so the pred of 3 is 1.
+/// An estimate says what the delete then does, and changes nothing but its three numbers in the result buffer: blocks, no words, and shards.
+/// Record 3 is followed by 4, whose deadlist has a block born in 1, two in 2 and one in 3; 2 is gone, so the pred of 3 is 1.
 #[test]
 fn estimates() {
     let g = Geometry { arenas: 2, per: 8, pages: 4, records: 5, turn: 3, words: 34 };
@@ -161,20 +156,20 @@ fn estimates() {
     for (n, blocks, shards) in [(3, 3, 2), (4, 2, 0), (1, 3, 1)] {
         m.out.fill(MARKS);
         let before = m.clone();
-        assert_eq!(m.store(g).estimate(Record(n)), Ok(Estimate { blocks, words: blocks, shards }), "record {n}");
+        assert_eq!(m.store(g).estimate(Record(n)), Ok(Estimate { blocks, words: 0, shards }), "record {n}");
         assert_eq!((&m.tables, &m.log, &m.out[3..]), (&before.tables, &before.log, &before.out[3..]), "record {n}");
     }
     for n in [3, 1, 4] {
         let said = m.store(g).estimate(Record(n)).unwrap();
-        let used = m.words().len();
-        assert_eq!(m.store(g).delete(Record(n)).unwrap().len(), said.blocks as usize, "record {n}");
-        assert_eq!(m.words().len() - used, said.words as usize, "record {n}");
+        let (used, queued) = (m.words().len(), m.tables[10]);
+        assert_eq!(m.store(g).delete(Record(n)), Ok(()), "record {n}");
+        assert_eq!((m.tables[10] - queued, m.words().len()), (said.blocks, used), "record {n}");
         assert_eq!(m.store(g).estimate(Record(n)), Err(Refusal::NO_RECORD), "record {n}");
     }
 }
 
-/// A window: a seal gives the new number and then what the deletes of the oldest records free, and passes over a forked one; it is refused by 14 where
-/// all of them write more words than are left, and changes nothing then. Record 2 is forked by 5, and the window of the line is handed on.
+/// A window: a seal gives the new number, queues the blocks of the oldest records one after another, and passes over a forked one; it writes no word, so
+/// that a full log does not matter. Record 2 is forked by 5, and the window of the line is handed on.
 #[test]
 fn windows() {
     let g = Geometry { arenas: 1, per: 8, pages: 2, records: 6, turn: 8, words: 18 };
@@ -184,7 +179,7 @@ fn windows() {
     assert_eq!(s.retain(Record(1), 62), Ok(()));
     for n in 1..4 {
         assert_eq!(s.write(Record(n), 0, Kind::Data), Ok(given(n - 1, n)));
-        assert_eq!(s.seal(Record(n)), Ok(sealed(n + 1)));
+        assert_eq!(s.seal(Record(n)), Ok(Record(n + 1)));
     }
     assert_eq!(s.write(Record(4), 0, Kind::Data), Ok(given(3, 4)));
     assert_eq!(s.fork(Record(2)), Ok(Record(5)));
@@ -195,21 +190,21 @@ fn windows() {
     for (n, most, number) in [(9, 0, 15), (9, 63, 15), (1, 0, 15), (1, 63, 15), (4, 0, 15), (4, 63, 15), (9, 1, 8), (1, 1, 9), (3, 62, 9)] {
         refused(&mut m, g, Call::Retain(n, most), number);
     }
-    while m.words().len() < 17 {
+    while m.words().len() < 18 {
         m.store(g).barrier().unwrap();
     }
-    // 1 and 3 are to go, each frees a block
-    refused(&mut m, g, Call::Seal(4), 14);
-    assert_eq!(m.store(g).compress(), Ok(3));
+    // 1 and 3 are to go, each with a block of its own
     let mut s = m.store(g);
-    assert_eq!(s.seal(Record(4)), Ok(Sealed { record: Record(6), freed: vec![block(0, 1), block(2, 3)] }));
+    assert_eq!(s.seal(Record(4)), Ok(Record(6)));
+    assert_eq!((s.reclaim(2), s.reclaim(1)), (Err(Refusal::LOG_FULL), Err(Refusal::LOG_FULL)));
+    assert_eq!((s.compress(), s.reclaim(2)), (Ok(3), Ok(vec![block(0, 1), block(2, 3)])));
     assert_eq!(s.read(Record(1), 0), Err(Refusal::NO_RECORD));
     assert_eq!(s.read(Record(2), 0), Ok(Some(block(1, 2))));
     assert_eq!(s.read(Record(3), 0), Err(Refusal::NO_RECORD));
     assert_eq!(m.words()[3..], [0x2, 0x8002]);
     assert_eq!(m.tables[576 + 5], 2);
     // 2 counts: with one of its own to go, 4, the next seal leaves 2 and 6
-    assert_eq!(m.store(g).seal(Record(6)), Ok(sealed(7)));
+    assert_eq!(m.store(g).seal(Record(6)), Ok(Record(7)));
     assert_eq!(m.store(g).read(Record(4), 0), Err(Refusal::NO_RECORD));
     // a full table, though the window would make room
     assert_eq!(m.store(g).begin(), Ok(Record(8)));
@@ -237,7 +232,7 @@ fn names() {
     assert_eq!(s.begin(), Ok(Record(1)));
     assert_eq!(s.name(EASTER, Record(1)), Ok(()));
     assert_eq!(s.name(NEW, Record(1)), Err(Refusal::WRONG_NAME));
-    assert_eq!(s.seal(Record(1)), Ok(sealed(2)));
+    assert_eq!(s.seal(Record(1)), Ok(Record(2)));
     assert_eq!(s.resolve(EASTER), Ok(Record(2)));
     assert_eq!(s.name(&longest, Record(1)), Ok(()));
     assert_eq!(s.name(b"a", Record(1)), Ok(()));
@@ -261,8 +256,8 @@ fn names() {
         refused(&mut m, g, call, number);
     }
     let mut s = m.store(g);
-    assert_eq!((s.unname(b"bc"), s.delete(Record(3))), (Ok(()), Ok(vec![])));
-    assert_eq!((s.delete(Record(1)), s.unname(b"a"), s.delete(Record(1))), (Err(Refusal::NAMED), Ok(()), Ok(vec![])));
+    assert_eq!((s.unname(b"bc"), s.delete(Record(3))), (Ok(()), Ok(())));
+    assert_eq!((s.delete(Record(1)), s.unname(b"a"), s.delete(Record(1))), (Err(Refusal::NAMED), Ok(()), Ok(())));
 }
 
 /// Bytes that are no name are refused by 16 before everything else, names that no record has by 17; N of a record that is not there by 8 before 17.
@@ -307,12 +302,12 @@ fn names_enough() {
     assert_eq!(m.store(SMALL).unname(&all[7]), Ok(()));
     assert_eq!(m.store(SMALL).name(NEW, Record(4)), Ok(()));
     refused(&mut m, SMALL, naming(Naming::Attach(1), &all[7]), 17);
-    assert_eq!(m.store(SMALL).seal(Record(4)), Ok(sealed(6)));
-    assert_eq!(m.store(SMALL).resolve(NEW), Ok(Record(6)));
+    assert_eq!(m.store(SMALL).seal(Record(4)), Ok(Record(7)));
+    assert_eq!(m.store(SMALL).resolve(NEW), Ok(Record(7)));
 }
 
-/// A window passes over named records as over forked ones: they count, and stay. The names of the open record move on, and the frees are those of the
-/// deletes alone. Where the log lacks a word for them, nothing is changed.
+/// A window passes over named records as over forked ones: they count, and stay. The names of the open record move on, and what is queued are the blocks of
+/// the deletes alone.
 #[test]
 fn names_and_windows() {
     let g = Geometry { arenas: 1, per: 8, pages: 1, records: 8, turn: 8, words: 18 };
@@ -321,22 +316,17 @@ fn names_and_windows() {
     assert_eq!(s.begin(), Ok(Record(1)));
     for n in 1..5 {
         assert_eq!(s.write(Record(n), 0, Kind::Data), Ok(given(n - 1, n)));
-        assert_eq!(s.seal(Record(n)), Ok(sealed(n + 1)));
+        assert_eq!(s.seal(Record(n)), Ok(Record(n + 1)));
     }
     assert_eq!(s.write(Record(5), 0, Kind::Data), Ok(given(4, 5)));
     assert_eq!((s.name(EASTER, Record(2)), s.name(NEW, Record(5)), s.retain(Record(5), 2)), (Ok(()), Ok(()), Ok(())));
-    while m.words().len() < 16 {
-        m.store(g).barrier().unwrap();
-    }
-    // 1, 3 and 4 are to go, each frees a block
-    refused(&mut m, g, Call::Seal(5), 14);
-    assert_eq!(m.store(g).compress(), Ok(3));
-    let freed = vec![block(0, 1), block(2, 3), block(3, 4)];
-    assert_eq!(m.store(g).seal(Record(5)), Ok(Sealed { record: Record(6), freed }));
+    // 1, 3 and 4 are to go, each with a block of its own
+    assert_eq!(s.seal(Record(5)), Ok(Record(6)));
+    assert_eq!(s.reclaim(64), Ok(vec![block(0, 1), block(2, 3), block(3, 4)]));
     assert_eq!((m.store(g).resolve(EASTER), m.store(g).resolve(NEW)), (Ok(Record(2)), Ok(Record(6))));
     // 2 is named and 5 is forked: the seal of 6 stops above the window
     assert_eq!(m.store(g).fork(Record(5)), Ok(Record(7)));
-    assert_eq!(m.store(g).seal(Record(6)), Ok(sealed(8)));
+    assert_eq!(m.store(g).seal(Record(6)), Ok(Record(8)));
     for n in [2, 5, 6] {
         assert!(m.store(g).read(Record(n), 0).is_ok());
     }
@@ -346,21 +336,21 @@ fn names_and_windows() {
 #[test]
 fn six_numbers_in_order() {
     let mut m = small();
-    assert_eq!(m.tables[..6], [2, 3, 5, 6, 7, 20]);
+    assert_eq!(m.tables[..6], [2, 4, 5, 6, 7, 20]);
     let mut long = m.clone();
     long.tables.resize(40_000, 0);
     long.log.resize(70_000, 0);
     long.out.resize(5_000, 0);
     for i in 0..6 {
         for j in 0..i {
-            let mut n = [2, 3, 5, 6, 7, 20];
+            let mut n = [2, 4, 5, 6, 7, 20];
             n.swap(i, j);
             let inside = long.clone().make(geometry(n)).is_ok();
             for call in every_call(1, 0) {
                 refused(&mut long, geometry(n), call, if inside { 4 } else { 2 });
             }
         }
-        let mut n = [2, 3, 5, 6, 7, 20];
+        let mut n = [2, 4, 5, 6, 7, 20];
         n[i] += 1 << 32;
         for call in every_call(1, 0) {
             refused(&mut m, geometry(n), call, 2);
@@ -392,15 +382,71 @@ fn own_numbers_whole() {
         refused(&mut m, SMALL, naming(Naming::Attach(4 + high), NEW), 8);
         refused(&mut m, SMALL, Call::Write(4, 2, 1 + high), 6);
         refused(&mut m, SMALL, Call::Retain(4, 2 + high), 15);
+        refused(&mut m, SMALL, Call::Reclaim(1 + high), 19);
     }
     refused(&mut m, SMALL, Call::Write(2, 4, 1), 9);
     refused(&mut m, SMALL, Call::Read(3, 0), 8);
     let mut s = m.store(SMALL);
-    // block 4 waits
-    assert_eq!(s.write(Record(4), 3, Kind::Pivot), Ok(given(5, 4)));
-    assert_eq!(s.read(Record(4), 3), Ok(Some(block(5, 4))));
+    // block 5 waits, 3 and 6 are queued
+    assert_eq!(s.write(Record(4), 3, Kind::Pivot), Ok(given(7, 4)));
+    assert_eq!(s.read(Record(4), 3), Ok(Some(block(7, 4))));
     assert_eq!(s.read(Record(4), 1), Ok(None));
-    assert_eq!(s.erase(Record(4), 3), Ok(Some(block(5, 4))));
+    assert_eq!(s.erase(Record(4), 3), Ok(Some(block(7, 4))));
+}
+
+/// The queue and its births in the tables of a store of 8 blocks and 4 records: how long it is, its entries beyond that too, and the births by block.
+fn queue(m: &Space) -> (u32, [u32; 4], [u32; 8]) {
+    let at = 2048 + 512 * 4 + 8;
+    (m.tables[10], m.tables[at..at + 4].try_into().unwrap(), m.tables[at + 8..at + 16].try_into().unwrap())
+}
+
+/// A delete queues its blocks and writes no word; the queue is freed from its front, in turns, and what is left is moved there. A queued block is held: it is
+/// not listed, a compressed log has it, and it is given to no write. What is freed then waits.
+#[test]
+fn turns() {
+    let g = Geometry { arenas: 1, per: 8, pages: 4, records: 4, turn: 8, words: 18 };
+    let mut m = made(g);
+    let mut s = m.store(g);
+    assert_eq!((s.begin(), s.begin()), (Ok(Record(1)), Ok(Record(2))));
+    for (n, record, page) in [(0, 1, 0), (1, 2, 3), (2, 1, 1), (3, 2, 0), (4, 1, 2)] {
+        assert_eq!(s.write(Record(record), page, Kind::Data), Ok(given(n, record)));
+    }
+    assert_eq!((s.delete(Record(2)), s.delete(Record(1)), s.begin()), (Ok(()), Ok(()), Ok(Record(3))));
+    // by rising page, record after record
+    assert_eq!((queue(&m), m.words().len()), ((5, [3, 1, 0, 2], [1, 2, 1, 2, 1, 0, 0, 0]), 5));
+    assert_eq!(m.store(g).free_list(), Ok(vec![(5, 3)]));
+    for most in [0, 65, u32::MAX] {
+        refused(&mut m, g, Call::Reclaim(most), 19);
+    }
+    assert_eq!(m.store(g).reclaim(2), Ok(vec![block(3, 2), block(1, 2)]));
+    assert_eq!((queue(&m), m.tables[11]), ((3, [0, 2, 4, 2], [1, 0, 1, 0, 1, 0, 0, 0]), 2));
+    assert_eq!(m.words()[5..], [0xc002, 0x4002]);
+    let mut s = m.store(g);
+    assert_eq!(s.free_list(), Ok(vec![(5, 3)]));
+    assert_eq!((s.compress(), s.free_list()), (Ok(4), Ok(vec![(1, 1), (3, 1), (5, 3)])));
+    assert_eq!(m.words(), [0x1, 0x8001, 0x10001, 0x3]);
+    // 5, 6, 7 and then 1 are given; 3 is the last that is free
+    let mut s = m.store(g);
+    for (n, page) in [(5, 0), (6, 1), (7, 2), (1, 3)] {
+        assert_eq!(s.write(Record(3), page, Kind::Data), Ok(given(n, 3)));
+    }
+    assert_eq!((s.begin(), s.write(Record(4), 0, Kind::Data)), (Ok(Record(4)), Ok(given(3, 4))));
+    refused(&mut m, g, Call::Write(4, 1, 0), 13);
+    while m.words().len() < 17 {
+        m.store(g).barrier().unwrap();
+    }
+    // two words lack where one is left
+    refused(&mut m, g, Call::Reclaim(2), 14);
+    refused(&mut m, g, Call::Reclaim(65), 19);
+    assert_eq!(m.store(g).reclaim(1), Ok(vec![block(0, 1)]));
+    // nothing is left: a delete needs no word
+    refused(&mut m, g, Call::Reclaim(1), 14);
+    refused(&mut m, g, Call::Write(4, 1, 0), 13);
+    let mut s = m.store(g);
+    assert_eq!((s.delete(Record(4)), s.compress()), (Ok(()), Ok(3)));
+    assert_eq!(s.reclaim(64), Ok(vec![block(2, 1), block(4, 1), block(3, 4)]));
+    assert_eq!(queue(&m), (0, [2, 4, 3, 2], [0; 8]));
+    assert_eq!((m.store(g).reclaim(1), m.store(g).free_list()), (Ok(vec![]), Ok(vec![(0, 1)])));
 }
 
 /// A freed block waits: it is not given and not listed until a barrier or a compression is done, and a refused barrier ends nothing.
@@ -449,6 +495,9 @@ fn count_and_buffer() {
         Call::FreeList,
         Call::Estimate(4),
         Call::Retain(4, 1),
+        Call::Reclaim(1),
+        Call::Reclaim(2),
+        Call::Reclaim(64),
     ];
     let namings = [naming(Naming::Attach(4), NEW), naming(Naming::Detach, EASTER), naming(Naming::Resolve, EASTER)];
     for call in unnamed.into_iter().map(Command::from).chain(namings) {
@@ -484,6 +533,7 @@ fn beyond_stays() {
         Call::Delete(3),
         Call::Estimate(1),
         Call::Delete(1),
+        Call::Reclaim(1),
         Call::Barrier,
         Call::Compress,
         Call::FreeList,
@@ -517,12 +567,14 @@ fn refusals_by_state() {
         (Call::Retain(1, 0), 15),
         (Call::Delete(5), 18),
         (Call::Estimate(5), 18),
+        (Call::Reclaim(0), 19),
+        (Call::Reclaim(65), 19),
     ] {
         refused(&mut m, SMALL, call, number);
     }
-    assert_eq!(m.store(SMALL).begin(), Ok(Record(6)));
     assert_eq!(m.store(SMALL).begin(), Ok(Record(7)));
-    for (call, number) in [(Call::Begin, 11), (Call::Seal(4), 11), (Call::Fork(2), 11), (Call::Fork(4), 9), (Call::Seal(8), 8)] {
+    assert_eq!(m.store(SMALL).begin(), Ok(Record(8)));
+    for (call, number) in [(Call::Begin, 11), (Call::Seal(4), 11), (Call::Fork(2), 11), (Call::Fork(4), 9), (Call::Seal(9), 8)] {
         refused(&mut m, SMALL, call, number);
     }
 }
@@ -541,13 +593,18 @@ fn refusals_at_the_end() {
     }
     refused(&mut m, g, Call::Barrier, 14);
     refused(&mut m, g, Call::Erase(1, 0), 14);
-    refused(&mut m, g, Call::Delete(1), 14);
-    assert_eq!(m.store(g).estimate(Record(1)), Ok(Estimate { blocks: 2, words: 2, shards: 0 }));
+    assert_eq!(m.store(g).reclaim(64), Ok(vec![]));
+    assert_eq!(m.store(g).estimate(Record(1)), Ok(Estimate { blocks: 2, words: 0, shards: 0 }));
     assert_eq!(m.store(g).compress(), Ok(3));
     assert_eq!(m.store(g).erase(Record(1), 0), Ok(Some(block(0, 1))));
+    assert_eq!((m.store(g).delete(Record(1)), m.store(g).begin()), (Ok(()), Ok(Record(2))));
+    while m.words().len() < 6 {
+        m.store(g).barrier().unwrap();
+    }
+    refused(&mut m, g, Call::Reclaim(1), 14);
     m.tables[6] = 999_999;
     refused(&mut m, g, Call::Begin, 12);
-    refused(&mut m, g, Call::Seal(1), 12);
+    refused(&mut m, g, Call::Seal(2), 12);
 }
 
 /// A letter that no call of numbers has is refused by 1 whatever else is wrong, and changes nothing; N, U and M are none. Numbers that a call does not take
@@ -677,8 +734,9 @@ fn sentences() {
         Refusal::NO_NAME,
         Refusal::WRONG_NAME,
         Refusal::NAMED,
+        Refusal::NO_AMOUNT,
     ];
-    assert!(all.iter().map(|r| r.number()).eq(1..=18));
+    assert!(all.iter().map(|r| r.number()).eq(1..=19));
     for (i, r) in all.iter().enumerate() {
         assert!(!r.to_string().starts_with("refused"), "{}", r.number());
         assert!(all[..i].iter().all(|other| other.to_string() != r.to_string()), "{}", r.number());

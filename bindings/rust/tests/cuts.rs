@@ -11,7 +11,7 @@ use reference::{generate, script};
 use sogvect::{log_read, Command, Geometry, Refusal, Space};
 
 /// Scripts that the gate runs and whose logs are cut beside those made from seeds.
-const CUT: [&str; 12] = [
+const CUT: [&str; 13] = [
     "waiting",
     "forks",
     "compress",
@@ -21,9 +21,10 @@ const CUT: [&str; 12] = [
     "macros",
     "shards",
     "window",
-    "edge-o5-14",
     "edge-o5-several",
-    "edge-o6-window",
+    "sweep",
+    "edge-o7-14",
+    "edge-o7-queue",
 ];
 const SEEDS: u64 = 60;
 
@@ -56,9 +57,8 @@ impl Plugged {
         let g = geometry_of(&reference.g);
         let reply = self.reply(g, call);
         assert_eq!(reply, *expected, "{call:?}");
-        let words = self.space.words();
-        assert_eq!(words, reference.log, "the log after {call:?}");
-        if let Some(ended) = self.followed.go_on(reference.g, call, &reply, &words) {
+        assert_eq!(self.space.words(), reference.log, "the log after {call:?}");
+        if let Some(ended) = self.followed.go_on(reference, call, &reply) {
             self.cut(&ended);
         }
     }
@@ -95,7 +95,8 @@ fn stored_scripts() {
     let scripts = stored();
     for name in CUT {
         let script = scripts.iter().find(|script| script.name == name).expect("a stored script");
-        assert!(pulled(&script.text) > 100, "{name} has few cuts");
+        let cuts = pulled(&script.text);
+        assert!(cuts > 100, "{name} has only {cuts} cuts");
     }
 }
 

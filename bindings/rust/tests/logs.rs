@@ -26,7 +26,7 @@ fn good() {
     assert_eq!(held(&[BLOCK * 4 + 1, 1]), Ok(vec![0, 4]));
     assert_eq!(held(&[4, BLOCK * 3]), Ok(vec![0, 1, 2]));
     assert_eq!(held(&[4, BLOCK * 3, BLOCK + 2]), Ok(vec![0, 2]));
-    assert_eq!(held(&[BLOCK * 3 + 4, BLOCK * 3, BLOCK * 4 + 5, BLOCK * 2]), Ok(vec![3]));
+    assert_eq!(held(&[BLOCK * 4 + 4, BLOCK * 3, BLOCK * 5 + 5, BLOCK * 2]), Ok(vec![4]));
 }
 
 /// What stands up to the last whole word equal to 3 counts; what is after it is not judged and records nothing.
@@ -75,13 +75,13 @@ fn bad() {
         &[6],
         &[BLOCK + 3],
         &[0x101],
-        &[BLOCK * 6 + 1],
+        &[BLOCK * 8 + 1],
         &[u64::MAX],
         &[4],
         &[4, 0],
         &[4, 1],
-        &[4, BLOCK * 4],
-        &[BLOCK * 2 + 4, BLOCK * 2],
+        &[4, BLOCK * 5],
+        &[BLOCK * 3 + 4, BLOCK * 2],
         &[1, 1],
         &[2],
         &[1, 4, BLOCK],
@@ -118,19 +118,20 @@ fn compared() {
     assert_eq!(alike(&[1, 2], &[]), Ok(true));
 }
 
-/// A store's own log, with a barrier at its end, reads to its held blocks, before and after a compression, and the two are alike.
+/// A store's own log, with a barrier at its end, reads to its held blocks, queued ones among them, before and after a compression, and the two are alike.
 #[test]
 fn own_log() {
     let mut m = small();
-    // block 4 is held at the last barrier that there is
-    assert_eq!(read(m.used()), Ok(vec![0, 1, 2, 3, 4]));
+    // block 5 is held at the last barrier that there is, 3 and 6 were given after it
+    assert_eq!(read(m.used()), Ok(vec![0, 1, 2, 4, 5]));
     numbers(&mut m.store(SMALL), Call::Barrier).unwrap();
     let old = m.used().to_vec();
     assert_eq!(m.store(SMALL).log(), old);
     let mut out = vec![0; SMALL.out_len()];
     let list = m.store(SMALL).free_list().unwrap();
     let free: Vec<u32> = list.iter().flat_map(|(first, length)| *first..first + length).collect();
-    let held: Vec<u32> = (0..6).filter(|b| !free.contains(b)).collect();
+    let held: Vec<u32> = (0..8).filter(|b| !free.contains(b)).collect();
+    assert_eq!((&held[..], &m.tables[10]), (&[0, 1, 2, 3, 4, 6][..], &2));
     assert_eq!(log_read(SMALL, &old, &mut out), Ok(&held[..]));
     numbers(&mut m.store(SMALL), Call::Compress).unwrap();
     assert_ne!(m.used(), old);
@@ -158,7 +159,7 @@ fn geometry_and_buffer() {
     assert!(out.iter().all(|x| *x == MARKS));
     for i in 0..6 {
         for x in [0, usize::MAX, 1 << 32] {
-            let mut n = [2, 3, 5, 6, 7, 20];
+            let mut n = [2, 4, 5, 6, 7, 20];
             n[i] = x;
             let g = Geometry { arenas: n[0], per: n[1], pages: n[2], records: n[3], turn: n[4], words: n[5] };
             assert_eq!(log_read(g, &log, &mut out), Err(Refusal::OUTSIDE_LIMITS), "{g:?}");
@@ -273,7 +274,7 @@ fn compacted() {
     assert_eq!(compact(&[]), bytes(&[3]));
     assert_eq!(compact(&[3, 3]), bytes(&[3]));
     assert_eq!(compact(&[BLOCK + 1, 1]), bytes(&[4, BLOCK * 2, 3]));
-    assert_eq!(compact(&[4, BLOCK * 3, BLOCK * 3 + 1]), bytes(&[4, BLOCK * 3, BLOCK * 3 + 1, 3]));
+    assert_eq!(compact(&[4, BLOCK * 4, BLOCK * 4 + 1]), bytes(&[4, BLOCK * 4, BLOCK * 4 + 1, 3]));
     assert_eq!(compact(&[4, BLOCK * 3, BLOCK + 2]), bytes(&[1, BLOCK * 2 + 1, 3]));
     let log = bytes(&[1]);
     for short in [0, 8, SMALL.log_len() - 1] {

@@ -80,15 +80,15 @@ fn limits() {
 fn spare(at: usize) -> bool {
     let births = 2048 + 512 * SMALL.records;
     match at {
-        0..=63 => at != WAITING && (10..16).contains(&at) || at >= 16 + SMALL.arenas,
+        0..=63 => (12..16).contains(&at) || at >= 16 + SMALL.arenas,
         64..=127 => false,
         192..=511 | 576..=703 => at % 64 >= SMALL.records,
         768..=2047 => spare_in_name((at - 768) / 40, (at - 768) % 40),
         128..=767 => true,
         // rows of pages and of deadlists; a deadlist has no more blocks than a record has pages
         _ if at < births => at % 256 >= SMALL.pages,
-        // births, two spare numbers for each block, the waiting list
-        _ => (births + SMALL.blocks()..births + 3 * SMALL.blocks()).contains(&at),
+        // births, the queue and its births, the waiting list
+        _ => false,
     }
 }
 
@@ -102,9 +102,6 @@ fn spare_in_name(row: usize, at: usize) -> bool {
         _ => length.map_or(true, |length| at - 8 >= length),
     }
 }
-
-/// The number that says how many blocks wait.
-const WAITING: usize = 11;
 
 /// What every call answers on a copy of the memory. Refused ones change nothing, accepted ones leave a sound store.
 fn answers(m: &Space) -> Vec<Result<Vec<u32>, Refusal>> {
@@ -187,14 +184,14 @@ fn random_memory() {
         m.tables.fill_with(|| if small_numbers { r.below(4) as u32 } else { r.next() as u32 });
         m.log.fill_with(|| r.next() as u8);
         m.out.fill_with(|| r.next() as u32);
-        m.tables[..6].copy_from_slice(&[2, 3, 5, 6, 7, 20]);
+        m.tables[..6].copy_from_slice(&[2, 4, 5, 6, 7, 20]);
         for call in every_call(r.below(5) as u32, r.below(6) as u32) {
             refused(&mut m, SMALL, call, 4);
         }
         let (log, out) = (m.log.clone(), m.out.clone());
         assert_eq!(m.make(SMALL), Ok(()));
         assert_eq!((&m.log, &m.out), (&log, &out));
-        assert_eq!(m.store(SMALL).free_list(), Ok(vec![(0, 3), (3, 3)]));
+        assert_eq!(m.store(SMALL).free_list(), Ok(vec![(0, 4), (4, 4)]));
     }
 }
 

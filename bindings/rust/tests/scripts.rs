@@ -126,23 +126,34 @@ fn births_of_any_length() {
     for n in [2, 9, 10, 99, 100, 999, 1000, 9_999, 10_000, 99_999, 100_000, 999_999] {
         let mut lent = begun();
         lent.tables[6] = n - 1;
-        let text = format!("B\nW {n} 1 0\nW {n} 1 0\nR {n} 1\nR 1 0\nE {n} 1\nW {n} 0 0\nD {n}\n");
-        let said = format!("+ {n}\n+ 1:{n}\n+ 2:{n} 1:{n}\n+ 2:{n}\n+ 0:1\n+ 2:{n}\n+ 3:{n}\n+ 3:{n}\n");
+        let text = format!("B\nW {n} 1 0\nW {n} 1 0\nR {n} 1\nR 1 0\nE {n} 1\nW {n} 0 0\nD {n}\nT 64\n");
+        let said = format!("+ {n}\n+ 1:{n}\n+ 2:{n} 1:{n}\n+ 2:{n}\n+ 0:1\n+ 2:{n}\n+ 3:{n}\n+\n+ 3:{n}\n");
         let part = lent.part(text.as_bytes(), 0).unwrap();
         assert_eq!(String::from_utf8_lossy(&lent.replies[..part.count]), said);
     }
 }
 
-/// What a window frees stands after the new number, however long the numbers are.
+/// A seal that deletes prints its number alone, and a T then what was queued, however long the numbers are.
 #[test]
 fn windows_with_numbers_of_any_length() {
     for first in [2, 8, 9, 98, 99, 998, 999, 9_998, 9_999, 99_998, 99_999, 999_997] {
         let (mut lent, second, third) = (begun(), first + 1, first + 2);
         lent.tables[6] = first - 1;
-        let text = format!("B\nW {first} 1 0\nK {first} 1\nS {first}\nE {second} 1\nS {second}\nR {first} 1\n");
-        let said = format!("+ {first}\n+ 1:{first}\n+\n+ {second}\n+\n+ {third} 1:{first}\n- 8\n");
+        let text = format!("B\nW {first} 1 0\nK {first} 1\nS {first}\nE {second} 1\nS {second}\nR {first} 1\nT 1\nT 1\n");
+        let said = format!("+ {first}\n+ 1:{first}\n+\n+ {second}\n+\n+ {third}\n- 8\n+ 1:{first}\n+\n");
         let part = lent.part(text.as_bytes(), 0).unwrap();
         assert_eq!(String::from_utf8_lossy(&lent.replies[..part.count]), said);
+    }
+}
+
+/// A T takes 1 to 64.
+#[test]
+fn turns_of_any_length() {
+    for most in [0, 1, 2, 9, 10, 63, 64, 65, 99, 100, 6_400, 9_999_999] {
+        let mut lent = begun();
+        let said = if (1..=64).contains(&most) { "+\n" } else { "- 19\n" };
+        let part = lent.part(format!("T {most}\n").as_bytes(), 0).unwrap();
+        assert_eq!(String::from_utf8_lossy(&lent.replies[..part.count]), said, "{most}");
     }
 }
 

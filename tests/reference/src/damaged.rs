@@ -1,12 +1,13 @@
 //! Calls on damaged memory: stores, damage done to their memory, one call each time. The replies and a sum over what accepted calls leave are
 //! printed. `answer` makes a call: this implementation's makes the prediction, the proved library's must print the same.
-use crate::layout::{birth_at, list_at, log_needed, pages_at, result_needed, tables_needed, title_at, wait_at, Memory};
-use crate::layout::{BASE, BEFORE, FREE, LENGTH, MARKS, NAMED, NUMBER, OPEN, WAITING, WINDOW};
+use crate::layout::{birth_at, list_at, log_needed, pages_at, queue_at, queued_at, result_needed, tables_needed, title_at, wait_at, Memory};
+use crate::layout::{BASE, BEFORE, FREE, LENGTH, MARKS, NAMED, NUMBER, OPEN, QUEUE, WAITING, WINDOW};
 use crate::store::{Geometry, Reply, NAMES};
 use calls::{Call, Command, Naming};
 use std::fmt::Write;
 
 mod names;
+mod queue;
 
 /// Makes a call, on six numbers and the first so many numbers, bytes and numbers of the tables, the log and a result buffer.
 pub trait Answers {
@@ -26,7 +27,7 @@ struct Report<'a> {
     text: String,
     last: Option<(u64, Reply)>,
     cases: u64,
-    counts: [u64; 19],
+    counts: [u64; 20],
     sums: [u64; 2],
     random: u64,
 }
@@ -90,7 +91,7 @@ struct Subject {
     asks: Vec<Command<'static>>,
 }
 
-/// A digit, or for `?` a number that no store has; `n` is 62 and `o` 63, since they come so far after 0.
+/// A digit, or for `?` a number that no store has; `n` is 62, `o` 63, `p` 64 and `q` 65, since they come so far after 0.
 fn digit(b: u8) -> u32 {
     if b == b'?' {
         u32::MAX
@@ -280,14 +281,14 @@ impl Subject {
         }
     }
 
-    /// A birth changed, and with it the block's bit of the free words, unless the block waits.
+    /// A birth changed, and with it the block's bit of the free words, unless the block waits or is queued.
     fn births(&self, report: &mut Report) {
         for b in 0..self.blocks() {
             for birth in 0..9 {
                 let mut m = self.sound.clone();
                 m.tables[birth_at(&self.g, b)] = birth;
-                let waits = self.waiting(&m).contains(&(b as u32));
-                set_bit(&mut m, b, birth == 0 && !waits);
+                let kept = self.waiting(&m).contains(&(b as u32)) || self.queue(&m).contains(&(b as u32));
+                set_bit(&mut m, b, birth == 0 && !kept);
                 self.ask_damaged(report, &m, 5 * b + birth as usize);
             }
         }
@@ -395,7 +396,8 @@ impl Subject {
 
     /// Two numbers with a meaning changed: one goes up or down, the other becomes a number below 5.
     fn twos(&self, report: &mut Report) {
-        let mut spots = vec![6, 7, 8, 9, WAITING, MARKS, FREE, birth_at(&self.g, 0), birth_at(&self.g, 1), wait_at(&self.g, 0), wait_at(&self.g, 1)];
+        let mut spots = vec![6, 7, 8, 9, QUEUE, WAITING, MARKS, FREE];
+        spots.extend((0..2).flat_map(|i| [birth_at, queue_at, queued_at, wait_at].map(|at| at(&self.g, i))));
         let columns = |s: usize| COLUMNS.map(|column| column + s);
         spots.extend((0..self.records()).flat_map(columns));
         spots.extend((0..self.records()).flat_map(|s| [pages_at(s), list_at(&self.g, s)]));
@@ -452,9 +454,11 @@ impl Subject {
             1 | 2 => COLUMNS[at % 7] + slot,
             3 | 4 => pages_at(slot) + at / 2,
             5 => list_at(&self.g, slot) + at / 2,
-            6 if at < 4 => FREE + at / 4,
-            6 => wait_at(&self.g, at % self.blocks()),
-            _ => birth_at(&self.g, at),
+            6 if at < 2 => FREE,
+            6 if at < 5 => wait_at(&self.g, slot % self.blocks()),
+            6 => queue_at(&self.g, slot % self.blocks()),
+            _ if slot < 6 => birth_at(&self.g, at),
+            _ => queued_at(&self.g, at % self.blocks()),
         }
     }
 
@@ -526,7 +530,7 @@ impl Subject {
     /// Damage to what has a meaning.
     fn meant(&self, report: &mut Report) {
         self.group(report, "numbers", |r| self.numbers(r));
-        for apart in [1, 40, 64, 256, 256 * self.records(), 3 * self.blocks()] {
+        for apart in [1, 40, 64, 256, 256 * self.records(), 2 * self.blocks(), 3 * self.blocks()] {
             self.group(report, "pairs", |r| self.exchanged(r, apart));
         }
         self.group(report, "last", |r| self.last(r));
@@ -607,8 +611,8 @@ fn step(report: &mut Report, six: &[u64; 6], lent: [usize; 3], memory: &mut Memo
 }
 
 fn any_call(report: &mut Report, last: u32) -> Command<'static> {
-    let letter = b"WWWWSSSFDDERYCLBEQQKKNNNUUMM"[(report.next() % 28) as usize];
-    let n = last.wrapping_sub(report.small() as u32);
+    let letter = b"WWWWSSSFDDERYCLBEQQKKNNNUUMMTTT"[(report.next() % 31) as usize];
+    let n = if letter == b'T' { report.small() as u32 } else { last.wrapping_sub(report.small() as u32) };
     let page = (report.small() / 2) as u32;
     let kind = (report.small() / 2) as u32;
     if Naming::LETTERS.contains(&letter) {
@@ -623,75 +627,85 @@ fn group(report: &mut Report, name: &str) {
 }
 
 /// How many calls are asked of each store.
-const ASKS: usize = 53;
+const ASKS: usize = 58;
 
 /// Asked of the stores whose next S deletes by a window: the names that one of them has are a, b, c and d, and the longest.
 const OF_WINDOWS: &str = "B000W500W512W530W503W540W600W611W200W?00E500E510E520E530E600E100S500S600S100S700S500S600F100F200F400F500\
-                          D100D200D300D400D500D600R500R610R2?0Y000C000L000Q100Q200Q500K510K5n0Nx10Ny50Na30N310Nz90Ua00Ux00M100Mx00M000";
+                          D100D200D300D400D500D600R500R610R2?0Y000C000L000Q100Q200Q500K510K5n0Nx10Ny50Na30N310Nz90Ua00Ux00M100Mx00M000\
+                          T100T200Tp00Tq00T000";
 
 /// The stores, and the calls asked of each.
-const SUBJECTS: [([u64; 6], &str, &str); 15] = [
+const SUBJECTS: [([u64; 6], &str, &str); 18] = [
     (
         [2, 4, 3, 7, 2, 24],
         "B000W100W111W122S100W200Y000S200W311W302S300E420E410D200F100W500S500W601F500E710",
         "B000W400W612W721W100W730W703W?00E400E600E610E720E200S400R3?0S700S100F100F300F500F400D100D300D400D600D700D500R310R710Y000C000L000\
-         Q100Q300Q400Q700Q200K410K620K7n0K7o0K100K910Na10NB40N140N310N440N090Ua00Ma00U400M000",
+         Q100Q300Q400Q700Q200K410K620K7n0K7o0K100K910Na10NB40N140N310N440N090Ua00Ma00U400M000\
+         T100T200Tp00Tq00T000",
     ),
     (
         [1, 4, 2, 4, 8, 10],
         "B000W100S100W200W200F100D100",
         "B000W200W210W220W300W311W100W203W?00E300E200E210E100E900S200S300S100S800F100F200F700D100D200D300D900R200R110R2?0R400Y000C000L000\
-         Q100Q200Q300Q900Q?00K210K320K2n0K3o0K110K910Na10NB20N230N310N520N?90Na90Ua00Mz00M300",
+         Q100Q200Q300Q900Q?00K210K320K2n0K3o0K110K910Na10NB20N230N310N520N?90Na90Ua00Mz00M300\
+         T100T200Tp00Tq00T000",
     ),
     (
         [1, 2, 2, 2, 1, 6],
         "B000W100S100W200Y000Y000Y000Y000",
         "B000W200W210W100W220W203W900E200E210E100E2?0E900S200S100S900F100F200F900D100D200D900R200R100R110R120R900Y000C000L000D?00R210S?00\
-         Q100Q200Q900Q?00Q000K210K220K2n0K2o0K110K900Na10NB20N120N320N610Na?0N3?0Ua00Ma00U000",
+         Q100Q200Q900Q?00Q000K210K220K2n0K2o0K110K900Na10NB20N120N320N610Na?0N3?0Ua00Ma00U000\
+         T100T200Tp00Tq00T000",
     ),
     (
         [1, 2, 1, 5, 1, 6],
         "B000W100S100S200S300F300D400S500E600",
         "B000W600W610W603W100W?00E600E500E610S600S500S900F100F300F500F600D100D200D300D500D600D900R100R600R200R300R500R610Y000C000L000D?00\
-         Q100Q200Q300Q500Q600K610K620K6n0K6o0K510K410Na10NB60N150N330N760Na40N740Uz00MB00M700",
+         Q100Q200Q300Q500Q600K610K620K6n0K6o0K510K410Na10NB60N150N330N760Na40N740Uz00MB00M700\
+         T100T200Tp00Tq00T000",
     ),
     (
         [3, 15, 6, 5, 4, 92],
         "B000W100W112W120W132W141W152S100W202W210E250S200W322W300E340E310S300E430W402",
         "B000W400W411W422W432W443W460W100E400E410E420E430E450E100S400S100F100F200F300F400D100D200D300D400D500R400R110R430Y000C000L000D900\
-         Q100Q200Q300Q400Q500K410K420K4n0K4o0K300K510Na10NB40N130N310N840Na50N050Ua00Ma00M800",
+         Q100Q200Q300Q400Q500K410K420K4n0K4o0K300K510Na10NB40N130N310N840Na50N050Ua00Ma00M800\
+         T100T200Tp00Tq00T000",
     ),
     // a deadlist with three births, two of them above the pred, out of order
     (
         [2, 8, 4, 5, 3, 34],
         "B000W100W111W122W130S100W200W211S200W320S300D200E410W420W401E430F100E500",
         "B000W400W413W440W100E400E410E420E430E300S400S500S100F100F300F400D100D300D400D500D900R400R110R4?0Y000C000L000\
-         Q100Q300Q400Q500Q200Q600Q?00Q000W510R500K410K520K4n0K5o0K110K910Na10NB40N130N350N440Na20N020Ua00Ma00U300",
+         Q100Q300Q400Q500Q200Q600Q?00Q000W510R500K410K520K4n0K5o0K110K910Na10NB40N130N350N440Na20N020Ua00Ma00U300\
+         T100T200Tp00Tq00T000",
     ),
     // blocks that wait, not by their numbers, after others that were released; of 34 blocks, so that two free words have some
     (
         [2, 17, 4, 4, 3, 70],
         "B000W100W111W122W130W101W110Y000W121S100W201W212W202E220W231W231W230D100",
         "B000W200W211W222W232W204W243W?00E200E210E220E230E240E100S200S100S300F100F200D200D100D300D?00R200R210R2?0R130Y000C000L000\
-         Q200Q100Q300Q?00W201Y000L000K210K220K2n0K2o0K200K110Na20NB20N120N320N420Na10N010Ua00Ma00M300",
+         Q200Q100Q300Q?00W201Y000L000K210K220K2n0K2o0K200K110Na20NB20N120N320N420Na10N010Ua00Ma00M300\
+         T100T200Tp00Tq00T000",
     ),
     // full: a block on a page, the others wait
     (
         [1, 3, 2, 2, 1, 8],
         "B000W100W100W100",
         "B000W100W110W120W103W200W?00W101W112E100E110E120E200S100S200S?00F100F200D100D200D?00R100R110R120R200Y000C000L000W100Y000C000L000\
-         Q100Q200Q?00E100D100K110K120K1n0K1o0K100K210Na10NB10N110N310N410Na20N020Ua00Ma00M300",
+         Q100Q200Q?00E100D100K110K120K1n0K1o0K100K210Na10NB10N110N310N410Na20N020Ua00Ma00M300\
+         T100T200Tp00Tq00T000",
     ),
     // every block waits
     (
         [1, 3, 2, 2, 1, 8],
         "B000W100W100W100E100",
         "B000W100W110W120W103W200W?00W101W112E100E110E120E200S100S200S?00F100F200D100D200D?00R100R110R120R200Y000C000L000W100Y000C000L000\
-         Q100Q200Q?00E100D100K110K120K1n0K1o0K100K210Na10NB10N110N310N410Na20N020Ua00Ma00M300",
+         Q100Q200Q?00E100D100K110K120K1n0K1o0K100K210Na10NB10N110N310N410Na20N020Ua00Ma00M300\
+         T100T200Tp00Tq00T000",
     ),
     // a line with a window, and a seal that will delete three records of it and pass over one that is forked, which has a window too
     ([2, 8, 4, 8, 3, 40], "B000W100W111W122S100W200W211S200W300S300W400W411E420S400F200W600W500W511K520K610", OF_WINDOWS),
-    // the same with a log that lacks a word for it
+    // the same with a log that has fewer words left than it queues blocks
     (
         [1, 12, 4, 7, 3, 26],
         "B000W100W111W122S100W200W211S200W300S300W400W411E420S400F200W600W500W511K520Y000Y000Y000Y000Y000Y000Y000Y000Y000Y000Y000",
@@ -702,11 +716,12 @@ const SUBJECTS: [([u64; 6], &str, &str); 15] = [
         [1, 4, 2, 3, 2, 10],
         "B000W100S100W200S200W311K310",
         "B000W300W310W320W303W100W?00W301W312E300E310E320E200S300S200S900F100F200F300D100D200D300D900R300R110R320R200Y000C000L000S300L000\
-         Q100Q200Q300Q900K310K320K3n0K3o0K100K210K910Na10NB30N120N330N420Na90N090Ua00Ma00M300",
+         Q100Q200Q300Q900K310K320K3n0K3o0K100K210K910Na10NB30N120N330N420Na90N090Ua00Ma00M300\
+         T100T200Tp00Tq00T000",
     ),
     // a line with a window and names: its seal moves one of the longest, deletes two records and passes over a named one, and over one that is forked too
     ([2, 8, 4, 8, 3, 40], "B000W100W111W122S100W200W211S200W300S300W400W411E420S400F200W600W500W511K520K610Na30Nb20NC30N150Nf40Ng60Uf00", OF_WINDOWS),
-    // the same with a log that lacks a word for it
+    // the same with a log that has fewer words left than it queues blocks
     (
         [1, 12, 4, 7, 3, 26],
         "B000W100W111W122S100W200W211S200W300S300W400W411E420S400F200W600W500W511K520Na30Nb20NC30N150Y000Y000Y000Y000Y000Y000Y000Y000Y000Y000Y000Y000",
@@ -718,12 +733,37 @@ const SUBJECTS: [([u64; 6], &str, &str); 15] = [
         "B000W100S100F100Na10Nb10Nc10Nd10Ne10Nf10Ng10Nh10Ni10Nj10Nk10Nl10Nm10Nn10No10Np10Nq10Nr10Ns10Nt10Nu10Nv10Nw10Nx10Ny10Nz10\
          NA10NB10NC10ND10NE20NF30",
         "B000W200W210W220W300W311W100W203W?00E300E200E210E100E900S200S300S100S800F100F200F700D100D200D300D900R200R110R2?0R400Y000C000L000\
-         Q100Q200Q300Q900Q?00K210K320K2n0K3o0K110K910N110N120NF30N310N?90UE00Uz00MF00MA00MX00",
+         Q100Q200Q300Q900Q?00K210K320K2n0K3o0K110K910N110N120NF30N310N?90UE00Uz00MF00MA00MX00\
+         T100T200Tp00Tq00T000",
+    ),
+    // a queue of two deletes, begun where another was freed in part, and blocks that wait; of 34 blocks, and the next seal queues more
+    (
+        [2, 17, 4, 5, 3, 70],
+        "B000W100W111W122W130S100W200W211B000W300W312W331D300T200D100S200W421W400B000W500W501K410",
+        "B000W400W411W422W432W404W443W?00E400E410E420E430E540W502S400S500S200S300F200F400D200D400D500D?00R200R410R4?0R530Y000C000L000\
+         Q200Q400Q300Q?00Q500C000K410K520K2n0K4o0K400K110Na20NB20N120N340N440Na10N010Ua00Ma00M300\
+         T100T200T300Tp00T000",
+    ),
+    // a queue longer than the log has words left
+    (
+        [1, 4, 4, 3, 1, 10],
+        "B000W100W110W120D100B000Y000Y000Y000Y000Y000Y000",
+        "B000W200W210W220W203W100W?00W201W212W232E200E210E220E100S200S100S?00F100F200D100D200D?00R200R210R220R100Y000C000L000W240Y000C000\
+         Q100Q200Q?00E240D300K210K220K2n0K2o0K200K310Na20NB20N120N320N420Na10N010Ua00Ma00M300\
+         T100T200Tp00Tq00T000",
+    ),
+    // every block is queued
+    (
+        [1, 3, 2, 2, 1, 8],
+        "B000W100W110B000W200D200D100B000",
+        "B000W300W310W320W303W200W?00W301W312E300E310E320E200S300S200S?00F100F300D100D300D?00R300R310R320R200Y000C000L000W300Y000C000L000\
+         Q100Q300Q?00E300D300K310K320K3n0K3o0K300K210Na30NB30N130N330N430Na20N020Ua00Ma00M300\
+         T100T200Tp00Tq00T000",
     ),
 ];
 
 pub fn printed(answers: &mut dyn Answers) -> String {
-    let mut report = Report { answers, text: String::new(), last: None, cases: 0, counts: [0; 19], sums: [0, 0], random: 1 };
+    let mut report = Report { answers, text: String::new(), last: None, cases: 0, counts: [0; 20], sums: [0, 0], random: 1 };
     for (i, (six, script, asks)) in SUBJECTS.into_iter().enumerate() {
         let subject = Subject::made(six, script, asks, &mut report);
         match i {
@@ -738,6 +778,14 @@ pub fn printed(answers: &mut dyn Answers) -> String {
             }
             13 => subject.windowed(&mut report),
             14 => subject.full_of_names(&mut report),
+            15 => {
+                subject.meant(&mut report);
+                subject.queues(&mut report);
+            }
+            16 | 17 => {
+                subject.queues(&mut report);
+                subject.windowed(&mut report);
+            }
             _ => subject.all(&mut report),
         }
     }

@@ -1,11 +1,12 @@
 //! Scripts made at random from a seed: forks of forks, deletes in the middle of a line, lines that lose their first record again and again, by deletes
-//! and by windows, windows with forks and names in them, long deadlists, full stores, stores that are full of blocks that wait, many barriers and few,
-//! full logs, full record tables, as many names as there can be, estimates of deletes, bad lines and bad names, scripts longer than what is read.
+//! and by windows, windows with forks and names in them, long deadlists, long queues and queues that are freed in turns, full stores, stores that are full
+//! of blocks that wait or are queued, many barriers and few, full logs, full record tables, as many names as there can be, estimates of deletes, bad lines
+//! and bad names, scripts longer than what is read.
 //! `reference reached` counts them.
 use crate::store::{Geometry, Store};
 use calls::{Call, Command, Naming};
 pub use names::naming;
-use names::{any_name, free_name, name_on};
+use names::{any_name, name_on};
 
 mod names;
 
@@ -55,8 +56,25 @@ fn large(d: &mut Dice) -> [u32; 6] {
     [arenas, per, 64 + d.below(193), records, 1 + d.below(5), 2 * arenas * per + 2 + d.below(60)]
 }
 
-const BAD: [&str; 16] =
-    ["", "B ", " B", "W 1 0", "W 1 0 0 0", "E 01 0", "S", "Q", "b", "store", "store 1 4 2 4 8", "D 12345678", "R 1  0", "T 3", "K 1", "K 1 01"];
+const BAD: [&str; 17] = [
+    "",
+    "B ",
+    " B",
+    "W 1 0",
+    "W 1 0 0 0",
+    "E 01 0",
+    "Q",
+    "b",
+    "store",
+    "store 1 4 2 4 8",
+    "D 12345678",
+    "R 1  0",
+    "H 3",
+    "K 1",
+    "K 1 01",
+    "T",
+    "T 3 1",
+];
 
 /// A record to ask for: mostly one of those in the store, by rising numbers, most often a new one.
 pub fn record(d: &mut Dice, numbers: &[u32]) -> u32 {
@@ -78,6 +96,16 @@ pub fn most(d: &mut Dice) -> u32 {
     }
 }
 
+/// How many blocks a T is to free: mostly few, so that a queue takes several turns; as many as there can be, and some that are refused.
+pub fn turn(d: &mut Dice) -> u32 {
+    match d.below(16) {
+        0..=6 => 1 + d.below(3),
+        7..=9 => 1 + d.below(16),
+        10..=14 => d.one_of(&[32, 63, 64, 64]),
+        _ => d.one_of(&[0, 65, 66, 9_999_999]),
+    }
+}
+
 /// A call on a store with these records, with weights: `grow` leans towards new records and writes, else towards deletes. It sets no window and has no
 /// name.
 pub fn call(d: &mut Dice, g: &[u32; 6], numbers: &[u32], grow: bool) -> Call {
@@ -85,7 +113,7 @@ pub fn call(d: &mut Dice, g: &[u32; 6], numbers: &[u32], grow: bool) -> Call {
     let page = if d.below(40) == 0 { g[2] + d.below(2) } else { d.below(g[2]) };
     let kind = if d.below(60) == 0 { 3 } else { d.below(3) };
     let delete = if grow { 4 } else { 30 };
-    match d.below(86 + delete) {
+    match d.below(91 + delete) {
         0..=4 => Call::Begin,
         5..=39 => Call::Write(r, page, kind),
         40..=50 => Call::Erase(r, page),
@@ -95,6 +123,7 @@ pub fn call(d: &mut Dice, g: &[u32; 6], numbers: &[u32], grow: bool) -> Call {
         80 => Call::Barrier,
         81..=82 => Call::Compress,
         83..=85 => Call::FreeList,
+        86..=90 => Call::Reclaim(turn(d)),
         _ => Call::Delete(r),
     }
 }
@@ -118,16 +147,33 @@ enum Mood {
     Rewrite,
     /// names for one sealed record, until there are as many as there can be
     Name,
+    /// records deleted and the queue freed by turns
+    Sweep,
 }
 
-const MOODS: [Mood; 11] =
-    [Mood::Grow, Mood::Grow, Mood::Grow, Mood::Shrink, Mood::Shrink, Mood::Roll, Mood::Fill, Mood::Fill, Mood::Fork, Mood::Rewrite, Mood::Rewrite];
+const MOODS: [Mood; 12] = [
+    Mood::Grow,
+    Mood::Grow,
+    Mood::Grow,
+    Mood::Shrink,
+    Mood::Shrink,
+    Mood::Roll,
+    Mood::Fill,
+    Mood::Fill,
+    Mood::Fork,
+    Mood::Rewrite,
+    Mood::Rewrite,
+    Mood::Sweep,
+];
 /// Those of a store with windows.
-const WITH_WINDOWS: [Mood; 9] =
-    [Mood::Grow, Mood::Shrink, Mood::Window, Mood::Window, Mood::Window, Mood::Fill, Mood::Fill, Mood::Fork, Mood::Rewrite];
+const WITH_WINDOWS: [Mood; 10] =
+    [Mood::Grow, Mood::Shrink, Mood::Window, Mood::Window, Mood::Window, Mood::Fill, Mood::Fill, Mood::Fork, Mood::Rewrite, Mood::Sweep];
 
 /// How often a barrier is put in front of a call: one in so many times, or never, so that there are only those that the calls lean to.
 const BARRIERS: [Option<u32>; 5] = [None, None, Some(3), Some(8), Some(30)];
+
+/// The same of a T: queues are short, or so long that a store is full of them.
+const TURNS: [Option<u32>; 5] = [None, Some(4), Some(8), Some(8), Some(30)];
 
 /// Of the calls with a name one in so many takes one off, or there are none: names are few, or so many that there is no room for another.
 const UNNAMES: [Option<u32>; 7] = [None, None, None, None, Some(2), Some(3), Some(16)];
@@ -136,6 +182,7 @@ const UNNAMES: [Option<u32>; 7] = [None, None, None, None, Some(2), Some(3), Som
 struct Course {
     g: [u32; 6],
     barriers: Option<u32>,
+    turns: Option<u32>,
     windows: bool,
     unnames: Option<u32>,
     store: Store,
@@ -146,7 +193,8 @@ impl Course {
     fn new(d: &mut Dice, shape: fn(&mut Dice) -> [u32; 6]) -> Course {
         let g = shape(d);
         let store = Store::new(Geometry::new(g).expect("inside the limits"));
-        Course { g, barriers: d.one_of(&BARRIERS), windows: d.below(2) == 0, unnames: d.one_of(&UNNAMES), store, refused: false }
+        let (barriers, turns) = (d.one_of(&BARRIERS), d.one_of(&TURNS));
+        Course { g, barriers, turns, windows: d.below(2) == 0, unnames: d.one_of(&UNNAMES), store, refused: false }
     }
 
     fn mood(&self, d: &mut Dice) -> Mood {
@@ -168,33 +216,29 @@ impl Course {
         }
     }
 
-    /// A barrier, a K, a call with a name and a Q, each where it is its time; or what makes a window meet the end of the log.
+    /// A barrier, a T, a K, a call with a name and a Q, each where it is its time; or what makes a T meet the end of the log.
     fn before(&self, d: &mut Dice, asks: &mut Dice, c: Call) -> Vec<Command<'static>> {
         let barrier = self.barriers.filter(|&n| d.below(n) == 0).map(|_| Call::Barrier);
+        let reclaim = self.turns.filter(|&n| d.below(n) == 0).and_then(|_| self.turned(d));
         let window = if self.windows { self.retained(d, c) } else { None };
         let named = self.unnames.and_then(|n| self.named(d, c, n));
         let asked = self.asked(asks, c).map(Command::from);
-        let cornered = if let Call::Seal(r) = c { self.cornered(d, r) } else { None };
-        cornered.unwrap_or_else(|| barrier.into_iter().chain(window).map(Command::from).chain(named).chain(asked).collect())
+        let cornered = if let Call::Reclaim(most) = c { self.cornered(d, most) } else { None };
+        cornered.unwrap_or_else(|| barrier.into_iter().chain(reclaim).chain(window).map(Command::from).chain(named).chain(asked).collect())
     }
 
-    /// In front of an S of r, now and then where few log words are left: the least window; where records have names, one on the oldest sealed record of the
-    /// line, most of the time; and barriers until fewer words are left than the S is to write. None where it writes none.
-    fn cornered(&self, d: &mut Dice, r: u32) -> Option<Vec<Command<'static>>> {
-        let unused = self.store.unused();
-        if !self.windows || unused > 32 || d.below(4) > 0 {
+    /// A T where something is queued, and now and then where nothing is.
+    fn turned(&self, d: &mut Dice) -> Option<Call> {
+        (!self.store.queue.is_empty() || d.below(12) == 0).then(|| Call::Reclaim(turn(d)))
+    }
+
+    /// In front of a T, now and then where few log words are left: barriers until fewer are left than it is to write, or none.
+    fn cornered(&self, d: &mut Dice, most: u32) -> Option<Vec<Command<'static>>> {
+        let (unused, written) = (self.store.unused(), most.min(self.store.queue.len() as u32));
+        if unused > 32 || written == 0 || d.below(3) > 0 {
             return None;
         }
-        let mut before = vec![Command::from(Call::Retain(r, 1))];
-        if self.unnames.is_some() && d.below(4) > 0 {
-            before.push(Command::Naming(Naming::Attach(self.sealed_before(r).first().copied()?), free_name(d, &self.store)));
-        }
-        let mut copy = self.store.clone();
-        before.iter().for_each(|&c| drop(copy.call(c)));
-        let written = copy.call(Call::Seal(r)).map_or(0, |given| given.len() as u32 / 2);
-        let barriers = (written > 0).then(|| unused.saturating_sub(d.below(written)))?;
-        before.extend(vec![Command::from(Call::Barrier); barriers as usize]);
-        Some(before)
+        Some(vec![Call::Barrier.into(); unused.saturating_sub(d.below(written)) as usize])
     }
 
     /// The open records, by rising numbers.
@@ -220,10 +264,11 @@ impl Course {
     fn next_unnamed(&self, d: &mut Dice, mood: Mood, at: u32) -> Call {
         let youngest = self.open().last().copied();
         match (mood, youngest) {
-            (Mood::Roll, Some(n)) => self.room(d, 5, 1).unwrap_or_else(|| self.roll(d, n)),
+            (Mood::Roll, Some(n)) => self.room(d, 6, 1).unwrap_or_else(|| self.roll(d, n)),
             // less often, so that seals meet full logs and full tables
-            (Mood::Window, Some(n)) => self.room(d, 12, 0).unwrap_or_else(|| self.window(d, n)),
-            (Mood::Fill, Some(n)) => self.room(d, 5, 1).unwrap_or_else(|| self.fill(d, n, at)),
+            (Mood::Window, Some(n)) => self.room(d, 14, 0).unwrap_or_else(|| self.window(d, n)),
+            (Mood::Fill, Some(n)) => self.room(d, 6, 1).unwrap_or_else(|| self.fill(d, n, at)),
+            (Mood::Sweep, Some(n)) => self.sweep(d, n),
             (Mood::Fork, Some(n)) => self.fork(d, n),
             (Mood::Rewrite, Some(n)) => self.released(d).unwrap_or_else(|| self.rewrite(d, n)),
             (Mood::Shrink, _) => call(d, &self.g, &self.store.numbers(), false),
@@ -231,22 +276,36 @@ impl Course {
         }
     }
 
-    /// What makes room, some of the time, where a call was refused: four of `sides`, from the side `first` on, are a C, a Y and twice a D.
+    /// What makes room, some of the time, where a call was refused: five of `sides`, from the side `first` on, are a C, a Y, a T and twice a D.
     fn room(&self, d: &mut Dice, sides: u32, first: u32) -> Option<Call> {
         match d.below(sides).checked_sub(first).filter(|_| self.refused)? {
             0 => Some(Call::Compress),
             1 => Some(Call::Barrier),
-            2..=3 => Some(Call::Delete(record(d, &self.store.numbers()))),
+            2 => Some(Call::Reclaim(turn(d))),
+            3..=4 => Some(Call::Delete(record(d, &self.store.numbers()))),
             _ => None,
         }
     }
 
     /// What ends the waiting, some of the time, where a call was refused.
     fn released(&self, d: &mut Dice) -> Option<Call> {
-        match d.below(6) {
+        match d.below(7) {
             0..=1 if self.refused => Some(Call::Barrier),
             2 if self.refused => Some(Call::Compress),
+            3 if self.refused => Some(Call::Reclaim(turn(d))),
             _ => None,
+        }
+    }
+
+    /// Of the calls between, some are in the youngest open record, to be deleted later.
+    fn sweep(&self, d: &mut Dice, n: u32) -> Call {
+        let page = d.below(self.g[2]);
+        match d.below(12) {
+            0..=2 => Call::Delete(record(d, &self.store.numbers())),
+            3..=5 => Call::Reclaim(turn(d)),
+            6..=7 => Call::Seal(n),
+            8 => Call::Erase(n, page),
+            _ => Call::Write(n, page, d.below(3)),
         }
     }
 
@@ -286,8 +345,8 @@ impl Course {
         }
     }
 
-    /// A K in front of a call: some of the time on the record that is to be sealed, most often the least window where the log is nearly full, so that the
-    /// frees of several deletes meet its end; else now and then on any record, or on a number that may have none.
+    /// A K in front of a call: some of the time on the record that is to be sealed, most often the least window where the log is nearly full, so that
+    /// several deletes are made that have no words to write; else now and then on any record, or on a number that may have none.
     fn retained(&self, d: &mut Dice, next: Call) -> Option<Call> {
         match next {
             Call::Seal(r) if self.store.unused() < 8 && d.below(3) > 0 => Some(Call::Retain(r, 1)),
@@ -377,7 +436,7 @@ fn length(d: &mut Dice, is_large: bool) -> u32 {
 }
 
 /// Lines before there is a store.
-const EARLY: [&str; 6] = ["B", "N a 1", "N A 1", "U", "M a", "K 1 0"];
+const EARLY: [&str; 8] = ["B", "N a 1", "N A 1", "U", "M a", "K 1 0", "T 1", "T 0"];
 
 /// A script; one in twenty has many pages and blocks, and one in twenty lines before there is a store. Its Qs, which change nothing, have dice of their
 /// own.

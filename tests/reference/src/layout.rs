@@ -6,6 +6,8 @@ use crate::store::{Geometry, Line, Record, Reply, Store, LETTERS, NAMES};
 use calls::{Call, Command};
 use std::collections::{BTreeMap, BTreeSet};
 
+/// how many blocks are in the queue, and how many wait
+pub const QUEUE: usize = 10;
 pub const WAITING: usize = 11;
 pub const MARKS: usize = 16;
 pub const FREE: usize = 64;
@@ -37,7 +39,8 @@ pub fn result_needed(g: &Geometry) -> usize {
     2 * g.blocks() as usize + 64
 }
 
-/// Where the pages of a slot begin, where its deadlist does, where the birth of a block stands, and where an entry of the waiting list does.
+/// Where the pages of a slot begin, where its deadlist does, where the birth of a block stands, and where an entry of the queue, the birth of a queued
+/// block and an entry of the waiting list do.
 pub fn pages_at(slot: usize) -> usize {
     2048 + 256 * slot
 }
@@ -48,6 +51,14 @@ pub fn list_at(g: &Geometry, slot: usize) -> usize {
 
 pub fn birth_at(g: &Geometry, b: usize) -> usize {
     list_at(g, g.records as usize) + b
+}
+
+pub fn queue_at(g: &Geometry, i: usize) -> usize {
+    birth_at(g, g.blocks() as usize) + i
+}
+
+pub fn queued_at(g: &Geometry, b: usize) -> usize {
+    birth_at(g, 2 * g.blocks() as usize) + b
 }
 
 pub fn wait_at(g: &Geometry, i: usize) -> usize {
@@ -98,7 +109,11 @@ struct Tables<'a> {
     rows: BTreeMap<usize, Row>,
     /// the rows of the names that are in use, by their places
     titles: BTreeMap<usize, Title>,
+    /// of each block: its birth if a page has it, else 0
     births: Vec<u32>,
+    /// the queue, in its order, and of each block its birth if it is there, else 0
+    queue: Vec<u32>,
+    queued: Vec<u32>,
     /// the waiting list, in the order of freeing
     waiting: Vec<u32>,
 }
@@ -108,8 +123,8 @@ fn link(x: u32) -> Option<usize> {
     (x as usize).checked_sub(1)
 }
 
-/// A deadlist longer than a record has pages is read as far as its row goes, a waiting list longer than the blocks as far as those; both are refused
-/// in any case.
+/// A deadlist longer than a record has pages is read as far as its row goes, a queue or a waiting list longer than the blocks as far as those; all three
+/// are refused in any case.
 fn row_of(g: &Geometry, t: &[u32], slot: usize) -> Row {
     let pages = &t[pages_at(slot)..][..g.pages as usize];
     let list = &t[list_at(g, slot)..][..(t[LENGTH + slot] as usize).min(256)];
@@ -137,9 +152,11 @@ fn rows_of(g: Geometry, t: &[u32]) -> Tables<'_> {
     let rows = used.map(|slot| (slot, row_of(&g, t, slot))).collect();
     let blocks = g.blocks() as usize;
     let births = t[birth_at(&g, 0)..][..blocks].to_vec();
+    let queued = t[queued_at(&g, 0)..][..blocks].to_vec();
+    let queue = t[queue_at(&g, 0)..][..(t[QUEUE] as usize).min(blocks)].to_vec();
     let waiting = t[wait_at(&g, 0)..][..(t[WAITING] as usize).min(blocks)].to_vec();
     let titles = (0..NAMES).filter_map(|i| title_of(t, i).map(|title| (i, title))).collect();
-    Tables { g, t, rows, titles, births, waiting }
+    Tables { g, t, rows, titles, births, queue, queued, waiting }
 }
 
 impl Tables<'_> {
@@ -215,7 +232,7 @@ impl Tables<'_> {
         alone && once && counted
     }
 
-    /// Held blocks are those on pages, each on one page number only.
+    /// The blocks with a birth are those on pages, each on one page number only.
     fn pages_sound(&self) -> bool {
         let last = self.g.blocks();
         if !self.rows.values().all(|row| row.pages.iter().flatten().all(|&b| b < last)) {
@@ -258,10 +275,19 @@ impl Tables<'_> {
         })
     }
 
+    /// The queue has blocks that no page has, each once; these have a birth there, a number that was used, and no others do.
+    fn queue_sound(&self) -> bool {
+        let queue: BTreeSet<u32> = self.queue.iter().copied().collect();
+        self.t[QUEUE] as usize == queue.len()
+            && queue.iter().all(|&b| b < self.g.blocks() && self.births[b as usize] == 0)
+            && (0..self.g.blocks()).all(|b| queue.contains(&b) == (self.queued[b as usize] > 0))
+            && self.queued.iter().all(|&birth| birth <= self.t[6])
+    }
+
     /// The waiting list has blocks that are not held, each once.
     fn waiting_sound(&self) -> bool {
-        let waiting: BTreeSet<u32> = self.waiting.iter().copied().collect();
-        self.t[WAITING] as usize == waiting.len() && waiting.iter().all(|&b| b < self.g.blocks() && self.births[b as usize] == 0)
+        let (waiting, held): (BTreeSet<u32>, BTreeSet<u32>) = (self.waiting.iter().copied().collect(), self.held());
+        self.t[WAITING] as usize == waiting.len() && waiting.iter().all(|b| *b < self.g.blocks() && !held.contains(b))
     }
 
     fn free_sound(&self) -> bool {
@@ -269,8 +295,14 @@ impl Tables<'_> {
         (0..64).all(|k| self.t[FREE + k] == free_word(&kept, &self.g, k))
     }
 
+    /// The blocks on pages and in the queue.
     fn held(&self) -> BTreeSet<u32> {
-        (0..self.g.blocks()).filter(|&b| self.births[b as usize] > 0).collect()
+        (0..self.g.blocks()).filter(|&b| self.birth(b) > 0).collect()
+    }
+
+    /// The birth of a held block, 0 of any other.
+    fn birth(&self, b: u32) -> u32 {
+        self.births[b as usize].max(self.queued[b as usize])
     }
 
     fn sound(&self, log: &[u8]) -> bool {
@@ -280,6 +312,7 @@ impl Tables<'_> {
             && self.pages_sound()
             && self.births_sound()
             && self.deadlists_sound()
+            && self.queue_sound()
             && self.waiting_sound()
             && self.free_sound()
             && read_every(&self.g, &words_of(&log[..8 * self.t[9] as usize])) == Some(self.held())
@@ -320,8 +353,9 @@ impl Tables<'_> {
         store.marks = (0..self.g.arenas as usize).map(|a| self.t[MARKS + a]).collect();
         store.log = words_of(&log[..8 * self.t[9] as usize]);
         for b in self.held() {
-            store.births.insert(b, self.births[b as usize]);
+            store.births.insert(b, self.birth(b));
         }
+        store.queue = self.queue.clone();
         store.freed = self.waiting.clone();
         store.waiting = self.waiting.iter().copied().collect();
         store.names = self.titles.values().map(|title| (title.name(), self.rows[&title.on].number)).collect();
@@ -398,7 +432,7 @@ fn call(six: &[u64; 6], memory: &mut Memory, lent: [usize; 3], c: Command) -> Re
     let mut steps = store.clone();
     let given = store.call(c)?;
     match c {
-        Command::Unnamed(Call::Seal(r)) => steps.seal_in_steps(r, |step| lay(step, memory)).map(|_| ())?,
+        Command::Unnamed(Call::Seal(r)) => drop(steps.seal_in_steps(r, |step| lay(step, memory))),
         _ => lay(&store, memory),
     }
     Ok(given)
@@ -533,7 +567,14 @@ fn lay_blocks(store: &Store, t: &mut [u32]) {
     for (i, &b) in store.freed.iter().enumerate() {
         t[wait_at(&store.g, i)] = b;
     }
+    t[QUEUE] = store.queue.len() as u32;
+    for (i, &b) in store.queue.iter().enumerate() {
+        t[queue_at(&store.g, i)] = b;
+    }
     for b in 0..store.g.blocks() {
-        t[birth_at(&store.g, b as usize)] = store.births.get(&b).copied().unwrap_or(0);
+        let birth = store.births.get(&b).copied().unwrap_or(0);
+        let is_queued = store.queue.contains(&b);
+        t[birth_at(&store.g, b as usize)] = if is_queued { 0 } else { birth };
+        t[queued_at(&store.g, b as usize)] = if is_queued { birth } else { 0 };
     }
 }

@@ -19,6 +19,8 @@ struct Counts {
     /// cuts with a barrier after the beginning, and cuts that leave out words
     settled: usize,
     lost: usize,
+    /// cuts that give blocks which were queued at that barrier
+    queued: usize,
     told: usize,
 }
 
@@ -32,7 +34,7 @@ fn stretches(text: &[u8]) -> Vec<Stretch> {
     let (mut followed, mut all) = (Followed::default(), Vec::new());
     script::each_reply(text, |store, call, reply| {
         if let Some(store) = store {
-            all.extend(followed.go_on(store.g, call, reply, &store.log));
+            all.extend(followed.go_on(store, call, reply));
         }
     });
     all.extend(followed.end());
@@ -49,6 +51,7 @@ fn read_all(name: &str, s: &Stretch, counts: &mut Counts) {
         let kept = s.log[..n / 8].iter().rposition(|&w| w == 3).map_or(0, |at| at + 1);
         counts.settled += (kept > s.start()) as usize;
         counts.lost += (8 * kept < n) as usize;
+        counts.queued += (s.queued(n) > 0) as usize;
     }
     counts.logs += 1;
     counts.cuts += s.cuts().count();
@@ -98,7 +101,9 @@ pub fn pulled(programs: &Programs, from: u64, to: u64, files: &[&str]) {
         let text = std::fs::read(file).unwrap_or_else(|e| fail(file, e.to_string()));
         script_cut(programs, file, &text, &mut d, &mut counts);
     }
-    let Counts { logs, cuts, settled, lost, told } = counts;
+    let Counts { logs, cuts, settled, lost, queued, told } = counts;
     println!("{logs} logs cut at each byte, {cuts} cuts: the blocks held at the last whole barrier, none given since");
-    println!("{settled} of them after a Y, {lost} with bytes after the last barrier; {told} through the log tool");
+    println!(
+        "{settled} of them after a Y, {lost} with bytes after the last barrier, {queued} with blocks queued at that; {told} through the log tool"
+    );
 }

@@ -26,9 +26,16 @@ type Reached = Vec<(bool, &'static str)>;
 struct Before {
     /// the call before, if it had no name
     call: Option<Call>,
+    /// the last two calls that were done, Qs passed over
+    done: [Option<Call>; 2],
     records: BTreeSet<u32>,
     /// the last records of all lines, and the windows of those
     lasts: BTreeMap<u32, u32>,
+    queue: Vec<u32>,
+    /// those of its blocks that a D put there
+    by_delete: BTreeSet<u32>,
+    /// what it was at the last barrier
+    settled: Vec<u32>,
     waiting: BTreeSet<u32>,
     /// the blocks that waited at some time
     waited: BTreeSet<u32>,
@@ -38,23 +45,41 @@ impl Before {
     /// After a line: a store line, if accepted, begins a store in which no block ever waited.
     fn go_on(&mut self, store: &Store, call: Option<Command>, reply: &Reply) {
         if call.is_none() && reply.is_ok() {
-            self.waited.clear();
+            *self = Before::default();
         }
         self.call = if let Some(Command::Unnamed(c)) = call { Some(c) } else { None };
+        if reply.is_ok() {
+            self.go_on_done(store);
+        }
         self.records = store.records.keys().copied().collect();
         self.lasts = store.lines.iter().map(|line| (line.records[line.records.len() - 1], line.window)).collect();
         self.waited.extend(&store.waiting);
         self.waiting = store.waiting.clone();
     }
+
+    /// After a call that was done. The queue is as it was before that.
+    fn go_on_done(&mut self, store: &Store) {
+        match self.call {
+            Some(Call::Delete(_)) => self.by_delete.extend(&store.queue[self.queue.len()..]),
+            Some(Call::Reclaim(_)) => self.by_delete.retain(|b| store.queue.contains(b)),
+            Some(Call::Barrier | Call::Compress) => self.settled = store.queue.clone(),
+            _ => {}
+        }
+        if !matches!(self.call, Some(Call::Estimate(_))) {
+            self.done = [self.done[1], self.call];
+        }
+        self.queue = store.queue.clone();
+    }
 }
 
 fn refused(store: &Store, c: Call, number: u32, before: &Before) -> Reached {
-    let waits = !before.waiting.is_empty();
+    let (waits, queued) = (!before.waiting.is_empty(), !before.queue.is_empty());
     let mut reached = vec![
         (number == 13 && waits, "W refused by 13 while a block waits"),
-        (number == 13 && !waits, "W refused by 13 while no block waits"),
+        (number == 13 && !waits && !queued, "W refused by 13 while no block waits or is queued"),
+        (number == 13 && queued, W_13_QUEUED),
+        (number == 13 && queued && !waits, "W refused by 13 while a block is queued and none waits"),
         (number == 14 && waits && c == Call::Barrier, "Y refused by 14 while a block waits"),
-        (number == 14 && matches!(c, Call::Delete(_)), "D refused by 14"),
         (number == 14 && matches!(c, Call::Write(..)), "W refused by 14"),
         (number == 11, "refused by 11"),
         (number == 10 && matches!(c, Call::Delete(_)), "D refused by 10"),
@@ -65,27 +90,50 @@ fn refused(store: &Store, c: Call, number: u32, before: &Before) -> Reached {
         Call::Seal(r) => reached.extend(not_sealed(store, r, number)),
         Call::Retain(r, _) => reached.extend(not_retained(store, r, number)),
         Call::Delete(r) | Call::Estimate(r) => reached.extend(not_deleted(store, c, r, number)),
+        Call::Reclaim(_) => reached.extend(not_reclaimed(store, number)),
         _ => {}
     }
     reached
 }
 
+/// A T that is refused, which leaves the store as it was.
+fn not_reclaimed(store: &Store, number: u32) -> Reached {
+    vec![
+        (number == 19, T_19),
+        (number == 19 && store.unused() == 0, "T refused by 19 with a full log"),
+        (number == 14, "T refused by 14"),
+        (number == 14 && store.unused() > 0, T_14_SOME),
+        (number == 14 && store.unused() > 3, "T refused by 14 with 4 log words or more left"),
+    ]
+}
+
+/// A T for so many blocks that freed some of them.
+fn reclaimed(store: &Store, most: u32, freed: usize, before: &Before) -> Reached {
+    let (some, left) = (freed > 0, store.queue.len());
+    vec![
+        (!some, "T of an empty queue"),
+        (!some && store.unused() == 0, "T of an empty queue with a full log"),
+        (some && left == 0, T_EMPTIES),
+        (some && left == 0 && freed == most as usize, "T for just as many as are queued"),
+        (some && left == 0 && freed > 1 && freed < most as usize, "T for more than are queued, which are 2 or more"),
+        (some && left > 0, "T that leaves some of the queue"),
+        (freed == 64, "T that frees 64"),
+        (freed == 64 && left > 0, "T that frees 64 and leaves some"),
+        (some && store.unused() == 0, "T whose frees fill the log"),
+        (before.queue[..freed].iter().any(|b| before.settled.contains(b)), T_SETTLED),
+        (before.queue[..freed].iter().any(|b| !before.by_delete.contains(b)), "T that frees what a window queued"),
+    ]
+}
+
 /// An S that is refused, which leaves the store as it was. Its window would delete the oldest of the line's sealed records without a fork or a name.
 fn not_sealed(store: &Store, r: u32, number: u32) -> Reached {
-    if number != 11 && number != 14 {
+    if number != 11 {
         return vec![];
     }
     let sealed = store.sealed(r);
     let window = store.lines[store.line_of(r)].window as usize;
     let surplus = if window == 0 { 0 } else { (sealed.len() + 1).saturating_sub(window) };
-    let go: Vec<u32> = sealed.iter().copied().filter(|&s| !store.stays(s)).take(surplus).collect();
-    let frees = |s: &u32| store.clone().call(Call::Estimate(*s)).expect("a record without a fork or a name")[0];
-    vec![
-        (number == 11 && !go.is_empty(), REFUSED_11),
-        (number == 14, REFUSED_14),
-        (number == 14 && go.first().is_some_and(|s| frees(s) <= store.unused()), "S refused by 14, with room for its first delete"),
-        (number == 14 && sealed.iter().any(|&s| is_named_alone(store, s) && go.last() > Some(&s)), NAMED_14),
-    ]
+    vec![(surplus > 0 && sealed.iter().any(|&s| !store.stays(s)), REFUSED_11)]
 }
 
 /// A record that only its names keep.
@@ -179,9 +227,9 @@ fn begun(store: &Store, kind: u32) -> Reached {
     ]
 }
 
-/// A W that was given a block, a Y, a C or an L: what it has to do with blocks that wait, or did.
+/// A W that was given a block, a Y, a C or an L: what it has to do with blocks that are queued, and with those that wait, or did.
 fn waited(c: Call, given: &[u32], before: &Before) -> Reached {
-    let many = before.waiting.len();
+    let (many, queued) = (before.waiting.len(), !before.queue.is_empty());
     let again = matches!(c, Call::Write(..)) && before.waited.contains(&given[0]);
     vec![
         (again, "W given a block that had waited"),
@@ -190,20 +238,48 @@ fn waited(c: Call, given: &[u32], before: &Before) -> Reached {
         (c == Call::Barrier && many > 31, "Y that ends the wait of 32 or more"),
         (c == Call::FreeList && many > 0, "L that leaves out a waiting block"),
         (c == Call::FreeList && many > 0 && given.is_empty(), "L of nothing while a block waits"),
+        (c == Call::FreeList && queued, "L that leaves out a queued block"),
+        (c == Call::Compress && queued, C_QUEUED),
+        (c == Call::Barrier && queued, "Y with a queue that is not empty"),
     ]
 }
 
-fn deleted(store: &Store, r: u32, freed: usize, before: &Before) -> Reached {
+/// A call that wrote words after a barrier: a log cut among them reads to what was held at that barrier, which has its queue in it.
+fn cut(c: Call, before: &Before) -> Reached {
+    let queued = !before.settled.is_empty();
+    let logs = matches!(c, Call::Write(..) | Call::Erase(..) | Call::Reclaim(_) | Call::Barrier);
+    vec![(queued && logs, CUT_QUEUED)]
+}
+
+/// What of the queue is new.
+fn joined<'a>(store: &'a Store, before: &Before) -> &'a [u32] {
+    &store.queue[before.queue.len()..]
+}
+
+fn deleted(store: &Store, r: u32, before: &Before) -> Reached {
     let was_last = before.lasts.contains_key(&r);
+    let joined = joined(store, before);
+    let (queued, births) = (joined.len(), births_of(store, joined));
+    let turned = matches!(before.done, [Some(Call::Delete(_)), Some(Call::Reclaim(_))]);
     vec![
         (before.call == Some(Call::Estimate(r)), "D straight after a Q of its record"),
         (!was_last, "D with a follower"),
-        (!was_last && freed > 1, "D with a follower that frees 2 or more"),
-        (!was_last && freed > 31, "D with a follower that frees 32 or more"),
-        (was_last && freed > 31, "D of a line's last that frees 32 or more"),
+        (!was_last && queued > 1, "D with a follower that queues 2 or more"),
+        (!was_last && queued > 31, "D with a follower that queues 32 or more"),
+        (was_last && queued > 31, "D of a line's last that queues 32 or more"),
+        (births.len() > 1, "D that queues blocks of 2 births or more"),
+        (births.iter().any(|&v| v != r), "D that queues a block born in another record"),
+        (queued > 0 && store.unused() == 0, D_FULL),
+        (queued > 0 && !before.queue.is_empty(), "D that queues behind others"),
+        (turned, T_BETWEEN),
+        (turned && queued > 0 && !before.queue.is_empty(), "T between two Ds, which leaves some of the queue"),
         (store.g.pages > 63, "D at 64 pages or more"),
         (store.records.len() > 31, "D with 32 records or more left"),
     ]
+}
+
+fn births_of(store: &Store, blocks: &[u32]) -> BTreeSet<u32> {
+    blocks.iter().map(|b| store.births[b]).collect()
 }
 
 /// The blocks that a result names, each with its birth.
@@ -214,9 +290,7 @@ fn named(c: Call, given: &[u32]) -> Reached {
     vec![
         (matches!(c, Call::Write(r, ..) | Call::Erase(r, _) if other(r)), "W or E that frees a block born in another record"),
         (matches!(c, Call::Read(r, _) if other(r)), "R of a block born in another record"),
-        (matches!(c, Call::Delete(_)) && births.len() > 1, "D that frees blocks of 2 births or more"),
-        (matches!(c, Call::Delete(r) if other(r)), "D that frees a block born in another record"),
-        (matches!(c, Call::Seal(_)) && births.len() > 1, "S that frees blocks of 2 births or more"),
+        (matches!(c, Call::Reclaim(_)) && births.len() > 1, "T that frees blocks of 2 births or more"),
         (largest > 99, "a birth of 3 digits in a result"),
         (largest > 999, "a birth of 4 digits in a result"),
     ]
@@ -230,11 +304,11 @@ fn estimated(store: &Store, r: u32, said: &[u32]) -> Reached {
         (!is_last, "Q with a follower"),
         (said[2] > 1, "Q that finds 2 shards or more"),
         (said[2] > 3, "Q that finds 4 shards or more"),
-        (said[0] > 31, "Q of a D that would free 32 or more"),
+        (said[0] > 31, "Q of a D that would queue 32 or more"),
         (is_last, "Q of a line's last"),
         (line.records.len() == 1, "Q of a line's only"),
         (store.unused() < 3, "Q with under 3 log words left"),
-        (store.unused() < said[1], "Q of a D that 14 would refuse"),
+        (store.unused() < said[0], "Q of a D that would queue more than there are log words left"),
     ]
 }
 
@@ -250,8 +324,10 @@ fn retained(store: &Store, r: u32, before: &Before) -> Reached {
     ]
 }
 
-/// An S of record r that freed so many blocks.
-fn sealed(store: &Store, r: u32, freed: usize, before: &Before) -> Reached {
+/// An S of record r.
+fn sealed(store: &Store, r: u32, before: &Before) -> Reached {
+    let joined = joined(store, before);
+    let queued = joined.len();
     let line = &store.lines[store.line_of(r)];
     let rolled = line.base == 0 && line.records.len() > 5 && line.records[0] > 6;
     let stay = store.sealed(r);
@@ -274,9 +350,11 @@ fn sealed(store: &Store, r: u32, freed: usize, before: &Before) -> Reached {
         (above && mixed, S_MIXED),
         (store.names_of(store.last) > 0, S_MOVES),
         (store.names_of(store.last) > 0 && !gone.is_empty(), "S that moves a name and deletes"),
-        (freed > 1, "S that frees 2 or more"),
-        (freed > 31, "S that frees 32 or more"),
-        (freed > 0 && store.unused() == 0, "S whose frees fill the log"),
+        (queued > 1, "S that queues 2 or more"),
+        (queued > 31, "S that queues 32 or more"),
+        (births_of(store, joined).len() > 1, "S that queues blocks of 2 births or more"),
+        (queued > 0 && store.unused() == 0, S_FULL),
+        (queued > 0 && !before.by_delete.is_empty(), S_BEHIND),
     ]
 }
 
@@ -286,8 +364,8 @@ const S_ABOVE: &str = "S that stops above its window";
 const S_PASSES_NAMED: &str = "S that passes over a named record without a fork";
 const S_MIXED: &str = "S that stops above its window, at forked records and at named ones";
 const S_MOVES: &str = "S that moves a name";
-const REFUSED_14: &str = "S refused by 14";
-const NAMED_14: &str = "S refused by 14, whose window passes over a named record";
+const S_FULL: &str = "S that queues blocks with a full log";
+const S_BEHIND: &str = "S that queues blocks behind a D's";
 const REFUSED_11: &str = "S refused by 11, though its window would make room";
 const K_AGAIN: &str = "K that replaces a window";
 const K_FORK: &str = "K in a fork's line";
@@ -305,17 +383,27 @@ const U_16: &str = "U refused by 16";
 const U_17: &str = "U refused by 17";
 const M_16: &str = "M refused by 16";
 const M_17: &str = "M refused by 17";
+const D_FULL: &str = "D that queues blocks with a full log";
+const T_19: &str = "T refused by 19";
+const T_14_SOME: &str = "T refused by 14 with some log words left";
+const T_EMPTIES: &str = "T that empties the queue";
+const T_BETWEEN: &str = "T between two Ds";
+const T_SETTLED: &str = "T that frees a block queued at the last barrier";
+const W_13_QUEUED: &str = "W refused by 13 while a block is queued";
+const C_QUEUED: &str = "C with a queue that is not empty";
+const CUT_QUEUED: &str = "log words to cut after a barrier with a queue that is not empty";
 const D_18: &str = "D refused by 18";
 const Q_18: &str = "Q refused by 18";
 const D_10_NAMED: &str = "D refused by 10 of a forked and named record";
 const Q_10_NAMED: &str = "Q refused by 10 of a forked and named record";
 
 /// What more than one script of a hundred has to reach.
-const WANTED: [&str; 28] = [
+const WANTED: [&str; 37] = [
     S_TWO,
     S_PASSES,
     S_ABOVE,
-    REFUSED_14,
+    S_FULL,
+    S_BEHIND,
     REFUSED_11,
     K_AGAIN,
     K_FORK,
@@ -325,7 +413,6 @@ const WANTED: [&str; 28] = [
     S_PASSES_NAMED,
     S_MIXED,
     S_MOVES,
-    NAMED_14,
     N_16,
     N_8,
     N_17,
@@ -340,6 +427,15 @@ const WANTED: [&str; 28] = [
     Q_18,
     D_10_NAMED,
     Q_10_NAMED,
+    D_FULL,
+    T_19,
+    T_14_SOME,
+    T_EMPTIES,
+    T_BETWEEN,
+    T_SETTLED,
+    W_13_QUEUED,
+    C_QUEUED,
+    CUT_QUEUED,
 ];
 
 /// What a call, its reply and the store after it are an instance of.
@@ -350,9 +446,10 @@ fn instances(store: &Store, c: Call, reply: &Reply, before: &Before) -> Reached 
     };
     let mut reached = match c {
         Call::Write(r, ..) | Call::Erase(r, _) => written(store, r),
-        Call::Delete(r) => deleted(store, r, given.len() / 2, before),
+        Call::Delete(r) => deleted(store, r, before),
         Call::Estimate(r) => estimated(store, r, given),
-        Call::Seal(r) => sealed(store, r, given.len() / 2, before),
+        Call::Seal(r) => sealed(store, r, before),
+        Call::Reclaim(most) => reclaimed(store, most, given.len() / 2, before),
         Call::Retain(r, _) => retained(store, r, before),
         Call::Fork(r) => vec![(store.names_of(r) > 0, "F of a named record")],
         _ => vec![],
@@ -362,7 +459,8 @@ fn instances(store: &Store, c: Call, reply: &Reply, before: &Before) -> Reached 
     }
     reached.extend(named(c, given));
     reached.extend(waited(c, given, before));
-    let logs = matches!(c, Call::Write(..) | Call::Erase(..) | Call::Seal(_) | Call::Delete(_) | Call::Barrier);
+    reached.extend(cut(c, before));
+    let logs = matches!(c, Call::Write(..) | Call::Erase(..) | Call::Reclaim(_) | Call::Barrier);
     reached.push((logs && store.unused() < 3, "log words left: under 3"));
     reached
 }

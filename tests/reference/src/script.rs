@@ -98,18 +98,14 @@ pub fn each_reply(text: &[u8], mut seen: impl FnMut(Option<&Store>, Option<Comma
     }
 }
 
-/// A reply as a line; a block and its birth have a colon between them. W, E, D and R give blocks, and S after the new number.
+/// A reply as a line; a block and its birth have a colon between them. W, E, R and T give blocks.
 fn put(out: &mut Vec<u8>, call: Option<Command>, reply: &Reply) {
-    let first_block = match call {
-        Some(Command::Unnamed(Call::Write(..) | Call::Erase(..) | Call::Delete(_) | Call::Read(..))) => 0,
-        Some(Command::Unnamed(Call::Seal(_))) => 1,
-        _ => usize::MAX,
-    };
+    let blocks = matches!(call, Some(Command::Unnamed(Call::Write(..) | Call::Erase(..) | Call::Read(..) | Call::Reclaim(_))));
     match reply {
         Ok(numbers) => {
             out.push(b'+');
             for (i, n) in numbers.iter().enumerate() {
-                let separator = if i > first_block && (i - first_block) % 2 == 1 { ':' } else { ' ' };
+                let separator = if blocks && i % 2 == 1 { ':' } else { ' ' };
                 out.extend(format!("{separator}{n}").bytes());
             }
         }

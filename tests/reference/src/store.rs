@@ -1,6 +1,7 @@
 //! The store of the rules, the crude way: a block is freed when it leaves the last page of the last record.
 //! Deadlists are kept only for the order in which a delete gives its blocks, and checked against the crude walk.
-//! A freed block waits in a set that an accepted Y or C empties; after each accepted call no page may have a block of it.
+//! A delete puts the blocks that only its record had in a queue, where they stay held until a T frees them.
+//! A freed block waits in a set that an accepted Y or C empties; after each accepted call no page and no queue may have a block of it.
 //! A window is the loop of its order: after a seal the oldest record that may go is deleted, again and again, as long as too many are left.
 //! Names are a map from bytes to records; how many a record has is counted there each time.
 use calls::{Call, Command, Naming};
@@ -66,6 +67,8 @@ pub struct Store {
     pub lines: Vec<Line>,
     /// of a held block: the number of the record that was open when it was given
     pub births: BTreeMap<u32, u32>,
+    /// the held blocks that no page has any more, in the order in which they left the last
+    pub queue: Vec<u32>,
     /// the blocks freed since the last accepted Y or C: none of them is given or listed
     pub waiting: BTreeSet<u32>,
     /// the same in the order in which they were freed
@@ -81,6 +84,9 @@ pub struct Store {
 }
 
 pub type Reply = Result<Vec<u32>, u32>;
+
+/// How many blocks a T frees at most.
+pub const TURN: u32 = 64;
 
 /// How many names a store has at most, and how many letters a name.
 pub const NAMES: usize = 32;
@@ -99,6 +105,7 @@ impl Store {
             records: BTreeMap::new(),
             lines: Vec::new(),
             births: BTreeMap::new(),
+            queue: Vec::new(),
             waiting: BTreeSet::new(),
             freed: Vec::new(),
             marks: vec![0; g.arenas as usize],
@@ -203,17 +210,22 @@ impl Store {
         self.freed.clear();
     }
 
-    /// A block that waits is on no page, and a block on a page is held.
-    fn check_waiting(&self) {
-        let on = self.on_pages();
-        assert!(self.waiting.iter().all(|&b| !on[b as usize] && !self.births.contains_key(&b)), "a waiting block is on no page");
+    /// Held blocks are those on pages and in the queue, in one of the two; those that wait are others. None is queued twice, and none waits twice.
+    fn check_blocks(&self) {
+        let mut held = self.on_pages();
+        for &b in &self.queue {
+            assert!(!std::mem::replace(&mut held[b as usize], true), "a queued block is on no page, and queued once");
+        }
+        assert!((0..self.g.blocks()).all(|b| held[b as usize] == self.births.contains_key(&b)), "held blocks are on pages or in the queue");
+        assert!(self.waiting.iter().all(|&b| !held[b as usize]), "a waiting block is not held");
         assert_eq!(self.freed.len(), self.waiting.len(), "each block waits once");
     }
 
-    /// 13: each block is on a page or waits.
+    /// 13: each block is on a page, queued or waiting.
     fn check_full(&self) {
-        let on = self.on_pages();
-        assert!((0..self.g.blocks()).all(|b| on[b as usize] || self.waiting.contains(&b)), "13 with a block that may be given");
+        let mut kept = self.on_pages();
+        self.queue.iter().chain(&self.waiting).for_each(|&b| kept[b as usize] = true);
+        assert!(kept.into_iter().all(|kept| kept), "13 with a block that may be given");
     }
 
     /// Would emptying this page free its block? The crude way: no other page of any record has it.
@@ -269,19 +281,19 @@ impl Store {
 
     /// A call. What a Q said is held to a D of the same record straight after it.
     pub fn call<'n>(&mut self, c: impl Into<Command<'n>>) -> Reply {
-        let (asked, unused) = (self.asked.take(), self.unused());
+        let (asked, unused, queued) = (self.asked.take(), self.unused(), self.queue.len());
         let (c, reply) = match c.into() {
             Command::Unnamed(c) => (Some(c), self.perform(c)),
             Command::Naming(naming, name) => (None, self.perform_on(naming, name)),
         };
         match (c, asked) {
             (Some(Call::Estimate(r)), _) => self.asked = Some((r, reply.clone())),
-            (Some(Call::Delete(r)), Some((n, said))) if n == r => kept(&said, &reply, unused, unused - self.unused()),
+            (Some(Call::Delete(r)), Some((n, said))) if n == r => kept(&said, &reply, self.queue.len() - queued, unused - self.unused()),
             _ => {}
         }
         match reply {
             Ok(_) => {
-                self.check_waiting();
+                self.check_blocks();
                 self.check_names();
             }
             Err(13) => self.check_full(),
@@ -347,6 +359,7 @@ impl Store {
             Call::FreeList => Ok(self.runs(|b| self.may_be_given(b)).into_iter().flat_map(|(b, n)| [b, n]).collect()),
             Call::Estimate(r) => self.estimate(r),
             Call::Retain(r, most) => self.retain(r, most),
+            Call::Reclaim(most) => self.reclaim(most),
         }
     }
 
@@ -362,31 +375,25 @@ impl Store {
         Ok(vec![])
     }
 
-    /// In a line with a window the seal and its deletes are made on a copy of the store: where one of them lacks log words, nothing was done.
     fn seal(&mut self, r: u32) -> Reply {
         if !self.open(r)? {
             return Err(9);
         }
         self.room()?;
-        if self.lines[self.line_of(r)].window == 0 {
-            return Ok(vec![self.seal_record(r)]);
-        }
-        let mut copy = self.clone();
-        let given = copy.seal_in_steps(r, |_| ())?;
-        copy.check_window(r);
-        *self = copy;
-        Ok(given)
+        let n = self.seal_in_steps(r, |_| ());
+        self.check_window(r);
+        Ok(vec![n])
     }
 
-    /// The seal of an open r, then the deletes of the window; the store is shown after each.
-    pub fn seal_in_steps(&mut self, r: u32, mut shown: impl FnMut(&Store)) -> Reply {
-        let mut given = vec![self.seal_record(r)];
+    /// The seal of an open r, then the deletes of the window; the store is shown after each. Gives the new number.
+    pub fn seal_in_steps(&mut self, r: u32, mut shown: impl FnMut(&Store)) -> u32 {
+        let n = self.seal_record(r);
         shown(self);
         while let Some(old) = self.too_old(r) {
-            given.extend(self.delete(old)?);
+            self.take_out(old);
             shown(self);
         }
-        Ok(given)
+        n
     }
 
     /// r is sealed, and an open record follows it, which gets its name. Gives the new number.
@@ -413,7 +420,7 @@ impl Store {
     fn check_window(&self, r: u32) {
         let (sealed, window) = (self.sealed(r), self.lines[self.line_of(r)].window);
         assert_eq!(sealed.last(), Some(&r), "the newest sealed record stays");
-        let few = sealed.len() as u32 <= window;
+        let few = window == 0 || sealed.len() as u32 <= window;
         assert!(few || sealed.iter().all(|&s| s == r || self.stays(s)), "a window leaves no more than it may");
     }
 
@@ -478,7 +485,7 @@ impl Store {
         mine.filter(|b| !self.records.iter().any(|(&n, x)| n != r && x.pages.contains(&Some(*b)))).collect()
     }
 
-    /// What refuses a D of r, the log apart.
+    /// What refuses a D or Q of r.
     fn may_go(&self, r: u32) -> Result<(), u32> {
         self.open(r)?;
         if self.is_forked(r) {
@@ -492,9 +499,15 @@ impl Store {
 
     fn delete(&mut self, r: u32) -> Reply {
         self.may_go(r)?;
+        self.take_out(r);
+        Ok(vec![])
+    }
+
+    /// r leaves the store, and the blocks that only r has join the queue: those of the follower's shards by rising birth, or of r's pages by rising page.
+    fn take_out(&mut self, r: u32) {
         let p = self.pred(r);
         let follower = self.follower(r);
-        let freed: Vec<u32> = match follower {
+        let bare: Vec<u32> = match follower {
             Some(n) => {
                 let shards = &self.records[&n].dead;
                 shards.range(p + 1..).flat_map(|(_, l)| l.iter().copied()).collect()
@@ -504,13 +517,10 @@ impl Store {
                 mine.filter(|b| self.births[b] > p).collect()
             }
         };
-        let (mut a, mut b) = (freed.clone(), self.only_on(r));
+        let (mut a, mut b) = (bare.clone(), self.only_on(r));
         a.sort();
         b.sort();
         assert_eq!(a, b, "deadlists and the crude walk agree");
-        if self.unused() < freed.len() as u32 {
-            return Err(14);
-        }
         let gone = self.records.remove(&r).unwrap();
         let line = self.line_of(r);
         self.lines[line].records.retain(|&x| x != r);
@@ -524,11 +534,24 @@ impl Store {
                 dead.entry(birth).or_default().extend(list);
             }
         }
-        Ok(freed.into_iter().flat_map(|b| self.free(b)).collect())
+        self.queue.extend(bare);
     }
 
-    /// Blocks and words the crude way: each block that only r has is a free, and each free a word. Shards: the births above r's pred that blocks on
-    /// the deadlist of the record that follows r have.
+    /// The first blocks of the queue are freed, so many or all.
+    fn reclaim(&mut self, most: u32) -> Reply {
+        if !(1..=TURN).contains(&most) {
+            return Err(19);
+        }
+        let count = self.queue.len().min(most as usize);
+        if self.unused() < count as u32 {
+            return Err(14);
+        }
+        let first: Vec<u32> = self.queue.drain(..count).collect();
+        Ok(first.into_iter().flat_map(|b| self.free(b)).collect())
+    }
+
+    /// Blocks the crude way: each that only r has would be queued. No words. Shards: the births above r's pred that blocks on the deadlist of the record
+    /// that follows r have.
     fn estimate(&self, r: u32) -> Reply {
         self.may_go(r)?;
         let (p, mine) = (self.pred(r), self.only_on(r));
@@ -538,7 +561,7 @@ impl Store {
             assert_eq!(births(&dead), births(&mine), "the shards above the pred are of the blocks that only r has");
             births(&dead).len()
         });
-        Ok([mine.len(), mine.len(), shards].map(|n| n as u32).to_vec())
+        Ok([mine.len(), 0, shards].map(|n| n as u32).to_vec())
     }
 
     /// The longest runs, inside arenas, of the blocks that are meant.
@@ -570,18 +593,13 @@ impl Store {
 }
 
 /// A word of the log: a block's address, or the length of a run, and a code.
-fn word(blocks: u32, code: u64) -> u64 {
+pub fn word(blocks: u32, code: u64) -> u64 {
     u64::from(blocks) * 16384 + code
 }
 
-/// A D straight after a Q of its record has the Q's refusal, or frees so many blocks, a pair of numbers each, and writes so many words as the Q
-/// said; 14 where so many words were not left.
-fn kept(said: &Reply, reply: &Reply, unused: u32, written: u32) {
-    let done = reply.as_ref().map(|freed| (freed.len() as u32 / 2, written));
-    let expected = match said {
-        Err(number) => Err(number),
-        Ok(numbers) if unused < numbers[1] => Err(&14),
-        Ok(numbers) => Ok((numbers[0], numbers[1])),
-    };
+/// A D straight after a Q of its record has the Q's refusal, or queues so many blocks and writes so many words as the Q said, and gives nothing.
+fn kept(said: &Reply, reply: &Reply, queued: usize, written: u32) {
+    let done = reply.as_ref().map(|given| (given.len(), queued as u32, written));
+    let expected = said.as_ref().map(|numbers| (0, numbers[0], numbers[1]));
     assert_eq!(done, expected, "D straight after Q does what Q said");
 }

@@ -40,11 +40,21 @@ impl Composed {
         }
     }
 
-    /// A barrier where fewer than `blocks` may be given while others wait: without it the writes that follow would be refused by 13 only because of what
-    /// waits, and the script would be one of refusals.
+    /// A barrier where fewer than `blocks` may be given while others wait, and before it a T where as many are lacking still: without them the writes that
+    /// follow would be refused by 13 only because of what waits or is queued, and the script would be one of refusals.
     pub fn release(&mut self, blocks: usize) {
+        if self.store.free_blocks() + self.store.waiting_blocks() < blocks && self.store.queued_blocks() > 0 {
+            self.call(Call::Reclaim(64));
+        }
         if self.store.free_blocks() < blocks && self.store.waiting_blocks() > 0 {
             self.call(Call::Barrier);
+        }
+    }
+
+    /// A T of 64 for each 64 blocks that are queued.
+    pub fn sweep(&mut self) {
+        for _ in 0..self.store.queued_blocks() / 64 {
+            self.call(Call::Reclaim(64));
         }
     }
 

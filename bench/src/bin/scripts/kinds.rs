@@ -43,7 +43,7 @@ fn composed(seed: u64, shape: fn(&mut Dice) -> [u32; 6], begin: fn(&mut Composed
 fn nothing(_: &mut Composed) {}
 
 /// A call of the reference's generator; for some hundred calls it leans towards new records, then for as many towards deletes. A barrier where all that
-/// is free waits, here and in the next two: small stores are full of held blocks often enough.
+/// is free waits, and a T where nothing is free but some is queued, here and in the next two: small stores are full of blocks on pages often enough.
 fn random(c: &mut Composed) {
     let grow = c.dice.below(2) == 0;
     for _ in 0..1 + c.dice.below(400) {
@@ -80,12 +80,13 @@ fn written(c: &mut Composed) {
 }
 
 /// A line of eight records, each with its own block on every page: the newest is sealed and rewritten, the oldest goes. They have all 2,048 blocks, so
-/// that the next one's are those that the delete freed: a barrier after each delete.
+/// that the next one's are those that the delete queued: four Ts and a barrier after each delete.
 fn listed(c: &mut Composed) {
     let all = c.store.numbers();
     if all.len() == 8 {
         c.room(1024);
         c.call(Call::Delete(all[0]));
+        c.sweep();
         c.release(256);
     }
     c.call(Call::Seal(c.newest()));
@@ -93,10 +94,11 @@ fn listed(c: &mut Composed) {
     c.write_many(r, c.six[2]);
 }
 
-/// A seal and a few writes. What the deletes of a window free would use up the store before the log is full: a barrier where the few writes have no
-/// blocks left, which is every few thousand calls.
+/// A seal and a few writes, and a T for each 64 blocks that deletes have queued. These would use up the store before the log is full: a barrier where the
+/// few writes have no blocks left, which is every few thousand calls.
 fn sealed(c: &mut Composed) {
     c.room(1024);
+    c.sweep();
     c.release(8);
     c.call(Call::Seal(c.newest()));
     for _ in 0..c.dice.below(8) {
@@ -142,10 +144,11 @@ fn named(c: &mut Composed) {
     }
 }
 
-/// 64 records in lines that fork: where the table is full one goes, else a seal or a fork; writes and reads between. A barrier where the two writes have
-/// no blocks left.
+/// 64 records in lines that fork: where the table is full one goes, else a seal or a fork; writes and reads between. A T for each 64 blocks that are queued,
+/// and a barrier where the two writes have no blocks left.
 fn forks(c: &mut Composed) {
     c.room(1024);
+    c.sweep();
     c.release(2);
     let all = c.store.numbers();
     match c.dice.below(3) {
@@ -177,9 +180,11 @@ fn written_and_sealed(c: &mut Composed) {
     c.call(Call::Seal(1));
 }
 
-/// Deletes where all of 256 pages are written: of a record in a line, and of a fork. A barrier where the writes between have no blocks left.
+/// Deletes where all of 256 pages are written: of a record in a line, and of a fork. A T for each 64 blocks that are queued, and a barrier where the writes
+/// between have no blocks left.
 fn wide_deletes(c: &mut Composed) {
     c.room(1024);
+    c.sweep();
     c.release(32);
     let r = c.any(true);
     let count = c.dice.one_of(&[1, 4, 32]);
@@ -193,6 +198,27 @@ fn wide_deletes(c: &mut Composed) {
         let fork = c.newest();
         c.write_many(fork, count);
         c.call(Call::Delete(fork));
+    }
+}
+
+/// Forks of the first record that get a few blocks and go again, each with a T for as many as its D queues. A barrier where the writes have no blocks left.
+fn turns(c: &mut Composed) {
+    c.room(64);
+    c.release(4);
+    c.call(Call::Fork(1));
+    let (fork, count) = (c.newest(), c.dice.one_of(&[1, 2, 4]));
+    c.write_many(fork, count);
+    c.call(Call::Delete(fork));
+    c.call(Call::Reclaim(count));
+}
+
+/// The same behind a queue of 1,024 blocks, so that it is never shorter.
+fn written_and_queued(c: &mut Composed) {
+    written_and_sealed(c);
+    for _ in 0..4 {
+        c.call(Call::Fork(1));
+        c.write_many(c.newest(), 256);
+        c.call(Call::Delete(c.newest()));
     }
 }
 
@@ -267,6 +293,8 @@ pub fn kinds() -> Vec<Kind> {
         several("window of 32 by K, 24 names", |s| composed(s, largest, written_and_kept, named)),
         several("64 records with forks", |s| composed(s, largest, written_and_sealed, forks)),
         several("deletes at 256 pages", |s| composed(s, largest, written_and_sealed, wide_deletes)),
+        several("deletes and turns", |s| composed(s, largest, written_and_sealed, turns)),
+        several("deletes and turns, 1,024 queued", |s| composed(s, largest, written_and_queued, turns)),
         several("nearly full stores", |s| composed(s, largest, nearly_all, far)),
     ]
 }

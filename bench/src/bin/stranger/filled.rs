@@ -93,8 +93,8 @@ pub fn filled(six: [u32; 6], records: u32, rewritten: u32, long_log: bool) -> Fi
     f
 }
 
-/// A store in which every block waits: all were given, to eight records, and the records are deleted.
-pub fn waiting(six: [u32; 6]) -> Filled {
+/// A store in which every block is queued: all were given, to eight records, and the records are deleted.
+pub fn queued(six: [u32; 6]) -> Filled {
     let mut f = Filled::new(six);
     let mut d = Dice::new(7);
     for _ in 0..8 {
@@ -102,6 +102,16 @@ pub fn waiting(six: [u32; 6]) -> Filled {
         f.rewrite(&mut d, 256);
     }
     (1..=8).for_each(|r| f.call(Call::Delete(r)));
+    assert_eq!(f.store.queued_blocks(), f.store.g.blocks(), "every block is queued");
+    f
+}
+
+/// A store in which every block waits: the same, and all of them are freed.
+pub fn waiting(six: [u32; 6]) -> Filled {
+    let mut f = queued(six);
+    while f.store.queued_blocks() > 0 {
+        f.call(Call::Reclaim(64));
+    }
     assert_eq!(f.store.waiting_blocks(), f.store.g.blocks(), "every block waits");
     f
 }

@@ -5,7 +5,7 @@ mod reads;
 
 use bench::clock::seconds;
 use calls::Call;
-use filled::{filled, hostile, waiting, Filled};
+use filled::{filled, hostile, queued, waiting, Filled};
 use reads::{read, sum};
 
 const ROUNDS: usize = 300;
@@ -52,10 +52,11 @@ impl Case {
         let space = &self.store.lent.space;
         let bytes = 4 * (space.tables.len() + space.out.len()) + 8 * store.used;
         println!(
-            "| {} | {} | {held} | {} | {waits} | {} | {bytes} | {:.1} | {:.1} | {:.1} | {:.1} | {:.1} |",
+            "| {} | {} | {held} | {} | {} | {waits} | {} | {bytes} | {:.1} | {:.1} | {:.1} | {:.1} | {:.1} |",
             self.name,
             store.numbers().len(),
             store.dead_blocks(),
+            store.queued_blocks(),
             store.used,
             self.ratio(),
             self.call / self.sum,
@@ -80,6 +81,7 @@ fn cases() -> Vec<Case> {
         Case::new(middle, filled(MIDDLE, 16, 12, true)),
         Case::new(middle, filled(MIDDLE, 16, 12, false)),
         Case::new(small, filled(SMALL, 4, 4, true)),
+        Case::new("16 × 128 blocks, every block queued", queued(LARGEST)),
         Case::new("16 × 128 blocks, every block waiting", waiting(LARGEST)),
         Case::new("2 × 1,024 blocks, a log of runs of 1,024", hostile(TWO)),
     ]
@@ -91,9 +93,9 @@ fn main() {
         cases.iter_mut().for_each(|c| (0..IN_A_ROW).for_each(|_| c.round()));
     }
     println!(
-        "| made for | records | held blocks | dead blocks | waiting | log words | bytes | call / read | call / sum | call, µs | read, µs | sum, µs |"
+        "| made for | records | held blocks | dead blocks | queued | waiting | log words | bytes | call / read | call / sum | call, µs | read, µs | sum, µs |"
     );
-    println!("|---|---|---|---|---|---|---|---|---|---|---|---|");
+    println!("|---|---|---|---|---|---|---|---|---|---|---|---|---|");
     cases.iter().for_each(Case::row);
     let met = cases.iter().filter(|c| c.ratio() <= MOST).count();
     let sums = cases.iter().filter(|c| c.call <= MOST * c.sum).count();

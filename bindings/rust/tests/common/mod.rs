@@ -96,12 +96,9 @@ fn numbers_unnamed(store: &mut Store<'_>, call: Call) -> Result<Vec<u32>, Refusa
             pairs([w.block].into_iter().chain(w.freed))
         }
         Call::Erase(n, page) => pairs(store.erase(Record(n), page)?),
-        Call::Seal(n) => {
-            let s = store.seal(Record(n))?;
-            [vec![s.record.0], pairs(s.freed)].concat()
-        }
+        Call::Seal(n) => vec![store.seal(Record(n))?.0],
         Call::Fork(n) => vec![store.fork(Record(n))?.0],
-        Call::Delete(n) => pairs(store.delete(Record(n))?),
+        Call::Delete(n) => store.delete(Record(n)).map(|()| vec![])?,
         Call::Read(n, page) => pairs(store.read(Record(n), page)?),
         Call::Barrier => store.barrier().map(|()| vec![])?,
         Call::Compress => vec![store.compress()?],
@@ -111,6 +108,7 @@ fn numbers_unnamed(store: &mut Store<'_>, call: Call) -> Result<Vec<u32>, Refusa
             vec![e.blocks, e.words, e.shards]
         }
         Call::Retain(n, most) => store.retain(Record(n), most).map(|()| vec![])?,
+        Call::Reclaim(most) => pairs(store.reclaim(most)?),
     })
 }
 
@@ -176,10 +174,11 @@ pub fn refused<'n>(m: &mut Space, g: Geometry, call: impl Into<Command<'n>>, num
 }
 
 /// Six different numbers of a small store.
-pub const SMALL: Geometry = Geometry { arenas: 2, per: 3, pages: 5, records: 6, turn: 7, words: 20 };
+pub const SMALL: Geometry = Geometry { arenas: 2, per: 4, pages: 5, records: 6, turn: 7, words: 20 };
 
-/// A small store with a fork, a delete, deadlists and free blocks: records 1 (sealed, forked), 2 (sealed), 4 (open, after 2), 5 (open, fork of 1).
-/// Block 4 was freed after the last barrier, so that it waits. The line of 4 has a window of 2: its seal deletes 2. 1 has the name easter, and 5 a.
+/// A small store with a fork, two deletes, deadlists and free blocks: records 1 (sealed, forked), 2 (sealed), 4 (open, after 2), 5 (open, fork of 1).
+/// Block 5 was freed after the last barrier, so that it waits; blocks 3 and 6, born in 6, are queued, and 7 is free. The line of 4 has a window of 2: its
+/// seal deletes 2. 1 has the name easter, and 5 a.
 pub fn small() -> Space {
     let mut m = made(SMALL);
     let s = &mut m.store(SMALL);
@@ -199,6 +198,10 @@ pub fn small() -> Space {
         Call::Erase(4, 1),
         Call::Fork(1),
         Call::Erase(5, 4),
+        Call::Begin,
+        Call::Write(6, 0, 0),
+        Call::Write(6, 1, 1),
+        Call::Delete(6),
         Call::Retain(4, 2),
     ] {
         numbers(s, call).unwrap_or_else(|e| panic!("{call:?}: {e}"));

@@ -39,7 +39,7 @@ impl Subject {
     }
 
     /// A few calls, others for each k.
-    fn ask_some(&self, report: &mut Report, memory: &Memory, k: usize) {
+    pub fn ask_some(&self, report: &mut Report, memory: &Memory, k: usize) {
         if *memory != self.sound {
             (0..8).for_each(|i| self.ask(report, memory, k + 7 * i));
         }

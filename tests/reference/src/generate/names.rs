@@ -53,10 +53,6 @@ fn name_of(d: &mut Dice, store: &Store, in_use: bool) -> &'static [u8] {
     found.unwrap_or(name(first))
 }
 
-pub fn free_name(d: &mut Dice, store: &Store) -> &'static [u8] {
-    name_of(d, store, false)
-}
-
 /// The first of the names on a record.
 pub fn name_on(store: &Store, r: u32) -> Option<&'static [u8]> {
     (0..COUNT).map(name).find(|name| store.names.get(*name) == Some(&r))
