@@ -1,5 +1,5 @@
 -- Q, worked: two shards, one of them of a birth whose record is gone; none where nothing follows, though blocks are queued; a fork on the record; a D straight
--- behind it, and a T that frees what that D queued. No Q and no D counts a word.
+-- after it, and a T that frees what that D queued. No Q and no D counts a word.
 use mathlib.Core.Path.{refl}
 use mathlib.Core.List.{[], _∷_}
 use Rattle.ledger.proofs.Computed.{Table, Goes, prints}

@@ -20,7 +20,7 @@ pub turns : Goes turns-lines
 unfolding prints
 turns = refl
 
--- behind the second delete (line 12): three are queued, each with the birth that it had, and have none in the store; the one that was freed waits
+-- after the second delete (line 12): three are queued, each with the birth that it had, and have none in the store; the one that was freed waits
 pub queued : (queueAfter (take 12 turns-lines) ≡ (3, 2) ∷ (0, 1) ∷ (1, 1) ∷ []) × (waitingAfter (take 12 turns-lines) ≡ 2 ∷ []) ×
     (birthsAfter (take 12 turns-lines) (0 ∷ 1 ∷ 2 ∷ 3 ∷ []) ≡ 0 ∷ 0 ∷ 0 ∷ 0 ∷ [])
 unfolding queueAfter waitingAfter birthsAfter
@@ -68,9 +68,9 @@ abbrev window-lines : Table
 window-lines =
     ("store 1 8 1 8 8 20", "+") ∷ ("B", "+ 1") ∷ ("K 1 1", "+") ∷ ("W 1 0 0", "+ 0:1") ∷ ("S 1", "+ 2") ∷ ("W 2 0 0", "+ 1:2") ∷ ("B", "+ 3")
     ∷ ("W 3 0 0", "+ 2:3")
-    -- what the window's delete of 1 leaves stands behind what D left
+    -- what the window's delete of 1 leaves stands after what D left
     ∷ ("D 3", "+") ∷ ("S 2", "+ 4") ∷ ("R 1 0", "- 8") ∷ ("T 1", "+ 2:3")
-    -- and what its delete of 2 leaves behind that
+    -- and what its delete of 2 leaves stands after that
     ∷ ("W 4 0 0", "+ 3:4") ∷ ("S 4", "+ 5") ∷ ("R 2 0", "- 8") ∷ ("T 64", "+ 0:1 1:2") ∷ []
 
 pub windowed : Goes window-lines

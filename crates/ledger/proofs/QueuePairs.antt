@@ -49,7 +49,7 @@ entries-joined Q f l n =
     (entries-same f h l (λ b i. sym (overlaid-in (Q .birth) f l b i))) ∙
     sym (map-append (λ (b : ℕ). (b, h b)) (Q .list) l)
 
--- the first k leave: each block is once in the queue, so those behind them keep their births
+-- the first k leave: each block is once in the queue, so those after them keep their births
 pub entries-left : (Q : Queue) (k : ℕ) → Once (Q .list) → drop k (entriesOf Q) ≡ entriesOf (dequeued Q k)
 entries-left Q k o =
     entries-later (Q .birth) k (Q .list) ∙

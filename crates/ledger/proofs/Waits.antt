@@ -83,14 +83,14 @@ pub births-left : birthsAfter waiting-lines (0 ∷ 1 ∷ 2 ∷ []) ≡ 0 ∷ 1 �
 unfolding birthsAfter
 births-left = refl
 
--- and behind the D: no block is on a page, and the births of the two are in the queue
+-- and after the D: no block is on a page, and the births of the two are in the queue
 pub deleted-in-order : (waitingAfter (waiting-lines ++ take 8 ending-lines) ≡ 2 ∷ []) ×
     (queueAfter (waiting-lines ++ take 8 ending-lines) ≡ (1, 1) ∷ (0, 2) ∷ []) ×
     (birthsAfter (waiting-lines ++ take 8 ending-lines) (0 ∷ 1 ∷ 2 ∷ []) ≡ 0 ∷ 0 ∷ 0 ∷ [])
 unfolding waitingAfter queueAfter birthsAfter
 deleted-in-order = (refl, refl, refl)
 
--- and behind the T
+-- and after the T
 pub turned-in-order : (waitingAfter (waiting-lines ++ take 14 ending-lines) ≡ 1 ∷ 0 ∷ []) × (queueAfter (waiting-lines ++ take 14 ending-lines) ≡ [])
 unfolding waitingAfter queueAfter
 turned-in-order = (refl, refl)

@@ -16,7 +16,7 @@ kept-lines =
     ∷ ("K 7 2", "+") ∷ ("S 7", "+ 8") ∷ ("R 6 0", "- 8") ∷ ("W 8 0 0", "+ 3:8")
     -- the fork is gone: 1 and 7 go, the oldest first
     ∷ ("D 3", "+") ∷ ("D 4", "+") ∷ ("D 5", "+") ∷ ("K 8 1", "+") ∷ ("S 8", "+ 9")
-    -- what they had is queued, behind block 1 of record 2
+    -- what they had is queued, after block 1 of record 2
     ∷ ("L", "+ 4 4") ∷ ("T 2", "+ 1:2 0:1") ∷ ("T 2", "+ 2:6") ∷ ("L", "+ 4 4") ∷ ("Y", "+") ∷ ("L", "+ 0 3 4 4") ∷ []
 
 pub kept : Goes kept-lines

@@ -13,7 +13,7 @@ use Rattle.model.specs.Command.{Command}
 use Rattle.model.specs.Command.{Begin, Write, Erase, Seal, Delete, Barrier, Compress, FreeList, Estimate, Retain, Reclaim}
 use Rattle.model.proofs.PaperExample.{small, fine, repliesTo}
 
--- the state after calls on a fresh store, and the replies to the calls behind the first n
+-- the state after calls on a fresh store, and the replies to the calls after the first n
 abbrev reached : Geometry → List Command → State
 reached g cs = stateAfter g (map fine cs)
 
@@ -53,7 +53,7 @@ pub turn-between : (reached shelf between .queue .list ≡ 5 ∷ 0 ∷ []) ×
 unfolding repliesTo
 turn-between = (refl, refl, refl, refl)
 
--- the replies; Q says beforehand how many a D queues, the turn behind gives the rest, each block with its birth, and the next one nothing
+-- the replies; Q says beforehand how many a D queues, the turn after it gives the rest, each block with its birth, and the next one nothing
 pub turn-between-replies : repliesFrom 9 shelf (lines ++ (Estimate 3 ∷ Delete 3 ∷ Reclaim 1 ∷ Estimate 1 ∷ Delete 1 ∷ Reclaim 2 ∷ Reclaim 2 ∷ [])) ≡
     accepted (2 ∷ 0 ∷ 0 ∷ []) ∷ accepted [] ∷ accepted (4 ∷ 3 ∷ []) ∷ accepted (1 ∷ 0 ∷ 1 ∷ []) ∷ accepted [] ∷ accepted (5 ∷ 3 ∷ 0 ∷ 1 ∷ [])
     ∷ accepted [] ∷ []
@@ -120,7 +120,7 @@ pub compressed-queue : (written small (reached small queuedTwo) Compress ≡ 0x4
 unfolding repliesTo
 compressed-queue = (refl, refl)
 
--- so a T behind it frees what the log has
+-- so a T after it frees what the log has
 pub compressed-replies : repliesFrom 5 small (queuedTwo ++ (Compress ∷ Reclaim 1 ∷ Compress ∷ Reclaim 1 ∷ Compress ∷ [])) ≡
     accepted (3 ∷ []) ∷ accepted (0 ∷ 1 ∷ []) ∷ accepted (2 ∷ []) ∷ accepted (1 ∷ 1 ∷ []) ∷ accepted (1 ∷ []) ∷ []
 unfolding repliesTo

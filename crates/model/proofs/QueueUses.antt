@@ -720,8 +720,8 @@ module _ (g : Geometry) (M : Memory) (r : ℕ) (l : List ℕ) (done : reply g M 
   D-gives-none = queue-order g M r l done .result
 
   -- `list`: what was queued before stands first, as it stood
-  pub D-joins-behind : take (length (was g M .queue .list)) (now g M (Delete r) .queue .list) ≡ was g M .queue .list
-  D-joins-behind =
+  pub D-joins-after : take (length (was g M .queue .list)) (now g M (Delete r) .queue .list) ≡ was g M .queue .list
+  D-joins-after =
       let q = was g M .queue .list in
       ap (take (length q)) (queue-order g M r l done .queues .list) ∙ take-at q (frees K (deleting (was g M) r)) (length q) refl
 

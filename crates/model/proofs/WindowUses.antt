@@ -34,7 +34,7 @@ in-some : (t : ℕ) (l : List ℕ) → In t l → 0 < length l
 in-some t [] i = absurd i
 in-some t (s ∷ l) i = omega arith
 
--- the first k of a list with more behind it
+-- the first k of a list with more after it
 first-of : (k : ℕ) (l m : List ℕ) → k ≤ length l → take k (l ++ m) ≡ take k l
 first-of k l m h =
     ap (λ (a : List ℕ). take k (a ++ m)) (sym (take-append-drop k l)) ∙ ap (take k) (append-assoc (take k l) (drop k l) m) ∙

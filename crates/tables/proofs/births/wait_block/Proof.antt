@@ -1,4 +1,4 @@
--- A place behind those that wait.
+-- A place after those that wait.
 use Prim.Native.Nat.{_+_}
 use native.Mathlib.Omega.{arith}
 use lib.ListN.{length-set}
