@@ -7,7 +7,8 @@ use std::process::exit;
 const ROUNDS: usize = 150;
 const WRITES: usize = 1000;
 const PAIRS: usize = 500;
-/// How many calls there are between two barriers: a store with 1,750 dead blocks has 42 free, and what the calls free waits.
+/// How many units of calls there are between two barriers, each after a T: a store with 1,750 dead blocks has 42 free, and what the calls free is queued
+/// and waits. A unit queues at most one block, so that a T frees all of them.
 const BETWEEN: usize = 32;
 
 /// The times of calls, in nanoseconds, where `at` pages, records or dead blocks are there.
@@ -48,16 +49,16 @@ impl Begun {
         self
     }
 
-    /// With calls after them, made from `count` numbers of records from the open one on, and a barrier after every so many.
+    /// With calls after them, made from `count` numbers of records from the open one on, and a T and a barrier after every so many.
     fn with(&self, count: usize, unit: impl Fn(usize) -> String) -> String {
-        let barrier = |i: usize| if i.is_multiple_of(BETWEEN) { "Y\n" } else { "" };
+        let barrier = |i: usize| if i.is_multiple_of(BETWEEN) { "T 64\nY\n" } else { "" };
         let calls: String = (1..=count).map(|i| unit(self.r + i - 1) + barrier(i)).collect();
         format!("{}{calls}", self.text)
     }
 }
 
-/// The scripts of a point: the first lines with barriers alone, then with calls between them. So a call's time has what the end of its blocks' waiting
-/// takes, and not the barrier itself.
+/// The scripts of a point: the first lines with T's and barriers alone, then with calls between them. So a call's time has what the freeing of its blocks
+/// and the end of their waiting take, and not a T that frees nothing or the barrier itself.
 struct Scripts {
     at: usize,
     texts: [String; 7],
