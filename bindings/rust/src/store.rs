@@ -80,6 +80,25 @@ pub struct Store<'a> {
     pub memory: Memory<'a>,
 }
 
+/// A call of a name that writes the tables alone: the memory and the name are lent, then comes what else is given.
+macro_rules! named {
+    ($function:ident, $g:ident, $m:ident, $name:ident $(, $argument:expr)*) => {
+        bare!(
+            $function,
+            $g,
+            $m.tables.as_mut_ptr(),
+            $m.tables.len(),
+            $m.log.as_ptr(),
+            $m.log.len(),
+            $m.out.as_ptr(),
+            $m.out.len(),
+            $name.as_ptr(),
+            $name.len()
+            $(, $argument)*
+        )
+    };
+}
+
 impl<'a> Store<'a> {
     /// Makes a fresh store, whatever the memory held before.
     ///
@@ -153,41 +172,14 @@ impl<'a> Store<'a> {
     fn attach(&mut self, name: &[u8], record: u32) -> Result<usize, Refusal> {
         let (g, m) = (self.geometry, &mut self.memory);
         // SAFETY: the pointers and lengths are those of three exclusive slices, of which the first alone is written, and of a shared one.
-        let code = unsafe {
-            bare!(
-                sogvect_name,
-                g,
-                m.tables.as_mut_ptr(),
-                m.tables.len(),
-                m.log.as_ptr(),
-                m.log.len(),
-                m.out.as_ptr(),
-                m.out.len(),
-                name.as_ptr(),
-                name.len(),
-                record,
-            )
-        };
+        let code = unsafe { named!(sogvect_name, g, m, name, record) };
         Refusal::check(code).map(|()| 0)
     }
 
     fn detach(&mut self, name: &[u8]) -> Result<usize, Refusal> {
         let (g, m) = (self.geometry, &mut self.memory);
         // SAFETY: the pointers and lengths are those of three exclusive slices, of which the first alone is written, and of a shared one.
-        let code = unsafe {
-            bare!(
-                sogvect_unname,
-                g,
-                m.tables.as_mut_ptr(),
-                m.tables.len(),
-                m.log.as_ptr(),
-                m.log.len(),
-                m.out.as_ptr(),
-                m.out.len(),
-                name.as_ptr(),
-                name.len(),
-            )
-        };
+        let code = unsafe { named!(sogvect_unname, g, m, name) };
         Refusal::check(code).map(|()| 0)
     }
 
