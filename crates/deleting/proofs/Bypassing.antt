@@ -32,7 +32,7 @@ use Rattle.tables.proofs.Steps.{Holds, holds-as, holds-first, step-prev}
 use Rattle.tables.proofs.Lists.{step-list, rest-said}
 use Rattle.tables.proofs.Reading.{reads-prev}
 use Rattle.deleting.specs.Stages.{younger, others, bypassed}
-use Rattle.deleting.proofs.Buffers.{get-before, get-behind, get-in, get-first, sets-append, sets-over, take-sets}
+use Rattle.tables.proofs.Sets.{get-before, get-after, get-in, get-first, sets-append, sets-over, take-sets}
 use Rattle.deleting.proofs.Sifting.{length-sorted}
 use Rattle.deleting.proofs.Parting.{parts, freed-is}
 use Rattle.deleting.proofs.Joining.{row-apart}
@@ -130,7 +130,7 @@ module _ {g : Geometry} {t₀ : List ℕ} (R : Ready g t₀) (s n : ℕ) (asks :
         cases (lt? b (blocks g))
         (λ h.
         Fields.birth-is g t₁ b h ∙ ap (λ (u : List ℕ). getD u (birthCell (g .records) b) 0) e₁ ∙
-        get-behind O t₀ a (birthCell (g .records) b) (let z : a + length O ≤ birthCell (g .records) b = omega (arith, both, few, next-slot) in z) ∙ sym (Fields.birth-is g t₀ b h))
+        get-after O t₀ a (birthCell (g .records) b) (let z : a + length O ≤ birthCell (g .records) b = omega (arith, both, few, next-slot) in z) ∙ sym (Fields.birth-is g t₀ b h))
         (λ h. Fields.birth-out g t₁ b h ∙ sym (Fields.birth-out g t₀ b h)))
 
     length-here : getD t₁ (lengthCell s) 0 ≡ getD t₀ (lengthCell s) 0
@@ -223,7 +223,7 @@ module _ {g : Geometry} {t₀ : List ℕ} (R : Ready g t₀) (s n : ℕ) (asks :
             (λ h. get-before J t₀ a i h)
             (λ h. cases (lt? i (a + length J))
             (λ m. absurd (o .1 (i - a) (omega arith) (let z : i ≡ listCell (g .records) n (i - a) = omega arith in z)))
-            (λ m. get-behind J t₀ a i m)))
+            (λ m. get-after J t₀ a i m)))
             (rest-said g t₀ (T .view .list n) n next-slot refl (length J))
 
         prev-read : getD t₂ (prevCell s) 0 ≡ K .prev s

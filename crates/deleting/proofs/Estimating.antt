@@ -30,7 +30,7 @@ use Rattle.tables.specs.Ready.{Ready, OutLong}
 use Rattle.tables.specs.Outcome.{replied, outLeft}
 use Rattle.tables.proofs.Ranges
 use Rattle.deleting.specs.Stages.{younger}
-use Rattle.deleting.proofs.Buffers.{take-sets}
+use Rattle.tables.proofs.Sets.{take-sets}
 use Rattle.deleting.proofs.Sifting.{length-sorted, of-sorted}
 use Rattle.deleting.proofs.Parting.{parts, freed-is}
 use Rattle.deleting.proofs.Verdicts.{slot-is, has-slot, names-are}

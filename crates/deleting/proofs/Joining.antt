@@ -10,7 +10,7 @@ use Rattle.answer.proofs.Cases.{cases, lt?}
 use Rattle.geometry.specs.declared.Geometry.{Geometry}
 use Rattle.model.specs.Layout.{lengthCell, listCell, viewOf}
 use Rattle.tables.proofs.Fields
-use Rattle.deleting.proofs.Buffers.{get-before, get-behind, sets-last}
+use Rattle.tables.proofs.Sets.{get-before, get-after, sets-last}
 use Rattle.deleting.proofs.Parting.{part-end}
 
 -- a row is not touched by what is written into another, up to its end
@@ -19,7 +19,7 @@ pub row-apart : (R s n k i : ℕ) → (s ≡ n → ⊥) → (m t : List ℕ) →
 row-apart R s n k i ne m t h l =
     cases (lt? s n)
     (λ a. get-before m t (listCell R n k) (listCell R s i) (omega arith))
-    (λ a. get-behind m t (listCell R n k) (listCell R s i) (let d : n < s = omega arith in omega arith))
+    (λ a. get-after m t (listCell R n k) (listCell R s i) (let d : n < s = omega arith in omega arith))
 
 module _ (g : Geometry) (t₀ : List ℕ) (s n kept : ℕ) (hs : s < g .records) (room : kept + getD t₀ (lengthCell s) 0 ≤ 256) (ne : s ≡ n → ⊥) where
   abbrev l : List ℕ

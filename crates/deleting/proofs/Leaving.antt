@@ -33,7 +33,7 @@ use Rattle.tables.proofs.Steps.{Holds, holds-as, holds-first, holds-length, hol
 use Rattle.tables.proofs.Lists.{step-dropped, rest-said}
 use Rattle.tables.proofs.QueueStores.{withAllQueued, queued-none, queued-next, queued-length, queued-count, step-queued}
 use Rattle.deleting.specs.Stages.{bypassed, unhooked, queuedAll, removed}
-use Rattle.deleting.proofs.Buffers.{get-first, take-sets}
+use Rattle.tables.proofs.Sets.{get-first, take-sets}
 use Rattle.deleting.proofs.Bypassing.{apart, bypassed-shaped}
 
 -- tables of the same length have room too

@@ -1,5 +1,4 @@
 -- Laws of a deletion: memory that lists are written into, sorting, the parts of a deadlist, a record's own pages, the stages, the verdict, the call; Q.
-pub mod Buffers
 pub mod Sifting
 pub mod Parting
 pub mod Joining

@@ -25,7 +25,7 @@ use Rattle.tables.specs.Rows.{differs}
 use Rattle.tables.proofs.Fields
 use Rattle.tables.proofs.PagesWord.{bits-none, bits-inside, bits-few, bits-below, bits-at}
 use Rattle.tables.proofs.Ranges
-use Rattle.deleting.proofs.Buffers.{sets-append, sets-last}
+use Rattle.tables.proofs.Sets.{sets-append, sets-last}
 
 -- ── the pred ──
 

@@ -24,7 +24,7 @@ use Rattle.tables.specs.Ready.{Ready}
 use Rattle.tables.proofs.Fields
 use Rattle.tables.proofs.Ranges
 use Rattle.deleting.specs.Stages.{younger, others}
-use Rattle.deleting.proofs.Buffers.{get-behind, sets-last}
+use Rattle.tables.proofs.Sets.{get-after, sets-last}
 use Rattle.deleting.proofs.Sifting.{length-sorted}
 
 -- ── one entry more ──
@@ -172,13 +172,13 @@ module _ {g : Geometry} {t₀ : List ℕ} (R : Ready g t₀) (n : ℕ) (hn : n <
     pub entry-read : getD t (listCell (g .records) n i) 0 ≡ getD (viewOf g t₀ .list n) i 0
     entry-read =
         ap (λ (u : List ℕ). getD u (listCell (g .records) n i) 0) et ∙
-        get-behind (others K p (take i l)) t₀ (listCell (g .records) n 0) (listCell (g .records) n i) (omega arith) ∙
+        get-after (others K p (take i l)) t₀ (listCell (g .records) n 0) (listCell (g .records) n i) (omega arith) ∙
         sym (Fields.list-at g t₀ n i hn more)
 
     pub birth-read : (b : ℕ) → b < blocks g → getD t (birthCell (g .records) b) 0 ≡ viewOf g t₀ .birth b
     birth-read b h =
         ap (λ (u : List ℕ). getD u (birthCell (g .records) b) 0) et ∙
-        get-behind (others K p (take i l)) t₀ (listCell (g .records) n 0) (birthCell (g .records) b)
+        get-after (others K p (take i l)) t₀ (listCell (g .records) n 0) (birthCell (g .records) b)
         (omega (arith, Ranges.length-cell-le R n hn, R .roomy .inside .pages-most)) ∙ sym (Fields.birth-is g t₀ b h)
 
 -- a count as it was read

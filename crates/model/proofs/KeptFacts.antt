@@ -92,7 +92,8 @@ module _ (g : Geometry) (inside : Inside g) (before : List Screened) where
   B = book (g .pages) (history g before)
 
   -- held, by the book and the reckoning
-  held-is : (b : ℕ) → held (stateAfter g before) b ≡ (onLines (g .pages) (book (g .pages) (history g before) .lines) b || queuedIn (g .pages) (history g before) b)
+  held-is : (b : ℕ) →
+      held (stateAfter g before) b ≡ (onLines (g .pages) (book (g .pages) (history g before) .lines) b || queuedIn (g .pages) (history g before) b)
   unfolding held
   held-is b =
       ap₂ (λ s t. s || t) (sym (on-is g T B (events H) (reached g inside before) b)) (queued-reckoned g inside before b)
@@ -110,7 +111,9 @@ module _ (g : Geometry) (inside : Inside g) (before : List Screened) where
   given-less-freed b =
       let R = reached g inside before in (
         λ s.
-            let e : held T b ≡ true = sym (R .inv .tells b) ∙ ap (λ l. heldBy (λ c. false) l b) (s .split) ∙ stands (λ c. false) (s .early) (s .late) b (s .since) in
+            let given : heldBy (λ c. false) (events H) b ≡ true =
+            ap (λ l. heldBy (λ c. false) l b) (s .split) ∙ stands (λ c. false) (s .early) (s .late) b (s .since) in
+            let e : held T b ≡ true = sym (R .inv .tells b) ∙ given in
             cases (or-either (onPages (T .view) b) (queued T b) e)
             (λ y. inl (held-on (T .view) B (R .fine .sound) (R .inv .agree) b (born y)))
             (λ y. inr (sym (queued-reckoned g inside before b) ∙ y)),

@@ -1,5 +1,5 @@
--- A CALL AS IT IS ASKED: its letter and numbers and, for the three calls of names, the bytes of the name. Record numbers, pages, kinds, windows and counts may be any
--- numbers; "a name is any bytes", of any length. In code a name is a slice beside the call, so code has two types, `Call` and `Naming`.
+-- A CALL AS IT IS ASKED: its letter and numbers and, for the three calls of names, the bytes of the name. Record numbers, pages, kinds, windows and counts
+-- may be any numbers; "a name is any bytes", of any length. In code a name is a slice beside the call, so code has two types, `Call` and `Naming`.
 use mathlib.Core.List.{List}
 use Prim.Native.Nat.{ℕ}
 use Rattle.model.specs.declared.Call.{Call}

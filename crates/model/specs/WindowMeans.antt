@@ -1,8 +1,8 @@
 -- THE WINDOW OF A LINE (order 5), told of the memory before a call and the memory that it left: "K r n sets a window on the line of open r. After each S
 -- there, the oldest sealed records without a fork are deleted, one after another, until at most n sealed ones are left or only forked ones and the newest
--- sealed one remain. … K prints `+`, deletes nothing itself, and meets 9 on a sealed r. Every new line starts without a window." And order 6: "A named record is
--- not deleted, and a window passes over it as over a forked one." And order 7: a window's deletes "put its blocks in a queue, in the order they were freed
--- before".
+-- sealed one remain. … K prints `+`, deletes nothing itself, and meets 9 on a sealed r. Every new line starts without a window." And order 6: "A named
+-- record is not deleted, and a window passes over it as over a forked one." And order 7: a window's deletes "put its blocks in a queue, in the order they
+-- were freed before".
 use mathlib.Core.Path.{_≡_}
 use mathlib.Core.List.{List, [], _∷_}
 use Prim.Native.Nat.{ℕ, suc, _+_, _≤_, _<_}

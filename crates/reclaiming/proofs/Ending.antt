@@ -19,10 +19,10 @@ use Rattle.tables.specs.Ready.{Roomy}
 use Rattle.tables.specs.Births.{waited}
 use Rattle.tables.specs.Puts.{withEnded, withQueueList}
 use Rattle.tables.proofs.Steps.{Holds, holds-as}
-use Rattle.tables.proofs.TitleStores.{sets-off}
+use Rattle.tables.proofs.Sets.{sets-off, sets-last}
 use Rattle.tables.proofs.QueueStores.{step-ended, step-shortened, ended-none, ended-next, ended-birth, ended-waiting, ended-length, ended-count}
 use Rattle.reclaiming.specs.Stages.{endedAll, shortened}
-use Rattle.reclaiming.proofs.Listing.{firsts, firsts-next, sets-last}
+use Rattle.reclaiming.proofs.Listing.{firsts, firsts-next}
 
 -- tables of the same length have room too
 pub roomy-as : {g : Geometry} {t u : List ℕ} → length u ≡ length t → Roomy g t → Roomy g u

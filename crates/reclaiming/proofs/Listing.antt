@@ -14,18 +14,9 @@ use Rattle.model.proofs.ResultFacts.{blocks-in-paired, paired-length, paired-ap
 use Rattle.tables.specs.Ready.{Ready}
 use Rattle.tables.proofs.Fields
 use Rattle.tables.proofs.Ranges
-use Rattle.tables.proofs.TitleStores.{sets-on}
+use Rattle.tables.proofs.Sets.{sets-on, sets-append}
 
--- ── a run of stores grows ──
-
-sets-append : (l o m : List ℕ) (j : ℕ) → sets (sets o j l) (j + length l) m ≡ sets o j (l ++ m)
-sets-append [] o m j = ap (λ k. sets o k m) (let z : j + 0 ≡ j = omega arith in z)
-sets-append (c ∷ l) o m j =
-    ap (λ k. sets (sets (set o j c) (suc j) l) k m) (let z : j + suc (length l) ≡ suc j + length l = omega arith in z) ∙ sets-append l (set o j c) m (suc j)
-
--- one more number
-pub sets-last : (o : List ℕ) (j : ℕ) (l : List ℕ) (b k : ℕ) → k ≡ j + length l → set (sets o j l) k b ≡ sets o j (l ++ (b ∷ []))
-sets-last o j l b k e = ap (λ i. set (sets o j l) i b) e ∙ sets-append l o (b ∷ []) j
+-- ── the buffer ──
 
 -- one more block with its birth
 pair-last : (f : ℕ → ℕ) (o l : List ℕ) (b v i : ℕ) → i ≡ length l → v ≡ f b →

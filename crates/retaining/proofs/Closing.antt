@@ -35,7 +35,7 @@ use Rattle.tables.proofs.Ranges
 use Rattle.tables.proofs.Steps.{holds-first}
 use Rattle.lines.specs.Growing.{viewed}
 use Rattle.lines.proofs.Answers.{acted-is}
-use Rattle.deleting.proofs.Buffers.{take-sets}
+use Rattle.tables.proofs.Sets.{take-sets}
 use Rattle.retaining.specs.Lines.{Lined}
 use Rattle.retaining.specs.Deletes.{oldest, oldestIn, oldestLeft}
 use Rattle.retaining.specs.Closing.{Closes, sealedAs, closedState, deletedTables, closedReply, closedTables, closedOut}

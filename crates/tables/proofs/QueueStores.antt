@@ -40,7 +40,7 @@ use Rattle.tables.proofs.Freeing.{waiting-length, joined-last, row-join
 use Rattle.tables.proofs.Stores.{header-same, several, waits-stored}
 use Rattle.tables.proofs.Chain.{QueueTail, tail-longer, queue-same}
 use Rattle.tables.proofs.Steps.{Holds, holds-as, holds-roomy, holds-made, holds-free, holds-says, step, step-tail}
-use Rattle.tables.proofs.TitleStores.{sets-off, sets-on, sets-length}
+use Rattle.tables.proofs.Sets.{sets-off, sets-on, sets-length}
 
 -- ── free words ──
 

@@ -25,28 +25,8 @@ use Rattle.tables.proofs.Fields
 use Rattle.tables.proofs.Stores.{note-same, several}
 use Rattle.tables.proofs.Puts.{shaped-link, shaped-put, shaped-off}
 use Rattle.tables.proofs.Steps.{Holds, holds-as, holds-roomy, holds-made, holds-free, holds-says, step-rows}
+use Rattle.tables.proofs.Sets.{sets-off, sets-on, sets-length}
 use Rattle.tables.proofs.TitleRows.{moved-one}
-
--- ── a run of stores ──
-
-pub sets-off : (l t : List ℕ) (a k : ℕ) → (k < a) ⊎ (a + length l ≤ k) → getD (sets t a l) k 0 ≡ getD t k 0
-sets-off [] t a k o = refl
-sets-off (v ∷ l) t a k o =
-    sets-off l (set t a v) (suc a) k (cases o (λ h. inl (omega arith)) (λ h. inr (omega arith))) ∙
-    getD-set-other t a k v 0 (λ e. cases o (λ h. let z : ⊥ = omega arith in z) (λ h. let z : ⊥ = omega arith in z))
-
-pub sets-on : (l t : List ℕ) (a i : ℕ) → a + length l ≤ length t → i < length l → getD (sets t a l) (a + i) 0 ≡ getD l i 0
-sets-on [] t a i h k = absurd (let z : ⊥ = omega arith in z)
-sets-on (v ∷ l) t a zero h k =
-    ap (λ n. getD (sets (set t a v) (suc a) l) n 0) (let z : a + 0 ≡ a = omega arith in z) ∙
-    sets-off l (set t a v) (suc a) a (inl (omega arith)) ∙ getD-set-same t a v 0 (omega arith)
-sets-on (v ∷ l) t a (suc i) h k =
-    ap (λ n. getD (sets (set t a v) (suc a) l) n 0) (let z : a + suc i ≡ suc a + i = omega arith in z) ∙
-    sets-on l (set t a v) (suc a) i (omega (arith, length-set t a v)) (omega arith)
-
-pub sets-length : (l t : List ℕ) (a : ℕ) → length (sets t a l) ≡ length t
-sets-length [] t a = refl
-sets-length (v ∷ l) t a = sets-length l (set t a v) (suc a) ∙ length-set t a v
 
 -- ── number k of row i ──
 

@@ -1,10 +1,12 @@
--- Lists that are written into memory number by number.
+-- Runs of stores: lists that are written into memory number by number (`sets`).
 use mathlib.Core.Path.{_≡_, refl, sym, ap, _∙_}
+use mathlib.Core.Logic.{_⊎_}
 use mathlib.Core.List.{List, [], _∷_, _++_}
 use Prim.Native.Nat.{ℕ, zero, suc, _+_, _≤_, _<_}
 use native.Mathlib.Omega.{arith}
 use lib.ListN.{length, getD, set, take, drop, length-set, take-append-drop}
 use lib.Seq.{sets, sets-eq, set-comm, set-set, getD-set-same, getD-set-other, length-take-le, take-at}
+use Rattle.answer.proofs.Cases.{cases}
 
 -- a store in front of them
 pub sets-comm : (m o : List ℕ) (j k v : ℕ) → k < j → set (sets o j m) k v ≡ sets (set o k v) j m
@@ -12,16 +14,16 @@ sets-comm [] o j k v h = refl
 sets-comm (c ∷ m) o j k v h =
     sets-comm m (set o j c) (suc j) k v (omega arith) ∙ ap (λ (u : List ℕ). sets u (suc j) m) (set-comm o j k c v (λ e. let z : ⊥ = omega arith in z))
 
--- what stands in front of them, behind them, and there
+-- what stands in front of them, after them, and there
 pub get-before : (m o : List ℕ) (j k : ℕ) → k < j → getD (sets o j m) k 0 ≡ getD o k 0
 get-before [] o j k h = refl
 get-before (c ∷ m) o j k h =
     get-before m (set o j c) (suc j) k (omega arith) ∙ getD-set-other o j k c 0 (λ e. let z : ⊥ = omega arith in z)
 
-pub get-behind : (m o : List ℕ) (j k : ℕ) → j + length m ≤ k → getD (sets o j m) k 0 ≡ getD o k 0
-get-behind [] o j k h = refl
-get-behind (c ∷ m) o j k h =
-    get-behind m (set o j c) (suc j) k (omega arith) ∙ getD-set-other o j k c 0 (λ e. let z : ⊥ = omega arith in z)
+pub get-after : (m o : List ℕ) (j k : ℕ) → j + length m ≤ k → getD (sets o j m) k 0 ≡ getD o k 0
+get-after [] o j k h = refl
+get-after (c ∷ m) o j k h =
+    get-after m (set o j c) (suc j) k (omega arith) ∙ getD-set-other o j k c 0 (λ e. let z : ⊥ = omega arith in z)
 
 pub get-in : (m o : List ℕ) (j i : ℕ) → i < length m → j + i < length o → getD (sets o j m) (j + i) 0 ≡ getD m i 0
 get-in [] o j i h l = absurd (let z : ⊥ = omega arith in z)
@@ -35,7 +37,18 @@ get-in (c ∷ m) o j (suc i) h l =
 pub get-first : (m o : List ℕ) (k : ℕ) → k < length m → k < length o → getD (sets o 0 m) k 0 ≡ getD m k 0
 get-first m o k h l = ap (λ j. getD (sets o 0 m) j 0) (let z : k ≡ 0 + k = omega arith in z) ∙ get-in m o 0 k h (omega arith)
 
--- one list behind another, and one more number
+-- the same, told by whether the place is off the run or on it
+pub sets-off : (l t : List ℕ) (a k : ℕ) → (k < a) ⊎ (a + length l ≤ k) → getD (sets t a l) k 0 ≡ getD t k 0
+sets-off l t a k o = cases o (λ h. get-before l t a k h) (λ h. get-after l t a k h)
+
+pub sets-on : (l t : List ℕ) (a i : ℕ) → a + length l ≤ length t → i < length l → getD (sets t a l) (a + i) 0 ≡ getD l i 0
+sets-on l t a i h k = get-in l t a i k (omega arith)
+
+pub sets-length : (l t : List ℕ) (a : ℕ) → length (sets t a l) ≡ length t
+sets-length [] t a = refl
+sets-length (v ∷ l) t a = sets-length l (set t a v) (suc a) ∙ length-set t a v
+
+-- one list after another, and one more number
 pub sets-append : (l o m : List ℕ) (j : ℕ) → sets (sets o j l) (j + length l) m ≡ sets o j (l ++ m)
 sets-append [] o m j = ap (λ k. sets o k m) (let z : j + 0 ≡ j = omega arith in z)
 sets-append (c ∷ l) o m j =
