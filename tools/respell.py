@@ -17,8 +17,8 @@ import sys
 TOKEN = re.compile(r"[^\s(){}.;,@\"«»\[\]\\`|]+")
 MADE = re.compile(r"(tie|goal)\.")
 HEAD = re.compile(r"^(\s*)((?:pub |unfoldable |abbrev |private |data |record |ruleset )*)((?:[^\s(){}.;,:=]+ )+)((?:[({].*[)}] ?)?):(?: (.*))?$")
-# Names that would be words of the language or of its tactics.
-APART = {"first_of": "first_from", "firstOf": "first_from"}
+# Names that would be a tactic's, or a name of the kit that the same file imports.
+APART = {"first_of": "first_from", "bit-and": "bit_and_lem", "bit-or": "bit_or_lem"}
 
 
 def texts():
@@ -112,7 +112,7 @@ USE = re.compile(r"^(?P<head>(?:pub )?(?:ghost )?use )(?P<mod>[\w.'-]+)(?:\.\{(?
 def respelled(path, text, crates, own, fields, to):
     if path.endswith(".rt"):
         # code has names with _ of its own
-        to = {n: m for n, m in to.items() if "_" not in n}
+        to = {n: m for n, m in to.items() if "_" not in n or n in APART}
     theirs, aliases = set(), set()
     for m in USE.finditer(text):
         parts = m.group("mod").split(".")

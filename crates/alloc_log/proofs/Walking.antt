@@ -1,5 +1,5 @@
 -- The runs that a walk over the blocks still has to tell, by what stands at the next block and at an arena's edge.
-use Rattle.std.proofs.Common.{◌≡◌, ℕ, zero, suc, ◌+◌, ◌-◌, ◌*◌, ◌%◌, ◌<◌, ◌≤◌, Bool, true, false, cond, List, [], ◌∷◌, ◌++◌, sym, refl, ap, ◌∙◌, subst, append-nil, mul-le-mul_right, mod-eq_of_lt, suc-mul, add-one, arith, eq-eqb, ne_eqb}
+use Rattle.std.proofs.Common.{◌≡◌, ℕ, zero, suc, ◌+◌, ◌-◌, ◌*◌, ◌%◌, ◌<◌, ◌≤◌, Bool, true, false, cond, List, [], ◌++◌, sym, refl, ap, ◌∙◌, append-nil, mul-le-mul_right, mod-eq_of_lt, suc-mul, add-one, arith, eq-eqb, ne_eqb}
 use native.Mathlib.Nat.{mul-mod_left, mul-add-mod_self_right}
 use Rattle.answer.proofs.Cases.{cases, same?}
 use Rattle.alloc_log.specs.Runs.{Run, ending, runs_from}

@@ -1,8 +1,7 @@
 -- What a log is, told without a reader: a list of entries, each allowed where it stands. `reads_iff` says that reading agrees.
-use Rattle.std.specs.Prelude.{◌≡◌, ℕ, ◌+◌, ◌*◌, ◌%◌, ◌<◌, ◌≤◌, Bool, true, false, not, List, [], ◌∷◌, ◌++◌, replicate, slice_index}
+use Rattle.std.specs.Prelude.{◌≡◌, ℕ, ◌+◌, ◌*◌, ◌%◌, ◌<◌, ◌≤◌, List, [], ◌∷◌, ◌++◌, replicate, slice_index}
 use Rattle.std.proofs.lemmas.List.Edits.{sets}
 use Rattle.alloc_log.specs.Word.{allocated, released, barrier, allocated_run, released_run, length_of}
-use Rattle.alloc_log.specs.Marks.{mark_of}
 
 pub data Entry : Type 0 where
   allocate release : ℕ → Entry

@@ -1,3 +1,5 @@
+#![tactic(auto)]
+
 // What a call answers: the count of the numbers it gave in the result buffer, or the number of its refusal.
 #[derive(Drop)]
 pub enum Answer {

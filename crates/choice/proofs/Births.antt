@@ -12,7 +12,7 @@ use lib.Pow.{pow_mono}
 use borrow.Author.Tests.{eq-eqb, ne_eqb}
 use Rattle.answer.proofs.Cases.{cases, same?, lt?, either}
 use Rattle.choice.specs.Words.{bit, free_in, born_free, word_of}
-use Rattle.choice.proofs.Bit.{bit_or, bit_one, bit_high, bit_ext, one_shl}
+use Rattle.choice.proofs.Bit.{bit_or_lem, bit_one, bit_high, bit_ext, one_shl}
 
 -- a 1 above all digits of a number
 pub above : (w n : ℕ) → w < 2 ^ n → bit_or w (2 ^ n) ≡ w + 2 ^ n
@@ -42,7 +42,7 @@ module _ (p : ℕ → Bool) (i : ℕ) where
   word_bit zero k h = absurd (omega arith)
   word_bit (suc n) k h =
       cases (either (p (i + n)))
-      (λ t. ap (λ (x : ℕ). bit x k) (sym (word_step n t)) ∙ bit_or k (word_of p i n) (2 ^ n) ∙ ap (λ (u : Bool). bit (word_of p i n) k || u) (bit_one n k)
+      (λ t. ap (λ (x : ℕ). bit x k) (sym (word_step n t)) ∙ bit_or_lem k (word_of p i n) (2 ^ n) ∙ ap (λ (u : Bool). bit (word_of p i n) k || u) (bit_one n k)
       ∙ cases (same? k n)
       (λ e. ap (λ (u : Bool). bit (word_of p i n) k || u) (eq-eqb k n e) ∙ or-true (bit (word_of p i n) k) ∙ sym (ap (λ (x : ℕ). p (i + x)) e ∙ t))
       (λ d. ap (λ (u : Bool). bit (word_of p i n) k || u) (ne_eqb k n d) ∙ or-false (bit (word_of p i n) k) ∙ word_bit n k (omega arith)))

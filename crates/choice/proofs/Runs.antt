@@ -1,5 +1,5 @@
 -- The search for the first block of a stretch that p holds of. The number `word k` tells by its bits of which blocks of word k it does.
-use mathlib.Core.Path.{◌≡◌, sym, ap, ◌∙◌}
+use mathlib.Core.Path.{◌≡◌, sym, ◌∙◌}
 use Prim.Native.Nat.{ℕ, ◌+◌, ◌-◌, ◌*◌, ◌/◌, ◌%◌, ◌^◌, ◌≤◌, ◌<◌, min}
 use native.Mathlib.Nat.{add-zero, zero-div, div-one}
 use native.Mathlib.Omega.{arith}

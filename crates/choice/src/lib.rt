@@ -1,6 +1,8 @@
 // The choice of a free block for a write, and what an accepted write moves: a mark and the arena counter.
+#![tactic(auto)]
+
 ghost use Rattle.std.specs.Prelude.{◌≡◌, ℕ, ◌+◌, ◌-◌, ◌*◌, ◌/◌, ◌%◌, ◌^◌, ◌<◌, ◌≤◌, min, true, false, not, length, get_or};
-ghost use Rattle.choice.specs.Words.{free_in, mark_in, first_of, born_free, word_of, words_agree, Searchable};
+ghost use Rattle.choice.specs.Words.{free_in, mark_in, first_from, born_free, word_of, words_agree, Searchable};
 ghost use Rattle.choice.specs.Search.{chosen};
 ghost use Rattle.choice.specs.Turn.{next, turned};
 
@@ -92,7 +94,7 @@ fn next_word(words: &[u32], k: usize, end: usize, skip: u32) -> usize
 // of lo, then for a word that is not 0.
 pub fn first_given(words: &[u32], lo: usize, hi: usize) -> usize
     requires { (hi ≤ 16384) × (hi ≤ 32 * length words.now) }
-    ensures { result ≡ first_of (free_in words.now) hi lo (hi - lo) }
+    ensures { result ≡ first_from (free_in words.now) hi lo (hi - lo) }
 {
     if hi <= lo {
         return hi;
@@ -113,7 +115,7 @@ pub fn first_given(words: &[u32], lo: usize, hi: usize) -> usize
 // over.
 pub fn first_kept(words: &[u32], lo: usize, hi: usize) -> usize
     requires { (hi ≤ 2048) × (hi ≤ 32 * length words.now) }
-    ensures { result ≡ first_of (λ b. not (free_in words.now b)) hi lo (hi - lo) }
+    ensures { result ≡ first_from (λ b. not (free_in words.now b)) hi lo (hi - lo) }
 {
     if hi <= lo {
         return hi;

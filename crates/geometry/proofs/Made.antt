@@ -3,11 +3,10 @@ use mathlib.Core.Path.{◌≡◌, refl, sym, ap, ◌∙◌, subst}
 use mathlib.Core.Bool.{Bool, true, false, cond, not, ◌&&◌}
 use mathlib.Core.Logic.{◌↔◌}
 use mathlib.Core.List.{[], ◌∷◌}
-use Prim.Native.Nat.{ℕ, ◌+◌, ◌*◌, ◌≤◌}
+use Prim.Native.Nat.{ℕ, ◌≤◌}
 use native.Mathlib.Omega.{arith}
 use lib.Dec.{leb}
 use borrow.Author.Tests.{leb-true, le-leb}
-use Rattle.answer.specs.Reply.{accepted, refused}
 use Rattle.answer.specs.Refusal.{decide}
 use Rattle.geometry.specs.declared.Geometry.{Geometry}
 use Rattle.geometry.specs.declared.Making.{Making}
@@ -120,7 +119,6 @@ module _ (arenas per pages records turn words : ℕ) where
       go true = refl
       go false = refl
 
-  -- both clauses of the promise, from the first
-  pub promised : (r : Making) → r ≡ making_of arenas per pages records turn words
-      → (r ≡ making_of arenas per pages records turn words) × (reply_of r ≡ making arenas per pages records turn words)
-  promised r e = (e, ap reply_of e ∙ replies)
+  -- what is replied follows from what is answered
+  pub replied : (r : Making) → r ≡ making_of arenas per pages records turn words → reply_of r ≡ making arenas per pages records turn words
+  replied r e = ap reply_of e ∙ replies

@@ -1,4 +1,6 @@
 // The six numbers that a store is made from, and their limits.
+#![tactic(auto)]
+
 ghost use Rattle.std.specs.Prelude.{◌≡◌};
 ghost use Rattle.geometry.specs.Limits.{within, making_of};
 ghost use Rattle.geometry.specs.Making.{reply_of, making};
