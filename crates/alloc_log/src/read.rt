@@ -9,7 +9,7 @@ use crate::word::get_word;
 use std::num::wrapping_sub_u64;
 
 // How far the reading of a log has come.
-#[derive(Drop)]
+#[derive(Clone, Copy)]
 pub enum Progress {
     // The next word starts an entry.
     Ready,

@@ -15,7 +15,7 @@ use answer::Answer;
 use geometry::{Geometry, Making};
 
 // How two logs compare, or the number of the refusal.
-#[derive(Drop)]
+#[derive(Clone, Copy)]
 pub enum Comparison {
     Alike,
     Different,
@@ -23,7 +23,7 @@ pub enum Comparison {
 }
 
 // How many words a compressed log has, or the number of the refusal.
-#[derive(Drop)]
+#[derive(Clone, Copy)]
 pub enum Compaction {
     Words(usize),
     Refused(u8),

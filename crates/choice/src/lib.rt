@@ -7,7 +7,7 @@ ghost use Rattle.choice.specs.Search.{chosen};
 ghost use Rattle.choice.specs.Turn.{next, turned};
 
 // A free block, by its arena and how far after the arena's first block it stands; or none.
-#[derive(Drop)]
+#[derive(Clone, Copy)]
 pub enum Found {
     At(usize, usize),
     Nothing,
@@ -318,7 +318,7 @@ pub fn words_agree(words: &[u32], births: &[u32], n: usize) -> bool
 }
 
 // The arena counter, and the accepted writes since it last went up.
-#[derive(Drop)]
+#[derive(Clone, Copy)]
 pub struct Turn {
     pub counter: usize,
     pub writes: usize,

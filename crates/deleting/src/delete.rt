@@ -22,7 +22,7 @@ use tables::find::{follower_of, is_forked, wide};
 use tables::links::pred_number;
 
 // What a deletion meets: a refusal, or the slot of its record and the link of the one that follows.
-#[derive(Drop)]
+#[derive(Clone, Copy)]
 pub enum Verdict {
     Refused(u8),
     Accept(usize, usize),

@@ -8,7 +8,7 @@ ghost use Rattle.engine.specs.Looks.{look_call, only_looks, seen_call};
 use model::Call;
 
 // The calls that only look.
-#[derive(Drop)]
+#[derive(Clone, Copy)]
 pub enum Look {
     Read(u32, u32),
     FreeList,
@@ -16,7 +16,7 @@ pub enum Look {
 }
 
 // The look that a call is, or that it is none.
-#[derive(Drop)]
+#[derive(Clone, Copy)]
 pub enum Seen {
     For(Look),
     Nothing,

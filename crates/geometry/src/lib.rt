@@ -5,7 +5,7 @@ ghost use Rattle.std.specs.Prelude.{◌≡◌};
 ghost use Rattle.geometry.specs.Limits.{within, making_of};
 ghost use Rattle.geometry.specs.Making.{reply_of, making};
 
-#[derive(Drop)]
+#[derive(Clone, Copy)]
 pub struct Geometry {
     pub arenas: usize,
     // Blocks in each arena.
@@ -19,7 +19,7 @@ pub struct Geometry {
 }
 
 // A geometry, or the number of the refusal.
-#[derive(Drop)]
+#[derive(Clone, Copy)]
 pub enum Making {
     Made(Geometry),
     Refused(u8),

@@ -11,7 +11,7 @@ use tables::cells::{LAST, OPEN};
 use tables::find::vacant_slot;
 
 // What such a call meets: a refusal, or the slot of its record and the empty slot.
-#[derive(Drop)]
+#[derive(Clone, Copy)]
 pub enum Verdict {
     Refused(u8),
     Accept(usize, usize),

@@ -17,7 +17,7 @@ pub const FILE: usize = 4;
 
 pub const OTHER: usize = 5;
 
-#[derive(Drop)]
+#[derive(Clone, Copy)]
 pub enum Command {
     Held,
     Compress,
@@ -26,7 +26,7 @@ pub enum Command {
     Unclear,
 }
 
-#[derive(Drop)]
+#[derive(Clone, Copy)]
 pub struct Asked {
     pub command: Command,
     pub arenas: usize,

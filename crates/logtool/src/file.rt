@@ -10,7 +10,7 @@ use libc::{EEXIST, ENOENT, PATH_MAX};
 pub const MOST: usize = 196608;
 
 // Whether a file was read, and how many bytes it has.
-#[derive(Drop)]
+#[derive(Clone, Copy)]
 pub struct Content {
     pub ok: bool,
     pub length: usize,

@@ -11,7 +11,7 @@ use tables::cells::{NAMES, OPEN};
 use tables::titles::row_with;
 
 // What such a call meets: a refusal, or the row that it works on.
-#[derive(Drop)]
+#[derive(Clone, Copy)]
 pub enum Verdict {
     Refused(u8),
     Accept(usize),

@@ -22,7 +22,7 @@ use tables::find::wide;
 use tables::links::frees_on;
 
 // What a call on a page meets: a refusal, or the slot of its record.
-#[derive(Drop)]
+#[derive(Clone, Copy)]
 pub enum Verdict {
     Refused(u8),
     Accept(usize),

@@ -17,7 +17,7 @@ use tables::cells::{COUNTER, FREE, MARKS, NUMBER, PAGES, ROW, WRITES};
 use tables::find::wide;
 
 // Where the block stands that a write is given, with its birth: an arena, an offset in it, and the number of the record that is written.
-#[derive(Drop)]
+#[derive(Clone, Copy)]
 pub enum Spot {
     At(usize, usize, u32),
     Nothing,

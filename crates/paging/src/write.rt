@@ -25,7 +25,7 @@ use tables::find::wide;
 use tables::links::frees_on;
 
 // What a write meets: a refusal, or the slot of its record, the place of its block and the block's birth.
-#[derive(Drop)]
+#[derive(Clone, Copy)]
 pub enum Verdict {
     Refused(u8),
     Accept(usize, usize, usize, u32),

@@ -9,7 +9,7 @@ use libc::{EAGAIN, EINTR};
 const TURNS: usize = 1000000;
 
 // What a read brought: so many bytes, none at the end of the input. What is read next is read from `fd`; below 0 the read failed.
-#[derive(Drop)]
+#[derive(Clone, Copy)]
 pub struct Input {
     pub fd: i32,
     pub more: usize,

@@ -17,7 +17,7 @@ use serving::serve_part;
 use session::{Session, start};
 
 // How far a text is answered, what the run has then, and where replies go on; below 0 the last could not be written.
-#[derive(Drop)]
+#[derive(Clone, Copy)]
 struct Answered {
     session: Session,
     at: usize,

@@ -8,7 +8,7 @@ use libc::{EAGAIN, EINTR};
 const TURNS: usize = 1000000;
 
 // Whether a write succeeded, and how many bytes it took.
-#[derive(Drop)]
+#[derive(Clone, Copy)]
 struct Put {
     ok: bool,
     more: usize,

@@ -8,7 +8,7 @@ use crate::number::{Number, number_at};
 use model::{Call, Naming};
 
 // The six numbers of a store line.
-#[derive(Drop)]
+#[derive(Clone, Copy)]
 pub struct Six {
     pub arenas: u32,
     pub per: u32,
@@ -18,7 +18,7 @@ pub struct Six {
     pub words: u32,
 }
 
-#[derive(Drop)]
+#[derive(Clone, Copy)]
 pub enum Parsed {
     Store(Six),
     Asks(Call),

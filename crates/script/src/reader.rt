@@ -8,7 +8,7 @@ pub struct Script<'a> {
     pub at: usize,
 }
 
-#[derive(Drop)]
+#[derive(Clone, Copy)]
 pub enum Line {
     // The line from a start to an end.
     Part(usize, usize),

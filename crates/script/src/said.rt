@@ -9,14 +9,14 @@ use crate::reader::{Line, line_from};
 use model::Call;
 
 // What a line says, and where it ends: the position of its line feed, or of the text's end.
-#[derive(Drop)]
+#[derive(Clone, Copy)]
 pub struct Said {
     pub says: Parsed,
     pub end: usize,
 }
 
 // A call that was found in one pass, and where its line ends; none for a line that has to be read by its end.
-#[derive(Drop)]
+#[derive(Clone, Copy)]
 enum Near {
     Asks(Call, usize),
     No,

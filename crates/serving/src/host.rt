@@ -12,7 +12,7 @@ use session::Session;
 use soundness::is_sound;
 
 // The position behind the last line served and how many bytes of replies stand at the buffer's start, or the number of the refusal.
-#[derive(Drop)]
+#[derive(Clone, Copy)]
 pub enum Hosted {
     Part(usize, usize),
     Refused(u8),

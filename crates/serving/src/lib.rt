@@ -11,7 +11,7 @@ use script::said::said_at;
 use session::{Session, step};
 
 // How far the text was read, how many bytes of replies stand in the buffer, and what the run has between two lines.
-#[derive(Drop)]
+#[derive(Clone, Copy)]
 pub struct Served {
     pub session: Session,
     pub at: usize,

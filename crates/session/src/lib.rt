@@ -19,14 +19,14 @@ use tables::find::{hint_slot, slot_by, wide};
 
 // Whether a store was made, 1 or 0, and its geometry. A number and no bool: a bool would leave a gap, and a copy of the struct would read more bytes
 // than were written at once.
-#[derive(Drop)]
+#[derive(Clone, Copy)]
 pub struct Session {
     pub made: usize,
     pub g: Geometry,
 }
 
 // What a line leaves of the session, and its answer.
-#[derive(Drop)]
+#[derive(Clone, Copy)]
 pub struct Stepped {
     pub session: Session,
     pub answer: Answer,

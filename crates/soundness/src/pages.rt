@@ -20,7 +20,7 @@ use tables::find::wide;
 
 // What the walk over a record's pages asks of the record each time: its number, a link to its pred, the pred's number, whether a record is before
 // it in its line, and the number of its line's base.
-#[derive(Drop)]
+#[derive(Clone, Copy)]
 pub struct Kin {
     pub number: usize,
     pub pred: usize,
@@ -30,7 +30,7 @@ pub struct Kin {
 }
 
 // How a walk ends: with so many blocks that are gone, or at a page that does not fit.
-#[derive(Drop)]
+#[derive(Clone, Copy)]
 pub enum Walk {
     Fits(usize),
     Fails,
