@@ -6,7 +6,7 @@ use lib.Pow.{pow-lt}
 use lib.Seq.{set_out}
 use Rattle.answer.proofs.Cases.{cases, either, same?, lt?}
 use Rattle.choice.specs.Words.{bit, free_in}
-use Rattle.choice.proofs.Bit.{bit_or, bit_and, bit_one, bit_ext, no_bit}
+use Rattle.choice.proofs.Bit.{bit_or_lem, bit_and_lem, bit_one, bit_ext, no_bit}
 use Rattle.model.specs.Lists.{In, Once, elem}
 use Rattle.model.specs.Layout.{numbers}
 use Rattle.model.proofs.Reflect.{Says, says_map, says_true, says_lt, ◌&◌}
@@ -18,7 +18,7 @@ use Rattle.soundness.specs.Waiting.{with_bit, joined, joins?}
 bit_off : (w k : ℕ) → bit_and w (2 ^ k) ≡ 0 → bit w k ≡ false
 bit_off w k e =
     cases (either (bit w k))
-    (λ y. absurd (false≢true (sym (no_bit k) ∙ ap (λ x. bit x k) (sym e) ∙ bit_and k w (2 ^ k) ∙ rw (y, bit_one k k) (eq-eqb k k refl))))
+    (λ y. absurd (false≢true (sym (no_bit k) ∙ ap (λ x. bit x k) (sym e) ∙ bit_and_lem k w (2 ^ k) ∙ rw (y, bit_one k k) (eq-eqb k k refl))))
     (λ n. n)
 
 bit_on : (w k : ℕ) → (bit_and w (2 ^ k) ≡ 0 → ⊥) → bit w k ≡ true
@@ -26,7 +26,7 @@ bit_on w k d =
     cases (either (bit w k))
     (λ y. y)
     (λ n. absurd (d (bit_ext (suc k) (bit_and w (2 ^ k)) 0 (lt_of_le_of_lt (and_le_r w (2 ^ k)) (pow-lt {i = k} (omega arith))) (pow_pos (suc k))
-    (λ i l. bit_and i w (2 ^ k) ∙ ap (λ (x : Bool). bit w i && x) (bit_one k i) ∙ none i n ∙ sym (no_bit i)))))
+    (λ i l. bit_and_lem i w (2 ^ k) ∙ ap (λ (x : Bool). bit w i && x) (bit_one k i) ∙ none i n ∙ sym (no_bit i)))))
   where
     none : (i : ℕ) → bit w k ≡ false → (bit w i && eqb i k) ≡ false
     none i n = cases (same? i k) (λ e. rw (e, n)) (λ m. rw (ne_eqb i k m) (and-false (bit w i)))
@@ -50,7 +50,7 @@ module _ (words : List ℕ) (b : ℕ) where
   with_bit_lem h c =
       let v : ℕ = bit_or (get_or words (b / 32) 0) (2 ^ (b % 32)) in
       cases (same? (c / 32) (b / 32))
-      (λ e. rw e (ap (λ x. bit x (c % 32)) (get_or-set_same words (b / 32) v 0 (omega arith)) ∙ bit_or (c % 32) (get_or words (b / 32) 0) (2 ^ (b % 32)) ∙
+      (λ e. rw e (ap (λ x. bit x (c % 32)) (get_or-set_same words (b / 32) v 0 (omega arith)) ∙ bit_or_lem (c % 32) (get_or words (b / 32) 0) (2 ^ (b % 32)) ∙
       ap (λ (x : Bool). bit (get_or words (b / 32) 0) (c % 32) || x) (bit_one (b % 32) (c % 32) ∙ same_bit b c e)))
       (λ d. ap (λ x. bit x (c % 32)) (get_or-set_other words (b / 32) (c / 32) v 0 d) ∙
       sym (ap (λ (x : Bool). bit (get_or words (c / 32) 0) (c % 32) || x) (ne_eqb c b (λ e. d (ap (λ x. x / 32) e))) ∙

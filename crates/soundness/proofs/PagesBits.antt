@@ -4,7 +4,7 @@ use mathlib.Core.Bool.{and-false}
 use lib.Bits.{bit_and}
 use lib.Count.{count_trailing_zeros, under}
 use Rattle.choice.specs.Words.{bit}
-use Rattle.choice.proofs.Bit.{bit_zero, bit_suc, bit_and, tz_below, tz_at}
+use Rattle.choice.proofs.Bit.{bit_zero, bit_suc, bit_and_lem, tz_below, tz_at}
 
 half_lt : (p q : ℕ) → q < p * 2 → q / 2 < p
 half_lt p q h = omega arith
@@ -46,11 +46,11 @@ and_same false = refl
 module _ (d q : ℕ) (some : 0 < q) (fits : q < 2 ^ d) where
   pub off_at : bit (bit_and q (q - 1)) (count_trailing_zeros d q) ≡ false
   off_at =
-      bit_and (count_trailing_zeros d q) q (q - 1) ∙ ap (λ (b : Bool). bit q (count_trailing_zeros d q) && b) ((less_bit d q some fits (count_trailing_zeros d q)).0 refl)
+      bit_and_lem (count_trailing_zeros d q) q (q - 1) ∙ ap (λ (b : Bool). bit q (count_trailing_zeros d q) && b) ((less_bit d q some fits (count_trailing_zeros d q)).0 refl)
       ∙ and-false (bit q (count_trailing_zeros d q))
 
   pub off_below : (i : ℕ) → i < count_trailing_zeros d q → bit (bit_and q (q - 1)) i ≡ false
-  off_below i h = bit_and i q (q - 1) ∙ ap (λ (b : Bool). b && bit (q - 1) i) (tz_below d q i h)
+  off_below i h = bit_and_lem i q (q - 1) ∙ ap (λ (b : Bool). b && bit (q - 1) i) (tz_below d q i h)
 
   pub off_above : (i : ℕ) → count_trailing_zeros d q < i → bit (bit_and q (q - 1)) i ≡ bit q i
-  off_above i h = bit_and i q (q - 1) ∙ ap (λ (b : Bool). bit q i && b) ((less_bit d q some fits i).1 h) ∙ and_same (bit q i)
+  off_above i h = bit_and_lem i q (q - 1) ∙ ap (λ (b : Bool). bit q i && b) ((less_bit d q some fits i).1 h) ∙ and_same (bit q i)

@@ -13,7 +13,7 @@ use lib.Pow.{pow-lt, pow_mono}
 use borrow.Author.Tests.{eq-eqb, ne_eqb}
 use Rattle.answer.proofs.Cases.{cases, same?, lt?}
 use Rattle.choice.specs.Words.{bit, word_of}
-use Rattle.choice.proofs.Bit.{bit_or, bit_and, bit_not, bit_one, bit_high, bit_ext}
+use Rattle.choice.proofs.Bit.{bit_or_lem, bit_and_lem, bit_not, bit_one, bit_high, bit_ext}
 use Rattle.choice.proofs.Births.{word_lt, word_bit}
 use Rattle.model.specs.Table.{put}
 use Rattle.model.specs.Lists.{elem}
@@ -100,7 +100,7 @@ module _ (p q : ℕ → Bool) (n b : ℕ) (short : n ≤ 32) (inside : b % 32 < 
   pub word_with : ((c : ℕ) → q c ≡ (p c || eqb c b)) → bit_or (word_of p i n) (2 ^ (b % 32)) ≡ word_of q i n
   word_with h =
       bit_ext 32 _ _ (or_lt 32 (word_of p i n) (2 ^ (b % 32)) (under p) (pow-lt (low b))) (under q) (λ k l.
-      bit_or k (word_of p i n) (2 ^ (b % 32)) ∙ ap (λ (x : Bool). bit (word_of p i n) k || x) (bit_one (b % 32) k) ∙
+      bit_or_lem k (word_of p i n) (2 ^ (b % 32)) ∙ ap (λ (x : Bool). bit (word_of p i n) k || x) (bit_one (b % 32) k) ∙
       sym (bit_of_lem q k (bit (word_of p i n) k || eqb k (b % 32))
       (λ m. h (i + k) ∙ ap (λ (x : Bool). p (i + k) || x) (sym (same_place b k l)) ∙
       ap (λ (x : Bool). x || eqb k (b % 32)) (sym (word_bit p i n k m)))
@@ -109,7 +109,7 @@ module _ (p q : ℕ → Bool) (n b : ℕ) (short : n ≤ 32) (inside : b % 32 < 
   pub word_without : ((c : ℕ) → q c ≡ (p c && not (eqb c b))) → bit_and (word_of p i n) (2 ^ 32 - 1 - 2 ^ (b % 32)) ≡ word_of q i n
   word_without h =
       bit_ext 32 _ _ (lt_of_le_of_lt (and_le_l (word_of p i n) (2 ^ 32 - 1 - 2 ^ (b % 32))) (under p)) (under q) (λ k l.
-      bit_and k (word_of p i n) (2 ^ 32 - 1 - 2 ^ (b % 32)) ∙
+      bit_and_lem k (word_of p i n) (2 ^ 32 - 1 - 2 ^ (b % 32)) ∙
       ap (λ (x : Bool). bit (word_of p i n) k && x) (bit_not 32 (2 ^ (b % 32)) k (pow-lt (low b)) l ∙ ap not (bit_one (b % 32) k)) ∙
       sym (bit_of_lem q k (bit (word_of p i n) k && not (eqb k (b % 32)))
       (λ m. h (i + k) ∙ ap (λ (x : Bool). p (i + k) && not x) (sym (same_place b k l)) ∙

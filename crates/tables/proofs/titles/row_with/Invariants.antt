@@ -1,0 +1,20 @@
+-- The first row with the link: what is left to look at has the same first one.
+use mathlib.Core.Path.{◌≡◌}
+use mathlib.Core.Bool.{Bool}
+use mathlib.Core.List.{List}
+use Prim.Native.Nat.{ℕ, ◌-◌, ◌≤◌}
+use lib.Dec.{eqb}
+use Rattle.model.specs.Table.{seek}
+use Rattle.model.specs.Layout.{titles_of}
+use Rattle.tables.specs.Titles.{row_with}
+use Rattle.tables.proofs.titles.row_with.Given as goal
+
+-- row i has the link
+abbrev pub has : List ℕ → ℕ → ℕ → Bool
+has t link i = eqb ((titles_of t).owner i) link
+
+abbrev pub invariant-loop-i : goal.invariant-loop-i
+invariant-loop-i l = (l.i ≤ 32) × (row_with (titles_of l.t) l.link ≡ seek (has l.t l.link) l.i (32 - l.i))
+
+abbrev pub decreases-loop-i : goal.decreases-loop-i
+decreases-loop-i l = 32 - l.i
