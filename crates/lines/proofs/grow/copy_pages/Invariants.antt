@@ -1,0 +1,12 @@
+-- The pages of slot f become those of slot s: at each turn the first x of them are.
+use borrow.Author.Rules.{rules}
+use native.Mathlib.Omega.{arith}
+use Prim.Native.Nat.{suc, ◌-◌, ◌≤◌}
+use Rattle.lines.proofs.Growing
+use Rattle.lines.proofs.grow.copy_pages.Given as goal
+
+abbrev pub invariant-loop-x : goal.invariant-loop-x
+invariant-loop-x l = (l.x ≤ l.g.pages) × Growing.Paging l.g l.initial.t l.f (suc l.s) l.x l.t
+
+abbrev pub decreases-loop-x : goal.decreases-loop-x
+decreases-loop-x l = l.g.pages - l.x

@@ -1,0 +1,55 @@
+-- The call N: a refusal leaves everything, and an accepted call does what the model says.
+use mathlib.Core.Path.{ap, ◌∙◌}
+use Prim.Native.Nat.{◌-◌}
+use native.Mathlib.Omega.{arith}
+use borrow.Author.Rules.{rules}
+use Rattle.naming.specs.Rows.{count_up}
+use Rattle.naming.proofs.Replies.{refuse_reply, refuse_tables}
+use Rattle.naming.proofs.Attaching
+use Rattle.naming.proofs.attach.Goals as goal
+
+pub put_title-requires : goal.put_title-requires
+put_title-requires c =
+    let told = c.attaching-verdict.ensures in
+    let accepted = c.in-Accept.is in (
+      omega (arith, c.requires.0.roomy.room),
+      Attaching.attach_low _ _ _ _ told c.requires.0 _ accepted,
+      omega (arith, c.requires.1.1, c.requires.0.roomy.inside.records_most),
+      Attaching.attach_short _ _ _ _ told c.requires.0 _ accepted,
+    )
+
+pub overflow_sub-link : goal.overflow_sub-link
+overflow_sub-link c =
+    omega (arith, Attaching.attach_link _ _ _ _ c.attaching-verdict.ensures c.requires.0 _ c.in-Accept.is _ c.requires.1.0)
+
+pub count_up-requires : goal.count_up-requires
+count_up-requires c =
+    let told = c.attaching-verdict.ensures in
+    let accepted = c.in-Accept.is in
+    let made = c.put_title.ensures in (
+      rw made (Attaching.attach_room _ _ _ _ told c.requires.0 _ accepted _ c.requires.1.0),
+      omega (
+        arith,
+        c.requires.1.1,
+        c.requires.0.roomy.inside.records_most,
+        Attaching.attach_link _ _ _ _ told c.requires.0 _ accepted _ c.requires.1.0,
+      ),
+      rw made (Attaching.attach_counts _ _ _ _ told c.requires.0 _ accepted _ c.requires.1.0),
+    )
+
+pub returns-in-Refused : goal.returns-in-Refused
+returns-in-Refused c =
+    let e = Attaching.attach_refused _ _ _ _ c.attaching-verdict.ensures _ c.in-Refused.is in record {
+      reply = λ out. refuse_reply _ _ _ e out;
+      tables = refuse_tables _ _ _ e;
+    }
+
+pub returns-in-Accept : goal.returns-in-Accept
+returns-in-Accept c =
+    let told = c.attaching-verdict.ensures in
+    let accepted = c.in-Accept.is in
+    record {
+      reply = Attaching.attach_replied _ _ _ _ told c.requires.0 _ accepted;
+      tables = c.count_up.ensures ∙ ap (λ u. count_up u (c.args.link - 1)) c.put_title.ensures ∙
+          Attaching.attach_tables _ _ _ _ told c.requires.0 _ accepted _ c.requires.1.0;
+    }

@@ -1,0 +1,15 @@
+-- `put_letters`: the bytes before i are stored.
+use mathlib.Core.Path.{◌≡◌, refl}
+use Prim.Native.Nat.{◌≤◌, ◌-◌}
+use native.Mathlib.Omega.{arith}
+use lib.ListN.{length, take, length-set}
+use lib.Seq.{sets}
+use borrow.Author.Rules.{rules}
+use Rattle.naming.proofs.Spelling.{stored_next, stored_all}
+use Rattle.naming.proofs.letters.put_letters.Given as goal
+
+abbrev pub invariant-loop-i : goal.invariant-loop-i
+invariant-loop-i l = (l.i ≤ length l.name) × (length l.t ≡ length l.initial.t) × (l.t ≡ sets l.initial.t l.at (take l.i l.name))
+
+abbrev pub decreases-loop-i : goal.decreases-loop-i
+decreases-loop-i l = length l.name - l.i

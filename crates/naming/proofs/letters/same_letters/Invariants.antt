@@ -1,0 +1,14 @@
+-- `same_letters`: the lengths are the same, and the letters before i.
+use mathlib.Core.Path.{◌≡◌}
+use Prim.Native.Nat.{◌≤◌, ◌-◌}
+use native.Mathlib.Omega.{arith}
+use lib.ListN.{length}
+use borrow.Author.Rules.{rules}
+use Rattle.naming.proofs.Spelling.{Same, same_start, same_next, length_differs, letter_differs, letters_agree}
+use Rattle.naming.proofs.letters.same_letters.Given as goal
+
+abbrev pub invariant-loop-i : goal.invariant-loop-i
+invariant-loop-i l = (l.i ≤ l.n) × (l.n ≡ length l.name) × Same l.t l.at l.name l.i
+
+abbrev pub decreases-loop-i : goal.decreases-loop-i
+decreases-loop-i l = l.n - l.i

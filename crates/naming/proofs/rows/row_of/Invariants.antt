@@ -1,0 +1,12 @@
+-- `row_of`: what is left to look at has the same first row.
+use Prim.Native.Nat.{◌≤◌, ◌-◌}
+use native.Mathlib.Omega.{arith}
+use borrow.Author.Rules.{rules}
+use Rattle.naming.proofs.Searching.{Left, left_first, left_none, left_here, left_next}
+use Rattle.naming.proofs.rows.row_of.Given as goal
+
+abbrev pub invariant-loop-i : goal.invariant-loop-i
+invariant-loop-i l = (l.i ≤ 32) × Left l.t l.name l.i
+
+abbrev pub decreases-loop-i : goal.decreases-loop-i
+decreases-loop-i l = 32 - l.i

@@ -1,0 +1,75 @@
+-- `put_reply` meets its contract: a sign, the items or the number, and a line feed.
+use native.Mathlib.Omega.{arith}
+use borrow.Author.Rules.{rules}
+use mathlib.Core.Path.{◌∙◌}
+use lib.ListN.{length-set}
+use Rattle.answer.specs.Reply.{reply_of}
+use Rattle.script.specs.ReplyText.{reply_text}
+use Rattle.script.proofs.Printing.{put_line, room_done, room_any}
+use Rattle.script.proofs.reply.put_reply.Goals as goal
+
+pub bounds-text-at : goal.bounds-text-at
+bounds-text-at c = omega (arith, room_any c.requires)
+
+pub overflow_add-at : goal.overflow_add-at
+overflow_add-at c = omega (arith, room_any c.requires)
+
+pub put_items-end-requires : goal.put_items-end-requires
+put_items-end-requires c =
+    omega (arith, room_done c.requires c.in-Done.is, length-set c.args.text.now c.args.at 43)
+
+pub bounds-text-end : goal.bounds-text-end
+bounds-text-end c =
+    let r = room_done c.requires c.in-Done.is in
+    omega (arith, length-set c.args.text.now c.args.at 43, c.put_items-end.auto.text, c.put_items-end.ensures.1)
+
+pub overflow_add-result : goal.overflow_add-result
+overflow_add-result c =
+    omega (arith, room_done c.requires c.in-Done.is, c.put_items-end.ensures.1)
+
+pub bounds-text-at-in-Refused : goal.bounds-text-at-in-Refused
+bounds-text-at-in-Refused c = omega (arith, room_any c.requires)
+
+pub overflow_add-at-in-Refused : goal.overflow_add-at-in-Refused
+overflow_add-at-in-Refused c = omega (arith, room_any c.requires)
+
+pub put_number-end-requires : goal.put_number-end-requires
+put_number-end-requires c =
+    omega (arith, room_any c.requires, length-set c.args.text.now c.args.at 45)
+
+pub bounds-text-end-in-Refused : goal.bounds-text-end-in-Refused
+bounds-text-end-in-Refused c =
+    let p = c.put_number-end in
+    omega (arith, room_any c.requires, length-set c.args.text.now c.args.at 45, p.auto.text, p.ensures.1)
+
+pub overflow_add-result-in-Refused : goal.overflow_add-result-in-Refused
+overflow_add-result-in-Refused c =
+    omega (arith, room_any c.requires, c.put_number-end.ensures.1)
+
+pub shape_of-text-in-Done : goal.shape_of-text-in-Done
+shape_of-text-in-Done c =
+    let p = c.put_items-end in
+    length-set p.new.text p.result 10 ∙ p.auto.text ∙ length-set c.args.text.now c.args.at 43
+
+pub returns-in-Done : goal.returns-in-Done
+unfolding reply_text reply_of
+returns-in-Done c =
+    let a = c.args in
+    let p = c.put_items-end in
+    let g = c.answer-1.given in
+    let r = room_done c.requires g.1 in
+    rw g.1 (put_line a.text.now p.new.text 43 a.at p.result _ (omega (arith, p.ensures.1)) p.ensures.0 p.ensures.2)
+
+pub shape_of-text-in-Refused : goal.shape_of-text-in-Refused
+shape_of-text-in-Refused c =
+    let p = c.put_number-end in
+    length-set p.new.text p.result 10 ∙ p.auto.text ∙ length-set c.args.text.now c.args.at 45
+
+pub returns-in-Refused : goal.returns-in-Refused
+unfolding reply_text reply_of
+returns-in-Refused c =
+    let a = c.args in
+    let p = c.put_number-end in
+    let g = c.answer-in-Refused-1.given in
+    let r = room_any c.requires in
+    rw g.1 (put_line a.text.now p.new.text 45 a.at p.result _ (omega (arith, p.ensures.1)) p.ensures.0 p.ensures.2)

@@ -1,0 +1,20 @@
+-- `near_at` meets its contract: a letter up to the line feed is the whole line, or a number follows.
+use native.Mathlib.Omega.{arith}
+use borrow.Author.Rules.{rules}
+use mathlib.Core.Path.{refl}
+use mathlib.Core.List.{[]}
+use lib.ListN.{get_or}
+use Rattle.script.proofs.OnePass.{stand_none, call_found}
+use Rattle.script.proofs.said.near_at.Goals as goal
+
+pub returns-then-text-at : goal.returns-then-text-at
+returns-then-text-at c = tt
+
+pub returns-then-text-at-lt17 : goal.returns-then-text-at-lt17
+returns-then-text-at-lt17 c = tt
+
+pub returns-then-text-end-eq10 : goal.returns-then-text-end-eq10
+returns-then-text-end-eq10 c = let a = c.args in
+    let letter = get_or a.text.now a.at 0 in
+    let feed = c.if-text-end-eq10.true in
+    call_found a.text.now a.at letter [] _ (omega arith) refl (stand_none _ _) _ _ c.bare_of.ensures c.found.ensures (omega arith) feed

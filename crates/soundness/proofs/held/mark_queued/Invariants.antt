@@ -1,0 +1,10 @@
+-- `mark_queued`: what is left of the queue gets marks on top of those so far as all of it does on top of those at the start.
+use Rattle.std.proofs.Common.{◌-◌, rules}
+use Rattle.soundness.proofs.Marking.{Marking, marking_starts, marking_ends, marking_beyond, marking_twice, marking_unborn, marking_late, marking_goes}
+use Rattle.soundness.proofs.held.mark_queued.Given as goal
+
+abbrev pub invariant-loop-i : goal.invariant-loop-i
+invariant-loop-i l = Marking l.g l.t l.initial.own l.n l.last l.own l.i
+
+abbrev pub decreases-loop-i : goal.decreases-loop-i
+decreases-loop-i l = l.n - l.i

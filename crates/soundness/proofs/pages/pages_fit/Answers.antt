@@ -1,0 +1,40 @@
+-- `pages_fit`: what is left of the slots comes to the same.
+use Rattle.std.proofs.Common.{◌-◌, rules}
+use mathlib.Core.Bool.{false≢true}
+use Rattle.model.specs.Layout.{view_of}
+use Rattle.soundness.proofs.PagesSlots.{Slots, slots_start, slots_stop, slots_go, slots_end}
+use Rattle.soundness.proofs.pages.pages_fit.Goals as goal
+
+pub loop-s-init : goal.loop-s-init
+loop-s-init c = let a = c.args in
+    slots_start (view_of a.g a.t.now) a.own.now c.requires.1
+
+pub slot_fits-requires : goal.slot_fits-requires
+slot_fits-requires c = let W = c.loop-s.invariant in
+    (c.requires.0, c.loop-s-test.true, W.own_size, W.gone_size, W.low)
+
+pub returns-then-not-slot_fits : goal.returns-then-not-slot_fits
+unfolding view_of
+returns-then-not-slot_fits c = let a = c.args in
+    let f = c.slot_fits.ensures in
+    record {
+      passes = slots_stop (view_of a.g a.t.now) a.own.now c.loop-s.invariant c.loop-s-test.true f.is c.if-not-slot_fits.true-raw;
+      marked = λ e. absurd (false≢true e);
+      size = f.stamps.0;
+    }
+
+pub loop-s-preserved : goal.loop-s-preserved
+unfolding view_of
+loop-s-preserved c = let a = c.args in
+    let e = c.slot_fits.ensures in
+    slots_go (view_of a.g a.t.now) a.own.now c.loop-s.invariant c.loop-s-test.true e.is c.if-not-slot_fits.false-raw e.stamps.0 e.stamps.1 e.marked e.stamps.2
+
+pub returns : goal.returns
+unfolding view_of
+returns c = let a = c.args in
+    let r = slots_end (view_of a.g a.t.now) a.own.now c.loop-s.invariant c.loop-s-test.false in
+    record {
+      passes = r.0;
+      marked = λ e. r.1;
+      size = c.loop-s.invariant.own_size;
+    }

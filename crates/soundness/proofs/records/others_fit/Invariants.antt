@@ -1,0 +1,12 @@
+-- `others_fit`: so far they fit just where the slots before k do.
+use Rattle.std.proofs.Common.{◌≡◌, ◌-◌, ◌≤◌, sym, arith, rules}
+use Rattle.model.specs.Table.{all}
+use Rattle.soundness.proofs.Clauses.{apart?, others_are}
+use Rattle.soundness.proofs.Loops.{all_none, join_step, join_end}
+use Rattle.soundness.proofs.records.others_fit.Given as goal
+
+abbrev pub invariant-loop-k : goal.invariant-loop-k
+invariant-loop-k l = (l.k ≤ l.s) × (l.fit ≡ all l.k (apart? l.t l.number l.prev))
+
+abbrev pub decreases-loop-k : goal.decreases-loop-k
+decreases-loop-k l = l.s - l.k
