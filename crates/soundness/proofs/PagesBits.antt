@@ -1,10 +1,10 @@
 -- The lowest 1 of a word, taken off: `w & (w - 1)`.
-use Rattle.std.proofs.Common.{◌≡◌, ℕ, zero, suc, ◌-◌, ◌*◌, ◌/◌, ◌%◌, ◌^◌, ◌<◌, Bool, true, false, ◌&&◌, sym, refl, ap, ◌∙◌, ap₂, pow-suc, arith}
+use Rattle.std.proofs.Common.{◌≡◌, ℕ, zero, suc, ◌-◌, ◌*◌, ◌/◌, ◌%◌, ◌^◌, ◌<◌, Bool, true, false, ◌&&◌, sym, refl, ap, ◌∙◌, pow-suc, arith}
 use mathlib.Core.Bool.{and-false}
 use lib.Bits.{bit_and}
 use lib.Count.{count_trailing_zeros, under}
 use Rattle.choice.specs.Words.{bit}
-use Rattle.choice.proofs.Bit.{bit_zero, bit_suc, bit_and_lem, tz_below, tz_at}
+use Rattle.choice.proofs.Bit.{bit_zero, bit_suc, bit_and_lem, tz_below}
 
 half_lt : (p q : ℕ) → q < p * 2 → q / 2 < p
 half_lt p q h = omega arith

@@ -1,5 +1,5 @@
 -- The walk over a record's pages as the code goes it: a page that differs, the pages between, a word of pages, a row.
-use Rattle.std.proofs.Common.{◌≡◌, ℕ, suc, ◌+◌, ◌-◌, ◌*◌, ◌^◌, ◌<◌, ◌≤◌, min, Bool, true, false, not, ◌&&◌, ltb, List, [], length, get_or, set, sym, refl, ap, ◌∙◌, lt_of_lt_of_le, lt_of_le_of_lt, arith, get_or-set_other, get_or-set_same, pow_mono, ltb-false, ltb-true}
+use Rattle.std.proofs.Common.{◌≡◌, ℕ, suc, ◌+◌, ◌-◌, ◌*◌, ◌^◌, ◌<◌, ◌≤◌, min, Bool, true, false, not, ◌&&◌, ltb, List, length, get_or, set, sym, refl, ap, ◌∙◌, lt_of_lt_of_le, lt_of_le_of_lt, arith, get_or-set_other, get_or-set_same, pow_mono, ltb-false, ltb-true}
 use lib.Bits.{bit_and, and_le_l}
 use lib.Count.{count_trailing_zeros}
 use borrow.Author.Tests.{not-true, not-false}

@@ -1,5 +1,5 @@
 -- The free words of a stranger's tables, joined by the blocks that wait and by those that are queued.
-use Rattle.std.specs.Prelude.{ℕ, ◌/◌, ◌%◌, ◌^◌, Bool, true, not, ◌&&◌, List, [], ◌∷◌, set, bit_or, nat_lt, slice_index, slice_set}
+use Rattle.std.specs.Prelude.{ℕ, ◌/◌, ◌%◌, ◌^◌, Bool, true, not, ◌&&◌, List, [], ◌∷◌, bit_or, nat_lt, slice_index, slice_set}
 use Rattle.choice.specs.Words.{free_in}
 
 -- the words with the bit of b set

@@ -14,9 +14,9 @@ ghost use Rattle.soundness.specs.Waiting.{joined, joins?};
 ghost use Rattle.soundness.specs.Queue.{Marked, first_queued, marking, marks?};
 
 use crate::read::header_number;
+use alloc_log::read::read_log;
 use choice::{bit_of, words_agree};
 use geometry::Geometry;
-use alloc_log::read::read_log;
 use tables::births::{queue_at, queue_births_at, waiting_at};
 use tables::cells::{FREE, LAST, PAGES, QUEUED, ROWS, USED, WAITS};
 use tables::find::wide;

@@ -1,5 +1,7 @@
 // The check of what a stranger lends: whether it is long enough, and whether tables and log are a sound store. Linear in the tables and the log, but for
 // pairs of record slots and of rows of names.
+#![tactic(auto)]
+
 mod header;
 mod held;
 pub mod lengths;

@@ -1,5 +1,5 @@
 -- `is_sound`: each return is one law of `Whole`, from the tests that led there.
-use Rattle.std.proofs.Common.{ℕ, replicate, rules}
+use Rattle.std.proofs.Common.{ℕ, replicate}
 use lib.ListN.{length-replicate}
 use borrow.Author.Tests.{not-false}
 use Rattle.soundness.proofs.Clauses.{own_are}
@@ -27,16 +27,15 @@ returns-then-not-pages_fit c = sound_no_pages _ _ _ (replicate 2048 0) (seen_non
 pub returns-then-not-births_agree : goal.returns-then-not-births_agree
 returns-then-not-births_agree c =
     let p = c.pages_fit in
-    sound_no_births _ _ _ (replicate 2048 0) (seen_none 2048) p.new.own.1.0 (p.ensures.marked (not-false _ c.if-not-pages_fit.false-raw))
+    sound_no_births _ _ _ (replicate 2048 0) (seen_none 2048) p.new.own (p.ensures.marked (not-false _ c.if-not-pages_fit.false-raw))
     (failed c.births_agree.ensures c.if-not-births_agree.true-raw)
 
 pub queue_fits-requires : goal.queue_fits-requires
-queue_fits-requires c =
-    (
-      c.requires.0,
-      c.pages_fit.ensures.size,
-      own_are c.args.g c.args.t.now _ (passed c.births_agree.ensures c.if-not-births_agree.false-raw),
-    )
+queue_fits-requires c = (
+  c.requires.0,
+  c.pages_fit.ensures.size,
+  own_are c.args.g c.args.t.now _ (passed c.births_agree.ensures c.if-not-births_agree.false-raw),
+)
 
 pub returns-then-not-queue_fits : goal.returns-then-not-queue_fits
 returns-then-not-queue_fits c = sound_no_queue _ _ _ (failed c.queue_fits.ensures.is c.if-not-queue_fits.true-raw)
@@ -55,19 +54,18 @@ pub returns-then-not-names_fit : goal.returns-then-not-names_fit
 returns-then-not-names_fit c = sound_no_names _ _ _ (failed c.names_fit.ensures c.if-not-names_fit.true-raw)
 
 pub log_holds-requires : goal.log_holds-requires
-log_holds-requires c =
-    (
-      c.requires.0,
-      c.requires.1,
-      range_known _ _ (passed c.ranges_fit.ensures c.if-not-ranges_fit.false-raw),
-      c.queue_fits.ensures.marked (not-false _ c.if-not-queue_fits.false-raw),
-    )
+log_holds-requires c = (
+  c.requires.0,
+  c.requires.1,
+  range_known _ _ (passed c.ranges_fit.ensures c.if-not-ranges_fit.false-raw),
+  c.queue_fits.ensures.marked (not-false _ c.if-not-queue_fits.false-raw),
+)
 
 pub returns : goal.returns
 returns c =
     let p = c.pages_fit in
     let q = c.if-not-pages_fit.false-raw in
-    sound_yes _ _ _ (replicate 2048 0) (seen_none 2048) p.new.own.1.0 (p.ensures.marked (not-false _ q))
+    sound_yes _ _ _ (replicate 2048 0) (seen_none 2048) p.new.own (p.ensures.marked (not-false _ q))
     (passed c.numbers_fit.ensures c.if-not-numbers_fit.false-raw)
     (passed c.ranges_fit.ensures c.if-not-ranges_fit.false-raw)
     (passed c.records_fit.ensures c.if-not-records_fit.false-raw)

@@ -40,4 +40,4 @@ returns c =
     }
 
 pub shape_of-t : goal.shape_of-t
-shape_of-t c = Growing.viewed_length _ _ _ _ _ (returns c).0
+shape_of-t c = Growing.viewed_length _ _ _ _ _ (returns c).is

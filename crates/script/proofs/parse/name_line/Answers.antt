@@ -21,6 +21,4 @@ returns c =
     let a = c.args in
     let end_is = c.name_end-end.ensures.is in let range = c.name_end-end.ensures.range in
     let read = c.numbers_at-count in
-    let (line, (from, (most, (out, rest)))) = read.new in
-    let (is, long) = read.ensures in
-    c.naming_of.ensures ∙ name_says a.line.now _ _ out c.if-line-lt3.false c.if-line-ne32.false end_is c.if-end-eq2.false long is
+    c.naming_of.ensures ∙ name_says a.line.now _ _ read.new.out c.if-line-lt3.false c.if-line-ne32.false end_is c.if-end-eq2.false read.ensures.long read.ensures.is

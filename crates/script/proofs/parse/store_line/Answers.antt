@@ -6,13 +6,9 @@ use Rattle.script.proofs.parse.store_line.Goals as goal
 pub returns-then-numbers_at-eq6 : goal.returns-then-numbers_at-eq6
 returns-then-numbers_at-eq6 c =
     let p = c.numbers_at in
-    let (line, (from, (most, (out, rest)))) = p.new in
-    let (is, long) = p.ensures in
-    store_yes _ out _ long is c.if-numbers_at-eq6.true
+    store_yes _ p.new.out _ p.ensures.long p.ensures.is c.if-numbers_at-eq6.true
 
 pub returns : goal.returns
 returns c =
     let p = c.numbers_at in
-    let (line, (from, (most, (out, rest)))) = p.new in
-    let (is, long) = p.ensures in
-    store_no _ out _ long is c.if-numbers_at-eq6.false
+    store_no _ p.new.out _ p.ensures.long p.ensures.is c.if-numbers_at-eq6.false

@@ -1,7 +1,5 @@
 -- `marks_fit`: the arenas before a have their marks inside.
-use Rattle.std.proofs.Common.{◌≡◌, ◌-◌, ◌≤◌, true, ltb, arith, rules, le-ltb, lt-ltb}
-use Rattle.model.specs.Layout.{state_of}
-use Rattle.model.specs.Table.{all}
+use Rattle.std.proofs.Common.{arith, le-ltb, lt-ltb}
 use Rattle.soundness.proofs.Cells.{mark_is}
 use Rattle.soundness.proofs.Loops.{all_none, all_more, all_fails, all_end}
 use Rattle.soundness.proofs.header.marks_fit.Goals as goal

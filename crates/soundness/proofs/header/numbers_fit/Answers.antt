@@ -1,5 +1,4 @@
 -- `numbers_fit`: the six numbers that were read are those of the header.
-use Rattle.std.proofs.Common.{rules}
 use Rattle.model.specs.Memory.{numbers?}
 use Rattle.soundness.proofs.header.numbers_fit.Goals as goal
 

@@ -1,5 +1,4 @@
 -- `ranges_fit`: one law of `Whole`, of the numbers that were read.
-use Rattle.std.proofs.Common.{rules}
 use Rattle.soundness.proofs.Whole.{range_is}
 use Rattle.soundness.proofs.header.ranges_fit.Goals as goal
 

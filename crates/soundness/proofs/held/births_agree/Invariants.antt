@@ -1,13 +1,11 @@
 -- `births_agree`: so far they agree just where the blocks before b are marked where they have a birth.
-use Rattle.std.proofs.Common.{◌≡◌, ◌-◌, ◌≤◌, sym, arith, rules}
+use Rattle.std.proofs.Common.{◌≡◌, ◌-◌, ◌≤◌}
 use Rattle.geometry.specs.Limits.{blocks}
 use Rattle.alloc_log.specs.Marks.{held_in}
 use Rattle.model.specs.Held.{on_pages}
 use Rattle.model.specs.Layout.{view_of}
 use Rattle.model.specs.Check.{same}
 use Rattle.model.specs.Table.{all}
-use Rattle.soundness.proofs.Clauses.{same_is}
-use Rattle.soundness.proofs.Loops.{all_none, join_step, join_end}
 use Rattle.soundness.proofs.held.births_agree.Given as goal
 
 abbrev pub invariant-loop-b : goal.invariant-loop-b

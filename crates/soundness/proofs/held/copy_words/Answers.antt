@@ -1,6 +1,5 @@
 -- `copy_words`: the words before the k-th are copied.
-use Rattle.std.proofs.Common.{◌-◌, rules}
-use Rattle.soundness.proofs.Free.{Copied, copied_none, copied_next, copied_all}
+use Rattle.soundness.proofs.Free.{copied_none, copied_next, copied_all}
 use Rattle.soundness.proofs.held.copy_words.Goals as goal
 
 pub loop-k-init : goal.loop-k-init

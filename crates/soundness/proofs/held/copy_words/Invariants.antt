@@ -1,6 +1,6 @@
 -- `copy_words`: the words before the k-th are copied.
-use Rattle.std.proofs.Common.{◌-◌, rules}
-use Rattle.soundness.proofs.Free.{Copied, copied_none, copied_next, copied_all}
+use Rattle.std.proofs.Common.{◌-◌}
+use Rattle.soundness.proofs.Free.{Copied}
 use Rattle.soundness.proofs.held.copy_words.Given as goal
 
 abbrev pub invariant-loop-k : goal.invariant-loop-k

@@ -1,5 +1,5 @@
 -- `count_queued`: the blocks before b that have a birth in the queue are counted.
-use Rattle.std.proofs.Common.{◌≡◌, ◌-◌, ◌≤◌, ap, ◌∙◌, arith, rules}
+use Rattle.std.proofs.Common.{◌≡◌, ap, ◌∙◌, arith}
 use Rattle.geometry.specs.Limits.{blocks}
 use Rattle.model.specs.Held.{tally, queued}
 use Rattle.model.specs.Layout.{state_of}

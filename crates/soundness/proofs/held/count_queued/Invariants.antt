@@ -1,9 +1,8 @@
 -- `count_queued`: the blocks before b that have a birth in the queue are counted.
-use Rattle.std.proofs.Common.{◌≡◌, ◌-◌, ◌≤◌, ap, ◌∙◌, arith, rules}
+use Rattle.std.proofs.Common.{◌≡◌, ◌-◌, ◌≤◌}
 use Rattle.geometry.specs.Limits.{blocks}
 use Rattle.model.specs.Held.{tally, queued}
 use Rattle.model.specs.Layout.{state_of}
-use Rattle.soundness.proofs.Queued.{counted_none, counted_next, counted_most}
 use Rattle.soundness.proofs.held.count_queued.Given as goal
 
 abbrev pub invariant-loop-b : goal.invariant-loop-b

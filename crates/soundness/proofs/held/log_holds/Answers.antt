@@ -1,5 +1,5 @@
 -- `log_holds`: two laws of `Whole`, of what was read of the log.
-use Rattle.std.proofs.Common.{◌*◌, sym, ◌∙◌, arith, length-take-le, rules}
+use Rattle.std.proofs.Common.{◌*◌, sym, ◌∙◌, arith, length-take-le}
 use Rattle.soundness.proofs.Clauses.{held_are}
 use Rattle.soundness.proofs.Whole.{log_unread, log_read}
 use Rattle.soundness.proofs.held.log_holds.Goals as goal

@@ -1,6 +1,5 @@
 -- `mark_queued`: what is left of the queue gets marks on top of those so far as all of it does on top of those at the start.
-use Rattle.std.proofs.Common.{◌-◌, rules}
-use Rattle.soundness.proofs.Marking.{Marking, marking_starts, marking_ends, marking_beyond, marking_twice, marking_unborn, marking_late, marking_goes}
+use Rattle.soundness.proofs.Marking.{marking_starts, marking_ends, marking_beyond, marking_twice, marking_unborn, marking_late, marking_goes}
 use Rattle.soundness.proofs.held.mark_queued.Goals as goal
 
 pub loop-i-init : goal.loop-i-init
@@ -43,6 +42,6 @@ loop-i-preserved c =
 
 pub returns : goal.returns
 returns c = let both = marking_ends _ _ _ _ _ c.loop-i.invariant c.loop-i-test.false in record {
-      is = both.0;
-      marked = both.1;
-    }
+  is = both.0;
+  marked = both.1;
+}

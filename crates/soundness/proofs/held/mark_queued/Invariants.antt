@@ -1,6 +1,6 @@
 -- `mark_queued`: what is left of the queue gets marks on top of those so far as all of it does on top of those at the start.
-use Rattle.std.proofs.Common.{◌-◌, rules}
-use Rattle.soundness.proofs.Marking.{Marking, marking_starts, marking_ends, marking_beyond, marking_twice, marking_unborn, marking_late, marking_goes}
+use Rattle.std.proofs.Common.{◌-◌}
+use Rattle.soundness.proofs.Marking.{Marking}
 use Rattle.soundness.proofs.held.mark_queued.Given as goal
 
 abbrev pub invariant-loop-i : goal.invariant-loop-i

@@ -1,8 +1,5 @@
 -- `marks_agree`: so far they agree just where the tables do on the blocks before b.
-use Rattle.std.proofs.Common.{◌≡◌, ◌-◌, ◌≤◌, sym, arith, rules}
-use Rattle.alloc_log.specs.Marks.{held_in}
-use Rattle.model.specs.Check.{same}
-use Rattle.model.specs.Table.{all}
+use Rattle.std.proofs.Common.{sym, arith}
 use Rattle.soundness.proofs.Clauses.{marks_are}
 use Rattle.soundness.proofs.Loops.{all_none, join_step, join_end}
 use Rattle.soundness.proofs.held.marks_agree.Goals as goal

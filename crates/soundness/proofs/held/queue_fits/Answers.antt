@@ -1,5 +1,4 @@
 -- `queue_fits`: the blocks that were marked and those that were counted together are the test of the queue.
-use Rattle.std.proofs.Common.{rules}
 use Rattle.soundness.proofs.Queued.{queue_many, queue_unmarked, queue_counted}
 use Rattle.soundness.proofs.held.queue_fits.Goals as goal
 
@@ -16,14 +15,14 @@ mark_queued-requires c =
 
 pub returns-then-not-mark_queued : goal.returns-then-not-mark_queued
 returns-then-not-mark_queued c = let both = queue_unmarked c.args.g c.args.t.now _ c.requires.0.inside.blocks_most c.requires.1 c.requires.2
-    c.header_number-n.ensures c.mark_queued.ensures c.if-not-mark_queued.true-raw in record {
+    c.header_number-n.ensures (c.mark_queued.ensures.is, c.mark_queued.ensures.marked) c.if-not-mark_queued.true-raw in record {
       is = both.0;
       marked = both.1;
     }
 
 pub returns : goal.returns
 returns c = let both = queue_counted c.args.g c.args.t.now _ c.requires.0.inside.blocks_most c.requires.1 c.requires.2
-    c.header_number-n.ensures c.mark_queued.ensures c.if-not-mark_queued.false-raw c.count_queued.ensures in record {
+    c.header_number-n.ensures (c.mark_queued.ensures.is, c.mark_queued.ensures.marked) c.if-not-mark_queued.false-raw c.count_queued.ensures in record {
       is = both.0;
       marked = both.1;
     }

@@ -1,7 +1,7 @@
 -- `set_listed`: what is left of the list joins the words so far as all of it joins those at the start.
-use Rattle.std.proofs.Common.{◌-◌, rules}
+use Rattle.std.proofs.Common.{◌-◌}
 use Rattle.geometry.specs.Limits.{blocks}
-use Rattle.soundness.proofs.Joining.{Setting, setting_starts, setting_ends, setting_beyond, setting_fails, setting_goes}
+use Rattle.soundness.proofs.Joining.{Setting}
 use Rattle.soundness.proofs.held.set_listed.Given as goal
 
 abbrev pub invariant-loop-i : goal.invariant-loop-i

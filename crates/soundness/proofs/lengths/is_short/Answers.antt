@@ -1,6 +1,5 @@
 -- `is_short`: one law for each return.
 use Rattle.soundness.proofs.Short.{short_tables, short_log, short_out}
-use Rattle.std.proofs.Common.{rules}
 use Rattle.soundness.proofs.lengths.is_short.Goals as goal
 
 pub returns-then-tables-g : goal.returns-then-tables-g

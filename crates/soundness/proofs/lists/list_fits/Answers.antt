@@ -1,13 +1,13 @@
 -- `list_fits`: what is left of the deadlist takes from the stamps so far what all of it takes from those at the start.
-use Rattle.std.proofs.Common.{◌-◌, arith, rules}
-use Rattle.soundness.proofs.ListsStamps.{Taking, same_stamps, list_other, taking_starts, taking_ends, taking_fails, taking_beyond, taking_goes}
+use Rattle.std.proofs.Common.{arith}
+use Rattle.soundness.proofs.ListsStamps.{same_stamps, list_other, taking_starts, taking_ends, taking_fails, taking_beyond, taking_goes}
 use Rattle.soundness.proofs.lists.list_fits.Goals as goal
 
 pub returns-then-wide-count : goal.returns-then-wide-count
 returns-then-wide-count c = let a = c.args in record {
-      is = list_other a.g a.t.now a.s a.count a.gone.now c.requires.1 c.wide.ensures c.if-wide-count.true;
-      stamps = same_stamps a.g a.t.now a.s a.count a.gone.now c.requires.1 c.requires.3;
-    }
+  is = list_other a.g a.t.now a.s a.count a.gone.now c.requires.1 c.wide.ensures c.if-wide-count.true;
+  stamps = same_stamps a.g a.t.now a.s a.count a.gone.now c.requires.1 c.requires.3;
+}
 
 pub loop-i-init : goal.loop-i-init
 loop-i-init c = let a = c.args in

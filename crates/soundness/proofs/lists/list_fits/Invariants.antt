@@ -1,6 +1,6 @@
 -- `list_fits`: what is left of the deadlist takes from the stamps so far what all of it takes from those at the start.
-use Rattle.std.proofs.Common.{◌-◌, arith, rules}
-use Rattle.soundness.proofs.ListsStamps.{Taking, same_stamps, list_other, taking_starts, taking_ends, taking_fails, taking_beyond, taking_goes}
+use Rattle.std.proofs.Common.{◌-◌}
+use Rattle.soundness.proofs.ListsStamps.{Taking}
 use Rattle.soundness.proofs.lists.list_fits.Given as goal
 
 abbrev pub invariant-loop-i : goal.invariant-loop-i

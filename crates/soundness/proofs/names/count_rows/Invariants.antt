@@ -1,6 +1,6 @@
 -- `count_rows`: the rows before i are counted.
-use Rattle.std.proofs.Common.{◌-◌, ◌≤◌, arith, rules}
-use Rattle.soundness.proofs.NamesCounts.{Counted, counted_first, counted_most, counted_next, counted_all}
+use Rattle.std.proofs.Common.{◌-◌, ◌≤◌}
+use Rattle.soundness.proofs.NamesCounts.{Counted}
 use Rattle.soundness.proofs.names.count_rows.Given as goal
 
 abbrev pub invariant-loop-i : goal.invariant-loop-i

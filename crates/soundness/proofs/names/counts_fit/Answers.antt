@@ -1,8 +1,7 @@
 -- `counts_fit`: so far they fit just where those of the slots before s do.
-use Rattle.std.proofs.Common.{◌≡◌, ◌-◌, ◌≤◌, sym, arith, rules}
-use Rattle.model.specs.Table.{all}
+use Rattle.std.proofs.Common.{sym, arith}
 use Rattle.soundness.proofs.Loops.{all_none, join_step, join_end}
-use Rattle.soundness.proofs.NamesCounts.{counts?, counts_are}
+use Rattle.soundness.proofs.NamesCounts.{counts_are}
 use Rattle.soundness.proofs.names.counts_fit.Goals as goal
 
 pub loop-s-init : goal.loop-s-init

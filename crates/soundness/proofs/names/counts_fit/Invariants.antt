@@ -1,8 +1,7 @@
 -- `counts_fit`: so far they fit just where those of the slots before s do.
-use Rattle.std.proofs.Common.{◌≡◌, ◌-◌, ◌≤◌, sym, arith, rules}
+use Rattle.std.proofs.Common.{◌≡◌, ◌-◌, ◌≤◌}
 use Rattle.model.specs.Table.{all}
-use Rattle.soundness.proofs.Loops.{all_none, join_step, join_end}
-use Rattle.soundness.proofs.NamesCounts.{counts?, counts_are}
+use Rattle.soundness.proofs.NamesCounts.{counts?}
 use Rattle.soundness.proofs.names.counts_fit.Given as goal
 
 abbrev pub invariant-loop-s : goal.invariant-loop-s

@@ -1,8 +1,5 @@
 -- `is_first`: the rows before j have other names.
-use Rattle.std.proofs.Common.{◌≡◌, ◌-◌, ◌≤◌, true, arith, rules}
-use Rattle.model.specs.Table.{all}
-use Rattle.model.specs.Layout.{titles_of}
-use Rattle.model.specs.Memory.{other_name?}
+use Rattle.std.proofs.Common.{arith}
 use Rattle.soundness.proofs.Loops.{all_none, all_stop, all_step, all_end}
 use Rattle.soundness.proofs.names.is_first.Goals as goal
 

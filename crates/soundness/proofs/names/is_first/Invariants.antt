@@ -1,9 +1,8 @@
 -- `is_first`: the rows before j have other names.
-use Rattle.std.proofs.Common.{◌≡◌, ◌-◌, ◌≤◌, true, arith, rules}
+use Rattle.std.proofs.Common.{◌≡◌, ◌-◌, ◌≤◌, true}
 use Rattle.model.specs.Table.{all}
 use Rattle.model.specs.Layout.{titles_of}
 use Rattle.model.specs.Memory.{other_name?}
-use Rattle.soundness.proofs.Loops.{all_none, all_stop, all_step, all_end}
 use Rattle.soundness.proofs.names.is_first.Given as goal
 
 abbrev pub invariant-loop-j : goal.invariant-loop-j

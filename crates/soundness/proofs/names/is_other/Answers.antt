@@ -1,5 +1,4 @@
 -- `is_other`: an empty row, another length, or other letters.
-use Rattle.std.proofs.Common.{rules}
 use Rattle.soundness.proofs.NamesRows.{other_empty, other_length, other_letters}
 use Rattle.soundness.proofs.names.is_other.Goals as goal
 

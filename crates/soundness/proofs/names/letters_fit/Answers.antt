@@ -1,6 +1,6 @@
 -- `letters_fit`: the numbers from the i-th on are letters just where all are.
-use Rattle.std.proofs.Common.{◌-◌, ◌≤◌, arith, rules}
-use Rattle.soundness.proofs.NamesRows.{Lettered, letters_first, letters_end, letters_stop, letters_go}
+use Rattle.std.proofs.Common.{arith}
+use Rattle.soundness.proofs.NamesRows.{letters_first, letters_end, letters_stop, letters_go}
 use Rattle.soundness.proofs.names.letters_fit.Goals as goal
 
 pub loop-i-init : goal.loop-i-init

@@ -1,6 +1,6 @@
 -- `letters_fit`: the numbers from the i-th on are letters just where all are.
-use Rattle.std.proofs.Common.{◌-◌, ◌≤◌, arith, rules}
-use Rattle.soundness.proofs.NamesRows.{Lettered, letters_first, letters_end, letters_stop, letters_go}
+use Rattle.std.proofs.Common.{◌-◌, ◌≤◌}
+use Rattle.soundness.proofs.NamesRows.{Lettered}
 use Rattle.soundness.proofs.names.letters_fit.Given as goal
 
 abbrev pub invariant-loop-i : goal.invariant-loop-i

@@ -1,5 +1,5 @@
 -- `row_fits`: an empty row fits; of another each clause of `row?` was tested.
-use Rattle.std.proofs.Common.{arith, rules}
+use Rattle.std.proofs.Common.{arith}
 use borrow.Author.Tests.{not-false}
 use Rattle.soundness.proofs.NamesRows.{row_empty, row_dead, row_misnamed, row_named}
 use Rattle.soundness.proofs.names.row_fits.Goals as goal
@@ -17,13 +17,12 @@ returns-then-not-name_fits c =
     c.name_fits.ensures.is c.if-not-name_fits.true-raw
 
 pub is_first-requires : goal.is_first-requires
-is_first-requires c =
-    (
-      omega (arith, c.requires.0.room),
-      c.requires.1,
-      omega (arith, c.wide-link.ensures),
-      c.name_fits.ensures.range (not-false _ c.if-not-name_fits.false-raw),
-    )
+is_first-requires c = (
+  omega (arith, c.requires.0.room),
+  c.requires.1,
+  omega (arith, c.wide-link.ensures),
+  c.name_fits.ensures.range (not-false _ c.if-not-name_fits.false-raw),
+)
 
 pub returns : goal.returns
 returns c =

@@ -1,8 +1,5 @@
 -- `rows_fit`: the rows before i fit.
-use Rattle.std.proofs.Common.{◌≡◌, ◌-◌, ◌≤◌, true, arith, rules}
-use Rattle.model.specs.Table.{all}
-use Rattle.model.specs.Layout.{view_of, titles_of}
-use Rattle.model.specs.Memory.{row?}
+use Rattle.std.proofs.Common.{arith}
 use Rattle.soundness.proofs.Loops.{all_none, all_stop, all_step, all_end}
 use Rattle.soundness.proofs.names.rows_fit.Goals as goal
 

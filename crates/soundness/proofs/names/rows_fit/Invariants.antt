@@ -1,9 +1,8 @@
 -- `rows_fit`: the rows before i fit.
-use Rattle.std.proofs.Common.{◌≡◌, ◌-◌, ◌≤◌, true, arith, rules}
+use Rattle.std.proofs.Common.{◌≡◌, ◌-◌, ◌≤◌, true}
 use Rattle.model.specs.Table.{all}
 use Rattle.model.specs.Layout.{view_of, titles_of}
 use Rattle.model.specs.Memory.{row?}
-use Rattle.soundness.proofs.Loops.{all_none, all_stop, all_step, all_end}
 use Rattle.soundness.proofs.names.rows_fit.Given as goal
 
 abbrev pub invariant-loop-i : goal.invariant-loop-i

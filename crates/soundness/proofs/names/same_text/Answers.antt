@@ -1,8 +1,6 @@
 -- `same_text`: the numbers before the k-th are the same.
-use Rattle.std.proofs.Common.{◌≡◌, ◌-◌, ◌≤◌, true, arith, rules, eq-eqb, ne_eqb}
-use Rattle.model.specs.Table.{all}
+use Rattle.std.proofs.Common.{arith, eq-eqb, ne_eqb}
 use Rattle.soundness.proofs.Loops.{all_none, all_more, all_fails, all_end}
-use Rattle.soundness.proofs.NamesRows.{alike}
 use Rattle.soundness.proofs.names.same_text.Goals as goal
 
 pub loop-k-init : goal.loop-k-init

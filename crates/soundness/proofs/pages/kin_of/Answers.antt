@@ -1,5 +1,4 @@
 -- `kin_of`: the pred is the base where no record is before it, else that record.
-use Rattle.std.proofs.Common.{rules}
 use Rattle.soundness.proofs.PagesLinks.{kin_first, kin_next}
 use Rattle.soundness.proofs.pages.kin_of.Goals as goal
 

@@ -1,5 +1,5 @@
 -- `mark_gone`: no block, one that is too old, or one block with its stamp.
-use Rattle.std.proofs.Common.{suc, ◌+◌, ◌∙◌, add-one, arith, length-set, rules}
+use Rattle.std.proofs.Common.{suc, ◌+◌, ◌∙◌, add-one, arith, length-set}
 use Rattle.soundness.proofs.PagesMarks.{young_outside, young_not, young_yes, stamp_none, stamp_one}
 use Rattle.soundness.proofs.pages.mark_gone.Goals as goal
 

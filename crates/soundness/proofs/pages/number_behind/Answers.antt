@@ -1,5 +1,4 @@
 -- `number_behind`: the number at the address of the slot behind the link.
-use Rattle.std.proofs.Common.{rules}
 use Rattle.soundness.proofs.PagesLinks.{num_none, num_some}
 use Rattle.soundness.proofs.pages.number_behind.Goals as goal
 

@@ -1,5 +1,4 @@
 -- `page_behind`: the page at the address of the slot behind the link.
-use Rattle.std.proofs.Common.{rules}
 use Rattle.soundness.proofs.PagesLinks.{page_none, page_some}
 use Rattle.soundness.proofs.pages.page_behind.Goals as goal
 

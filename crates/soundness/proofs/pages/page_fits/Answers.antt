@@ -1,5 +1,5 @@
 -- `page_fits`: the clause of the link that fails first, or all of them and the mark.
-use Rattle.std.proofs.Common.{◌-◌, ◌<◌, ap, ◌∙◌, arith, length-set, rules}
+use Rattle.std.proofs.Common.{◌-◌, ◌<◌, ap, ◌∙◌, arith, length-set}
 use mathlib.Core.Bool.{false≢true}
 use Rattle.model.specs.Layout.{view_of}
 use Rattle.soundness.specs.declared.pages.Kin.{Kin}
@@ -18,10 +18,10 @@ returns-then-link-eq0 c = let a = c.args in
 pub returns-then-g-link : goal.returns-then-g-link
 unfolding view_of
 returns-then-g-link c = let a = c.args in record {
-      is = own_beyond (view_of a.g a.t.now) a.s a.own.now a.link c.if-g-link.true;
-      marked = λ e. absurd (false≢true e);
-      size = c.requires.2;
-    }
+  is = own_beyond (view_of a.g a.t.now) a.s a.own.now a.link c.if-g-link.true;
+  marked = λ e. absurd (false≢true e);
+  size = c.requires.2;
+}
 
 pub returns-then-birth-kin : goal.returns-then-birth-kin
 returns-then-birth-kin c = let a = c.args in
@@ -45,10 +45,10 @@ returns-then-kin-birth c = let a = c.args in
 
 pub returns-then-own-link-ne0 : goal.returns-then-own-link-ne0
 returns-then-own-link-ne0 c = let a = c.args in record {
-      is = own_twice (view_of a.g a.t.now) a.s a.own.now a.link c.if-link-eq0.false c.if-own-link-ne0.true;
-      marked = λ e. absurd (false≢true e);
-      size = c.requires.2;
-    }
+  is = own_twice (view_of a.g a.t.now) a.s a.own.now a.link c.if-link-eq0.false c.if-own-link-ne0.true;
+  marked = λ e. absurd (false≢true e);
+  size = c.requires.2;
+}
 
 pub returns : goal.returns
 unfolding view_of

@@ -1,8 +1,7 @@
 -- `pages_fit`: what is left of the slots comes to the same.
-use Rattle.std.proofs.Common.{◌-◌, rules}
 use mathlib.Core.Bool.{false≢true}
 use Rattle.model.specs.Layout.{view_of}
-use Rattle.soundness.proofs.PagesSlots.{Slots, slots_start, slots_stop, slots_go, slots_end}
+use Rattle.soundness.proofs.PagesSlots.{slots_start, slots_stop, slots_go, slots_end}
 use Rattle.soundness.proofs.pages.pages_fit.Goals as goal
 
 pub loop-s-init : goal.loop-s-init

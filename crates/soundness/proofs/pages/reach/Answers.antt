@@ -5,12 +5,12 @@ use Rattle.soundness.proofs.pages.reach.Goals as goal
 
 pub returns-then-link-g : goal.returns-then-link-g
 returns-then-link-g c = record {
-      is = reached_in _ _ c.if-link-g.true;
-      range = c.if-link-g.true;
-    }
+  is = reached_in _ _ c.if-link-g.true;
+  range = c.if-link-g.true;
+}
 
 pub returns-else-link-g : goal.returns-else-link-g
 returns-else-link-g c = record {
-      is = reached_out _ _ c.if-link-g.false;
-      range = omega arith;
-    }
+  is = reached_out _ _ c.if-link-g.false;
+  range = omega arith;
+}

@@ -1,7 +1,7 @@
 -- `row_walk`: what is left of the row comes to the same.
-use Rattle.std.proofs.Common.{◌≡◌, ℕ, ◌+◌, ◌-◌, ◌*◌, ◌≤◌, min, arith, rules}
+use Rattle.std.proofs.Common.{◌≡◌, ℕ, ◌+◌, ◌*◌, min, arith}
 use Rattle.model.specs.Layout.{view_of}
-use Rattle.soundness.proofs.PagesStep.{pred_range, row_word, Rowing, row_starts, row_stops, row_goes, row_ends}
+use Rattle.soundness.proofs.PagesStep.{pred_range, row_word, row_starts, row_stops, row_goes, row_ends}
 use lib.ListN.{length-replicate}
 use Rattle.soundness.proofs.pages.row_walk.Goals as goal
 

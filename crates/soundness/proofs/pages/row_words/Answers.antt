@@ -1,5 +1,5 @@
 -- `row_words`: the words before k stand. They are of 32 pages each; what is left after them has less than 32.
-use Rattle.std.proofs.Common.{◌≡◌, ℕ, ◌+◌, ◌-◌, ◌*◌, ◌<◌, ◌≤◌, min, length, get_or, ap, ◌∙◌, arith, length-set}
+use Rattle.std.proofs.Common.{◌≡◌, ℕ, ◌-◌, ◌*◌, ◌<◌, min, ap, ◌∙◌, arith, length-set}
 use Rattle.choice.specs.Words.{word_of}
 use Rattle.model.specs.Layout.{view_of}
 use Rattle.tables.specs.Rows.{differs}

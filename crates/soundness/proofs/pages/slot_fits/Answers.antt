@@ -1,5 +1,5 @@
 -- `slot_fits`: an empty slot; a walk that fails; a walk and its deadlist.
-use Rattle.std.proofs.Common.{arith, rules}
+use Rattle.std.proofs.Common.{arith}
 use mathlib.Core.Bool.{false≢true}
 use Rattle.model.specs.Layout.{view_of}
 use Rattle.soundness.proofs.PagesSlots.{slot_empty, empty_marks, live, slot_fails, slot_marks, slot_lists, slot_stamps}
@@ -7,10 +7,10 @@ use Rattle.soundness.proofs.pages.slot_fits.Goals as goal
 
 pub returns-then-t-s-eq0 : goal.returns-then-t-s-eq0
 returns-then-t-s-eq0 c = let a = c.args in record {
-      is = slot_empty a.g a.t.now a.s a.own.now c.requires.1 c.if-t-s-eq0.true;
-      marked = λ e. empty_marks a.g a.t.now a.s a.own.now c.requires.1 c.if-t-s-eq0.true;
-      stamps = (c.requires.2, c.requires.3, λ e b. omega (arith, c.requires.4 b));
-    }
+  is = slot_empty a.g a.t.now a.s a.own.now c.requires.1 c.if-t-s-eq0.true;
+  marked = λ e. empty_marks a.g a.t.now a.s a.own.now c.requires.1 c.if-t-s-eq0.true;
+  stamps = (c.requires.2, c.requires.3, λ e b. omega (arith, c.requires.4 b));
+}
 
 pub returns-in_default : goal.returns-in_default
 unfolding view_of
@@ -37,5 +37,5 @@ returns c =
     record {
       is = slot_lists v a.s a.own.now a.gone.now o w c.in-Fits.is c.requires.4 f.is;
       marked = λ e. slot_marks v a.s a.own.now a.gone.now o w c.in-Fits.is;
-      stamps = (w.own_size, f.stamps.0, λ e. slot_stamps v a.s a.own.now a.gone.now o w c.in-Fits.is c.list_fits.new.gone.1.0 c.requires.4 f.stamps.1);
+      stamps = (w.own_size, f.stamps.0, λ e. slot_stamps v a.s a.own.now a.gone.now o w c.in-Fits.is c.list_fits.new.gone c.requires.4 f.stamps.1);
     }

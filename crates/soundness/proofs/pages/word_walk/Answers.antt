@@ -1,9 +1,8 @@
 -- `word_walk`: what is left of the pages comes to the same, and `rest` has the bits of those that are left.
-use Rattle.std.proofs.Common.{◌-◌, arith, rules}
+use Rattle.std.proofs.Common.{◌-◌, arith}
 use lib.Bits.{and_le_r}
 use Rattle.choice.proofs.Runs.{zeros_fit}
-use Rattle.model.specs.Layout.{view_of}
-use Rattle.soundness.proofs.PagesStep.{Walking, word_starts, word_inside, word_few, word_differs, word_stops, word_goes, word_ends}
+use Rattle.soundness.proofs.PagesStep.{word_starts, word_inside, word_few, word_differs, word_stops, word_goes, word_ends}
 use Rattle.soundness.proofs.pages.word_walk.Goals as goal
 
 pub loop-rest-init : goal.loop-rest-init

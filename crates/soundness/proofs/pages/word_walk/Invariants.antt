@@ -1,9 +1,6 @@
 -- `word_walk`: what is left of the pages comes to the same, and `rest` has the bits of those that are left.
-use Rattle.std.proofs.Common.{◌-◌, arith, rules}
-use lib.Bits.{and_le_r}
-use Rattle.choice.proofs.Runs.{zeros_fit}
 use Rattle.model.specs.Layout.{view_of}
-use Rattle.soundness.proofs.PagesStep.{Walking, word_starts, word_inside, word_few, word_differs, word_stops, word_goes, word_ends}
+use Rattle.soundness.proofs.PagesStep.{Walking}
 use Rattle.soundness.proofs.pages.word_walk.Given as goal
 
 abbrev pub invariant-loop-rest : goal.invariant-loop-rest

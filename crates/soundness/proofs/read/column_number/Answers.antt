@@ -1,5 +1,4 @@
 -- `column_number`: a slot inside the range, and one outside.
-use Rattle.std.proofs.Common.{rules}
 use Rattle.soundness.proofs.Cells.{field_in, field_out}
 use Rattle.soundness.proofs.read.column_number.Goals as goal
 

@@ -1,5 +1,4 @@
 -- `base_fits`: the clause, of the link that was read.
-use Rattle.std.proofs.Common.{rules}
 use Rattle.model.specs.Layout.{view_of}
 use Rattle.soundness.proofs.Clauses.{base_is}
 use Rattle.soundness.proofs.records.base_fits.Goals as goal

@@ -1,5 +1,4 @@
 -- `link_fits`: the clause, of the numbers that were read.
-use Rattle.std.proofs.Common.{rules}
 use Rattle.model.specs.Layout.{view_of}
 use Rattle.soundness.proofs.Clauses.{base_none, base_some}
 use Rattle.soundness.proofs.records.link_fits.Goals as goal

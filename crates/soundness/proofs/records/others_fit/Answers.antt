@@ -1,7 +1,6 @@
 -- `others_fit`: so far they fit just where the slots before k do.
-use Rattle.std.proofs.Common.{◌≡◌, ◌-◌, ◌≤◌, sym, arith, rules}
-use Rattle.model.specs.Table.{all}
-use Rattle.soundness.proofs.Clauses.{apart?, others_are}
+use Rattle.std.proofs.Common.{sym, arith}
+use Rattle.soundness.proofs.Clauses.{others_are}
 use Rattle.soundness.proofs.Loops.{all_none, join_step, join_end}
 use Rattle.soundness.proofs.records.others_fit.Goals as goal
 

@@ -1,8 +1,7 @@
 -- `others_fit`: so far they fit just where the slots before k do.
-use Rattle.std.proofs.Common.{◌≡◌, ◌-◌, ◌≤◌, sym, arith, rules}
+use Rattle.std.proofs.Common.{◌≡◌, ◌-◌, ◌≤◌}
 use Rattle.model.specs.Table.{all}
-use Rattle.soundness.proofs.Clauses.{apart?, others_are}
-use Rattle.soundness.proofs.Loops.{all_none, join_step, join_end}
+use Rattle.soundness.proofs.Clauses.{apart?}
 use Rattle.soundness.proofs.records.others_fit.Given as goal
 
 abbrev pub invariant-loop-k : goal.invariant-loop-k

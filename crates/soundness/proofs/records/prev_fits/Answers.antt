@@ -1,5 +1,4 @@
 -- `prev_fits`: the clause, of the numbers that were read.
-use Rattle.std.proofs.Common.{rules}
 use Rattle.model.specs.Layout.{view_of}
 use Rattle.soundness.proofs.Clauses.{prev_none, prev_some}
 use Rattle.soundness.proofs.records.prev_fits.Goals as goal

@@ -1,5 +1,4 @@
 -- `record_fits`: an empty slot fits; of another each clause of `linked_to?` was tested.
-use Rattle.std.proofs.Common.{rules}
 use Rattle.model.specs.Layout.{view_of}
 use Rattle.soundness.proofs.Clauses.{slot_none, slot_some}
 use Rattle.soundness.proofs.records.record_fits.Goals as goal

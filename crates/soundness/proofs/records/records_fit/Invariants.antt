@@ -1,10 +1,9 @@
 -- `records_fit`: the slots before s fit.
-use Rattle.std.proofs.Common.{◌≡◌, ◌-◌, ◌≤◌, true, ltb, arith, rules}
+use Rattle.std.proofs.Common.{◌≡◌, ◌-◌, ◌≤◌, true, ltb}
 use Rattle.model.specs.Check.{imp}
 use Rattle.model.specs.Layout.{view_of}
 use Rattle.model.specs.Table.{all}
 use Rattle.soundness.specs.Pairs.{linked_to?}
-use Rattle.soundness.proofs.Loops.{all_none, all_stop, all_step, all_end}
 use Rattle.soundness.proofs.records.records_fit.Given as goal
 
 abbrev pub invariant-loop-s : goal.invariant-loop-s

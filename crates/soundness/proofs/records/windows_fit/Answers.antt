@@ -1,7 +1,6 @@
 -- `windows_fit`: so far they fit just where those of the slots before s do.
-use Rattle.std.proofs.Common.{◌≡◌, ◌-◌, ◌≤◌, sym, arith, rules}
-use Rattle.model.specs.Table.{all}
-use Rattle.soundness.proofs.Clauses.{window?, windows_are}
+use Rattle.std.proofs.Common.{sym, arith}
+use Rattle.soundness.proofs.Clauses.{windows_are}
 use Rattle.soundness.proofs.Loops.{all_none, join_step, join_end}
 use Rattle.soundness.proofs.records.windows_fit.Goals as goal
 

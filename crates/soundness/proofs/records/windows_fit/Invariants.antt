@@ -1,8 +1,7 @@
 -- `windows_fit`: so far they fit just where those of the slots before s do.
-use Rattle.std.proofs.Common.{◌≡◌, ◌-◌, ◌≤◌, sym, arith, rules}
+use Rattle.std.proofs.Common.{◌≡◌, ◌-◌, ◌≤◌}
 use Rattle.model.specs.Table.{all}
-use Rattle.soundness.proofs.Clauses.{window?, windows_are}
-use Rattle.soundness.proofs.Loops.{all_none, join_step, join_end}
+use Rattle.soundness.proofs.Clauses.{window?}
 use Rattle.soundness.proofs.records.windows_fit.Given as goal
 
 abbrev pub invariant-loop-s : goal.invariant-loop-s
