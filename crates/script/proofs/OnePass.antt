@@ -9,7 +9,8 @@ use native.Mathlib.Omega.{arith}
 use borrow.Author.Tests.{ne_eqb, lt-ltb, le-ltb}
 use lib.ListN.{length, get_or, take, drop, length-append, length-drop}
 use lib.Seq.{slice, drop-cons, take_at, slice_empty}
-use types.Run.{OneOf, miss}
+use types.Run.{miss}
+use borrow.Enum.Refused.{Among, opened}
 use denote.Enum.Declared.{tag_of}
 use Rattle.script.specs.contracts.parse.Parsed.{the_type}
 use Rattle.answer.proofs.Cases.{cases, lt?}
@@ -124,9 +125,9 @@ module _ (text : List ℕ) (at b : ℕ) (ms : List ℕ) (end : ℕ) (h : at < le
 -- ── what is found in one pass ──
 
 -- a letter and numbers that are no call
-pub near_none : (p : Parsed) (e : ℕ) → OneOf (0 ∷ 2 ∷ 3 ∷ []) (tag_of the_type p) → Near.No ≡ near_of p e
+pub near_none : (p : Parsed) (e : ℕ) → Among (0 ∷ 2 ∷ 3 ∷ []) (tag_of the_type p) → Near.No ≡ near_of p e
 near_none (Store x) e h = refl
-near_none (Asks c) e h = absurd (miss (0 ∷ 2 ∷ 3 ∷ []) 1 tt h)
+near_none (Asks c) e h = absurd (miss (0 ∷ 2 ∷ 3 ∷ []) 1 tt (opened h))
 near_none (Named n k) e h = refl
 near_none Parsed.No e h = refl
 

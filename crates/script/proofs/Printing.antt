@@ -7,7 +7,8 @@ use native.Mathlib.Numerals.{add-one}
 use native.Mathlib.Omega.{arith}
 use lib.ListN.{length, take, drop, set, get_or, length-append, drop_of_length-le}
 use lib.Seq.{set-set, set_split, length-take-le, drop-cons, get_or-take}
-use types.Run.{OneOf, miss}
+use types.Run.{miss}
+use borrow.Enum.Refused.{Among, opened}
 use denote.Enum.Declared.{tag_of}
 use Rattle.alloc_log.specs.Word.{write_at}
 use Rattle.alloc_log.proofs.Writing.{length_write, write_none, write_write}
@@ -213,10 +214,10 @@ pub room_any : {text out : List ℕ} {at : ℕ} {answer : Answer} → Room text 
 room_any room = let h = room.fits in omega arith
 
 -- a line that asks no call is answered in numbers
-pub spelling_none : (p : Parsed) → OneOf (0 ∷ 2 ∷ 3 ∷ []) (tag_of the_type p) → Numbers ≡ spelling_of p
+pub spelling_none : (p : Parsed) → Among (0 ∷ 2 ∷ 3 ∷ []) (tag_of the_type p) → Numbers ≡ spelling_of p
 unfolding spelling_of
 spelling_none (Store x) h = refl
-spelling_none (Asks c) h = absurd (miss (0 ∷ 2 ∷ 3 ∷ []) 1 tt h)
+spelling_none (Asks c) h = absurd (miss (0 ∷ 2 ∷ 3 ∷ []) 1 tt (opened h))
 spelling_none (Named n e) h = refl
 spelling_none No h = refl
 
@@ -224,22 +225,22 @@ spelling_none No h = refl
 abbrev others : List ℕ
 others = 0 ∷ 3 ∷ 4 ∷ 5 ∷ 7 ∷ 8 ∷ 9 ∷ 10 ∷ 11 ∷ []
 
-spelling_plain : (c : Call) → OneOf others (tag_of call-type c) → Numbers ≡ spelling (command c)
+spelling_plain : (c : Call) → Among others (tag_of call-type c) → Numbers ≡ spelling (command c)
 spelling_plain Begin h = refl
-spelling_plain (Write r x k) h = absurd (miss others 1 tt h)
-spelling_plain (Erase r x) h = absurd (miss others 2 tt h)
+spelling_plain (Write r x k) h = absurd (miss others 1 tt (opened h))
+spelling_plain (Erase r x) h = absurd (miss others 2 tt (opened h))
 spelling_plain (Seal r) h = refl
 spelling_plain (Fork r) h = refl
 spelling_plain (Delete r) h = refl
-spelling_plain (Read r x) h = absurd (miss others 6 tt h)
+spelling_plain (Read r x) h = absurd (miss others 6 tt (opened h))
 spelling_plain Barrier h = refl
 spelling_plain Compress h = refl
 spelling_plain FreeList h = refl
 spelling_plain (Estimate r) h = refl
 spelling_plain (Retain r n) h = refl
-spelling_plain (Reclaim k) h = absurd (miss others 12 tt h)
+spelling_plain (Reclaim k) h = absurd (miss others 12 tt (opened h))
 
 -- a call that names no block is answered in numbers
-pub spelling_other : (p : Parsed) (c : Call) → p ≡ Asks c → OneOf others (tag_of call-type c) → Numbers ≡ spelling_of p
+pub spelling_other : (p : Parsed) (c : Call) → p ≡ Asks c → Among others (tag_of call-type c) → Numbers ≡ spelling_of p
 unfolding spelling_of
 spelling_other p c e h = rw e (spelling_plain c h)

@@ -21,4 +21,4 @@ unfolding says_by
 returns-in-3 c = rw c.in-3.is c.three_of.ensures
 
 pub returns-in_default : goal.returns-in_default
-returns-in_default c = says_none _ _ _ _ _ c.in_default-own.rest
+returns-in_default c = says_none _ _ _ _ _ c.in_default.in_default-own.rest

@@ -17,4 +17,4 @@ unfolding listed
 returns-in-77 c = rw c.in-77.is
 
 pub returns-in_default : goal.returns-in_default
-returns-in_default c = not_listed names _ [] c.in_default-own.rest
+returns-in_default c = not_listed names _ [] c.in_default.in_default-own.rest

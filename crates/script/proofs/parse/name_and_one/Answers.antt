@@ -9,4 +9,4 @@ unfolding made call_in naming_of
 returns-in-78 c = rw c.in-78.is
 
 pub returns-in_default : goal.returns-in_default
-returns-in_default c = no_naming _ _ (_ ∷ []) c.in_default-own.rest
+returns-in_default c = no_naming _ _ (_ ∷ []) c.in_default.in_default-own.rest

@@ -13,4 +13,4 @@ unfolding named_by
 returns-in-1 c = rw c.in-1.is c.name_and_one.ensures
 
 pub returns-in_default : goal.returns-in_default
-returns-in_default c = named_none _ _ _ _ c.in_default-own.rest
+returns-in_default c = named_none _ _ _ _ c.in_default.in_default-own.rest

@@ -25,4 +25,4 @@ unfolding made call_in call_of
 returns-in-84 c = rw c.in-84.is
 
 pub returns-in_default : goal.returns-in_default
-returns-in_default c = no_call _ (_ ∷ []) c.in_default-own.rest
+returns-in_default c = no_call _ (_ ∷ []) c.in_default.in_default-own.rest

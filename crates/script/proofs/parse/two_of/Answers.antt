@@ -17,4 +17,4 @@ unfolding made call_in call_of
 returns-in-75 c = rw c.in-75.is
 
 pub returns-in_default : goal.returns-in_default
-returns-in_default c = no_call _ (_ ∷ _ ∷ []) c.in_default-own.rest
+returns-in_default c = no_call _ (_ ∷ _ ∷ []) c.in_default.in_default-own.rest

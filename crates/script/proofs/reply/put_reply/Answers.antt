@@ -56,9 +56,8 @@ unfolding reply_text reply_of
 returns-in-Done c =
     let a = c.args in
     let p = c.put_items-end in
-    let g = c.answer-1.given in
-    let r = room_done c.requires g.1 in
-    rw g.1 (put_line a.text.now p.new.text 43 a.at p.result _ (omega (arith, p.ensures.1)) p.ensures.0 p.ensures.2)
+    let r = room_done c.requires c.in-Done.is in
+    rw c.in-Done.is (put_line a.text.now p.new.text 43 a.at p.result _ (omega (arith, p.ensures.1)) p.ensures.0 p.ensures.2)
 
 pub shape_of-text-in-Refused : goal.shape_of-text-in-Refused
 shape_of-text-in-Refused c =
@@ -70,6 +69,5 @@ unfolding reply_text reply_of
 returns-in-Refused c =
     let a = c.args in
     let p = c.put_number-end in
-    let g = c.answer-in-Refused-1.given in
     let r = room_any c.requires in
-    rw g.1 (put_line a.text.now p.new.text 45 a.at p.result _ (omega (arith, p.ensures.1)) p.ensures.0 p.ensures.2)
+    rw c.in-Refused.is (put_line a.text.now p.new.text 45 a.at p.result _ (omega (arith, p.ensures.1)) p.ensures.0 p.ensures.2)

@@ -5,7 +5,7 @@ use Rattle.script.proofs.Printing.{spelling_none, spelling_other}
 use Rattle.script.proofs.reply.spelling_of.Goals as goal
 
 pub returns-in_default : goal.returns-in_default
-returns-in_default c = spelling_none c.args.says c.in_default-own.keys2
+returns-in_default c = spelling_none c.args.says c.in_default.in_default-own.keys2
 
 pub returns-in-Write : goal.returns-in-Write
 unfolding spelling_of
@@ -24,4 +24,4 @@ unfolding spelling_of
 returns-in-Reclaim c = rw (c.in-Asks.is, c.in-Reclaim.is)
 
 pub returns-in_default-c : goal.returns-in_default-c
-returns-in_default-c c = spelling_other c.args.says _ c.in-Asks.is c.in_default-c-own.keys5
+returns-in_default-c c = spelling_other c.args.says _ c.in-Asks.is c.in_default-c.in_default-c-own.keys5
