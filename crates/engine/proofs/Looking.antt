@@ -2,7 +2,8 @@
 use mathlib.Core.Path.{◌≡◌, refl, sym, ap, subst}
 use mathlib.Core.List.{List, [], ◌∷◌}
 use mathlib.Core.Option.{some}
-use types.Run.{OneOf, miss}
+use types.Run.{miss}
+use borrow.Enum.Refused.{Among, opened}
 use denote.Enum.Declared.{tag_of}
 use Prim.Native.Nat.{ℕ}
 use Rattle.answer.specs.declared.Answer.{Answer}
@@ -69,17 +70,17 @@ seen_as c (look.Estimate n) e = rw e
 abbrev acting : List ℕ
 acting = 0 ∷ 1 ∷ 2 ∷ 3 ∷ 4 ∷ 5 ∷ 7 ∷ 8 ∷ 11 ∷ 12 ∷ []
 
-pub not_seen : (c : Call) → OneOf acting (tag_of the_type c) → seen_call seen.Nothing ≡ only_looks (some c)
+pub not_seen : (c : Call) → Among acting (tag_of the_type c) → seen_call seen.Nothing ≡ only_looks (some c)
 not_seen Begin h = refl
 not_seen (Write r x k) h = refl
 not_seen (Erase r x) h = refl
 not_seen (Seal r) h = refl
 not_seen (Fork r) h = refl
 not_seen (Delete r) h = refl
-not_seen (Read r x) h = absurd (miss acting 6 tt h)
+not_seen (Read r x) h = absurd (miss acting 6 tt (opened h))
 not_seen Barrier h = refl
 not_seen Compress h = refl
-not_seen FreeList h = absurd (miss acting 9 tt h)
-not_seen (Estimate r) h = absurd (miss acting 10 tt h)
+not_seen FreeList h = absurd (miss acting 9 tt (opened h))
+not_seen (Estimate r) h = absurd (miss acting 10 tt (opened h))
 not_seen (Retain r n) h = refl
 not_seen (Reclaim k) h = refl
