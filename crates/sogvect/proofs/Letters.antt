@@ -8,7 +8,8 @@ use lib.Dec.{eqb, ltb}
 use lib.ListN.{length, take}
 use native.Mathlib.Omega.{arith}
 use borrow.Author.Tests.{ne_eqb, ltb-true}
-use types.Run.{OneOf, miss}
+use types.Run.{miss}
+use borrow.Enum.Refused.{Among, opened}
 use denote.Enum.Declared.{tag_of}
 use Rattle.answer.proofs.Cases.{cases, either, same?}
 use Rattle.geometry.proofs.Made.{and_true}
@@ -124,7 +125,7 @@ abbrev others : List ℕ
 others = 0 ∷ 2 ∷ 3 ∷ []
 
 abbrev pub Other : Parsed → Type 0
-Other p = OneOf others (tag_of the_type p)
+Other p = Among others (tag_of the_type p)
 
 -- what was asked, by what was said
 pub is_call : (p : Parsed) (k : Option Call) (c : Call) → p ≡ says_of k → p ≡ Asks c → k ≡ some c
@@ -133,7 +134,7 @@ is_call p (some d) c e found = let same : d ≡ c = cc in ap some same
 
 pub is_none : (p : Parsed) (k : Option Call) → p ≡ says_of k → Other p → k ≡ none
 is_none p none e h = refl
-is_none p (some c) e h = absurd (miss others 1 tt (subst Other e h))
+is_none p (some c) e h = absurd (miss others 1 tt (opened (subst Other e h)))
 
 -- a call was found, and what comes after it is passed over; or none was
 found_here : (p : Parsed) (c : Call) (k d : Option Call) → p ≡ says_of k → p ≡ Asks c → p ≡ says_of (or_else k d)

@@ -1,0 +1,15 @@
+-- `sogvect_resolve`: what `resolve` promises, coded.
+use Rattle.geometry.specs.Limits.{geometry_of}
+use Rattle.model.specs.Command.{Resolve}
+use Rattle.model.specs.Memory.{lent}
+use Rattle.sogvect.proofs.Coding.{replied}
+use borrow.Author.Rules.{rules}
+use Rattle.sogvect.proofs.names.sogvect_resolve.Goals as goal
+
+pub returns : goal.returns
+returns c =
+    let a = c.args in let both = replied (geometry_of a.arenas a.per a.pages a.records a.turn a.words) (lent a.tables.now a.log.now a.out.now) _ _ _ _
+    (Resolve a.name.now) _ _ _ c.resolve-a.ensures (c.coded.ensures.code, c.coded.ensures.count) in record {
+      answer = both.0;
+      count = both.1;
+    }

@@ -1,0 +1,12 @@
+-- `sogvect_make`: what `make` promises, coded.
+use mathlib.Core.Path.{◌∙◌}
+use Rattle.sogvect.proofs.Coding.{code_is}
+use borrow.Author.Rules.{rules}
+use Rattle.sogvect.proofs.sogvect_make.Goals as goal
+
+pub returns : goal.returns
+returns c =
+    let m = c.make-a.ensures in record {
+      code = c.coded.ensures.code ∙ code_is _ _ _ m.reply;
+      tables = m.tables;
+    }
