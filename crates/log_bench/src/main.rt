@@ -1,6 +1,7 @@
 // Benchmark: reads a full log of 8,192 words 2,000 times, and prints how often it was a log. Time it from outside.
-use libc::STDOUT_FILENO;
+#![tactic(auto)]
 use alloc_log::read::read_log;
+use std::io;
 
 // How often, of `times`, the bytes are a log of 16 arenas of 128 blocks.
 fn read_often(log: &[u8], times: u64) -> u64 {
@@ -19,7 +20,7 @@ fn read_often(log: &[u8], times: u64) -> u64 {
 }
 
 // Each even word allocates block 0, each odd one frees it.
-fn main() {
+fn main(rt: HostRuntime) -> io::Result<()> {
     let mut log = [0u8; 65536];
     let mut i: usize = 0;
     while i < 8192 {
@@ -27,6 +28,5 @@ fn main() {
         i += 1;
     }
     let good = read_often(&log, 2000);
-    io::print_decimal(STDOUT_FILENO, good);
-    io::write_all(STDOUT_FILENO, b"\n");
+    println!(rt; "{good}")
 }

@@ -1,47 +1,66 @@
 // Runs each script that its arguments name: the name on a line, then the script's replies.
+#![tactic(auto)]
+ghost use Rattle.std.specs.Prelude.{◌≤◌, length, IfOk};
+
 use geometry::Geometry;
-use libc::STDOUT_FILENO;
 use serving::serve_part;
 use session::start;
+use std::env;
+use std::fs::File;
+use std::io::{self, Read, Write};
+
+// The longest script that is read, in bytes.
+const MOST: usize = 65536;
 
 // A reply for each line of a text.
-fn serve(text: &[u8]) {
+fn serve(rt: &HostRuntime, text: &[u8]) -> io::Result<()> {
     let mut t = [0u32; Geometry::MOST_TABLES];
     let mut log = [0u8; Geometry::MOST_LOG];
     let mut out = [0u32; Geometry::MOST_OUT];
     let mut replies = [0u8; 65536];
     let mut session = start();
     let mut at: usize = 0;
+    let mut output = io::writer(rt);
     while at < text.len() {
         let served = serve_part(text, at, session, &mut t, &mut log, &mut out, &mut replies);
         let used = served.used;
-        io::write_all(STDOUT_FILENO, &replies[..used]);
+        output.write_all(&replies[..used])?;
         session = served.session;
         at = served.at;
     }
+    Ok(())
 }
 
-fn run_script(i: usize) {
-    let mut path = io::buffer();
-    let n = os::arg(i, &mut path);
-    io::write_all(STDOUT_FILENO, &path[..n]);
-    io::write_all(STDOUT_FILENO, b"\n");
-    let fd = os::open_read(&path[..n]);
-    if fd < 0 {
-        os::fail(&path[..n]);
-        return;
+// Reads until the input ends or `space` is full. Returns how many bytes it read.
+fn read_full(file: &mut File, space: &mut [u8]) -> io::Result<usize>
+    ensures { IfOk result (λ n. n ≤ length space.new) }
+{
+    let mut n: usize = 0;
+    while n < space.len() {
+        let more = file.read(&mut space[n..])?;
+        if more == 0 {
+            break;
+        }
+        n += more;
     }
-    let mut text = io::large_buffer();
-    let length = io::read_full(fd, &mut text);
-    libc::close(fd);
-    serve(&text[..length]);
+    Ok(n)
 }
 
-fn main() {
-    let count = os::arg_count();
-    let mut i: usize = 1;
-    while i < count {
-        run_script(i);
-        i += 1;
+// A script that cannot be read is said so, and the next one is run.
+fn run_script(rt: &HostRuntime, path: &str) -> io::Result<()> {
+    println!(rt; "{path}")?;
+    let mut file = match File::open(rt, path) {
+        Ok(file) => file,
+        Err(error) => return eprintln!(rt; "{path}: {error}"),
+    };
+    let mut text = [0u8; MOST];
+    let length = read_full(&mut file, &mut text)?;
+    serve(rt, &text[..length])
+}
+
+fn main(rt: HostRuntime) -> io::Result<()> {
+    for path in env::args(&rt)?.skip(1) {
+        run_script(&rt, path.as_str())?;
     }
+    Ok(())
 }
