@@ -1,4 +1,6 @@
 // D: a record leaves the store. Q: what that would queue.
+#![tactic(auto)]
+
 pub mod delete;
 pub mod estimate;
 pub mod last;

@@ -1,4 +1,6 @@
 // The sixteen calls on tables that are known to be sound: thirteen of a letter and numbers, and the three of names. Internal: `store` is what users call.
+#![tactic(auto)]
+
 pub mod looks;
 pub mod names;
 

@@ -8,7 +8,7 @@ use Rattle.alloc_log.specs.Marks.{held_in, passing}
 use Rattle.alloc_log.specs.Read.{free}
 use Rattle.alloc_log.specs.Entries.{Entry, all_words, AllAllowed, behind_all}
 use Rattle.ledger.specs.Ledger.{compressed_of}
-use Rattle.alloc_log.specs.Tool.{Compared, judged, turned_away, read_reply, read_out, compare_verdict, compact_reply, compact_out}
+use Rattle.alloc_log.specs.Tool.{judged, turned_away, read_reply, read_out, compare_verdict, compact_reply, compact_out}
 
 -- ── what is changed of a piece of memory ──
 

@@ -1,4 +1,6 @@
 // The calls that begin a line, B and F (F gets the link of its record), and the seal of S.
+#![tactic(auto)]
+
 pub mod grow;
 pub mod verdict;
 

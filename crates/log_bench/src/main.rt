@@ -1,5 +1,6 @@
 // Benchmark: reads a full log of 8,192 words 2,000 times, and prints how often it was a log. Time it from outside.
 #![tactic(auto)]
+
 use alloc_log::read::read_log;
 use std::io;
 

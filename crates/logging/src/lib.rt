@@ -1,4 +1,6 @@
 // The calls on the log and the free list: Y, C, L.
+#![tactic(auto)]
+
 ghost use Rattle.std.specs.Prelude.{◌≡◌, List, ℕ, ◌+◌, ◌-◌, ◌*◌, ◌≤◌, not, length};
 ghost use Rattle.std.proofs.lemmas.List.Edits.{sets};
 ghost use Rattle.answer.specs.Reply.{reply_of};
@@ -11,11 +13,11 @@ ghost use Rattle.model.specs.Command.{Barrier, Compress, FreeList};
 ghost use Rattle.tables.specs.Ready.{Ready, OutLong, LogLong};
 ghost use Rattle.tables.specs.Outcome.{replied, tables_left, log_left, out_left};
 
+use alloc_log::compress::put_run;
+use alloc_log::word::append;
 use answer::Answer;
 use choice::{first_given, first_kept};
 use geometry::Geometry;
-use alloc_log::compress::put_run;
-use alloc_log::word::append;
 use tables::births::release;
 use tables::cells::{FREE, USED};
 use tables::find::wide;

@@ -1,6 +1,8 @@
 // What the benchmarks call: a script served into a lent buffer by the function that the runner runs. No other call stands beside it: a second caller of
 // the engine would change what the compiler does inline. As in the runner, all memory of the store is local, and nobody reads the log: the compiler
 // leaves out the writing of its bytes.
+#![tactic(auto)]
+
 ghost use Rattle.std.specs.Prelude.{◌≡◌, length};
 ghost use Rattle.alloc_log.specs.Word.{write_at};
 ghost use Rattle.measure.specs.Measured.{measured};

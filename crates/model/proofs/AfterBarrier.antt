@@ -21,7 +21,7 @@ use Rattle.model.specs.FreeList.{free_runs}
 use Rattle.model.specs.History.{Machine, Event, give, free, Entry, entry_of, events_by, events_of, write_events, state_from, history_from}
 use Rattle.model.specs.History.{was_accepted, freed_among, syncs_by, syncs, synced?, unsynced_after, unsynced_from, unsynced}
 use Rattle.model.specs.HistoryFacts.{Synced, Frees, Gives, runs_of_pairs, Lists}
-use Rattle.model.specs.Model.{Screened, answer, model, state_after, history}
+use Rattle.model.specs.Model.{Screened, model, state_after, history}
 use Rattle.model.specs.Command.{Command}
 use Rattle.model.specs.Command.{Write}
 use Rattle.model.proofs.EachCall.{Is, is}

@@ -12,7 +12,7 @@ use Rattle.answer.specs.Refusal.{NoneHolds}
 use Rattle.answer.proofs.Cases.{cases, either, lt?, same?}
 use Rattle.geometry.specs.declared.Geometry.{Geometry}
 use Rattle.geometry.specs.Limits.{Inside, blocks}
-use Rattle.alloc_log.specs.Word.{words, bytes_of, barrier}
+use Rattle.alloc_log.specs.Word.{words, bytes_of}
 use Rattle.alloc_log.specs.Settled.{NoBarrier}
 use Rattle.alloc_log.specs.Marks.{held_in, passing, held_blocks}
 use Rattle.alloc_log.specs.Tool.{readable, marks_of, held_at_end, every_reply, read_reply}

@@ -5,7 +5,7 @@ use Prim.Native.Nat.{ℕ, suc, pred, ◌≤◌, ◌<◌}
 use native.Mathlib.Omega.{arith}
 use lib.ListN.{length}
 use Rattle.answer.proofs.Cases.{cases, same?}
-use Rattle.model.specs.Names.{ValidName, named, unnamed, moved, one_more, one_less, count_moved}
+use Rattle.model.specs.Names.{ValidName, named, unnamed, one_more, one_less, count_moved}
 use Rattle.model.specs.State.{Notes, with_titles, passed_notes}
 use Rattle.model.proofs.TabFacts.{put_at, put_other}
 use Rattle.model.proofs.Shape.{ShapedNotes}

@@ -1,5 +1,5 @@
 -- MEMORY ENOUGH FOR EVERY GEOMETRY: what the layout, the log and the result buffer need at most, and the largest geometry needs.
-use Rattle.std.specs.Prelude.{◌≡◌, ℕ, ◌+◌, ◌*◌, ◌≤◌}
+use Rattle.std.specs.Prelude.{◌≡◌, ◌+◌, ◌*◌, ◌≤◌}
 use Rattle.geometry.specs.declared.Geometry.{Geometry}
 use Rattle.geometry.specs.Limits.{blocks, Inside, largest, most_tables, most_log, most_out}
 use Rattle.model.specs.Layout.{need}

@@ -6,7 +6,7 @@ use native.Mathlib.Omega.{arith}
 use lib.ListN.{length, get_or}
 use Rattle.answer.specs.Reply.{refused, reply_of}
 use Rattle.answer.specs.Refusal.{NoneHolds}
-use Rattle.answer.specs.declared.Answer.TheVariants.{Done, Refused}
+use Rattle.answer.specs.declared.Answer.TheVariants.{Done}
 use Rattle.geometry.specs.declared.Geometry.{Geometry}
 use Rattle.model.specs.Actions.{slot_of}
 use Rattle.model.specs.Names.{Titles, empty_row, named, one_more}

@@ -7,7 +7,7 @@ use lib.ListN.{get_or, set}
 use lib.Seq.{sets, take-suc-set}
 use Rattle.answer.specs.Reply.{accepted, refused, reply_of}
 use Rattle.answer.specs.Refusal.{NoneHolds}
-use Rattle.answer.specs.declared.Answer.TheVariants.{Done, Refused}
+use Rattle.answer.specs.declared.Answer.TheVariants.{Done}
 use Rattle.geometry.specs.declared.Geometry.{Geometry}
 use Rattle.model.specs.Table.{via}
 use Rattle.model.specs.Names.{Titles, row_of, unnamed, one_less}

@@ -1,4 +1,6 @@
 // Names of records: N puts one on a record, U takes it off, M gives the record's number. A name is lent as bytes, any bytes.
+#![tactic(auto)]
+
 pub mod letters;
 pub mod rows;
 pub mod verdict;

@@ -1,4 +1,6 @@
 // The calls on pages: W, E, R.
+#![tactic(auto)]
+
 pub mod erase;
 pub mod kill;
 pub mod place;

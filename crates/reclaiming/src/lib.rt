@@ -1,4 +1,6 @@
 // T: the first blocks of the queue are freed. They are listed in the result, logged, freed and taken out of the queue, one stage after the other.
+#![tactic(auto)]
+
 ghost use Rattle.std.specs.Prelude.{◌≡◌, map, ℕ, ◌+◌, ◌*◌, ◌<◌, ◌≤◌, length, get_or, set, take};
 ghost use Rattle.std.proofs.lemmas.List.Edits.{sets};
 ghost use Rattle.answer.specs.Reply.{reply_of};
@@ -11,9 +13,9 @@ ghost use Rattle.tables.specs.Ready.{Roomy, Ready, OutLong, LogLong};
 ghost use Rattle.tables.specs.Outcome.{replied, tables_left, log_left, out_left};
 ghost use Rattle.reclaiming.specs.Stages.{turn, ended_all, shortened};
 
+use alloc_log::word::append;
 use answer::Answer;
 use geometry::Geometry;
-use alloc_log::word::append;
 use tables::births::{queue_at, queue_births_at, wait_block};
 use tables::cells::{QUEUED, USED};
 use tables::find::wide;

@@ -1,4 +1,6 @@
 // K: a window on a line. S, and the deletes of its line's window.
+#![tactic(auto)]
+
 pub mod count;
 pub mod line;
 pub mod oldest;

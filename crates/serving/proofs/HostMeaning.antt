@@ -19,7 +19,7 @@ use Rattle.ledger.proofs.Exactly.{Means, less, either_of, both_of, outside, apar
 use Rattle.ledger.proofs.MemoryMeaning.{is_unsound}
 use Rattle.serving.specs.Part.{Part, longest}
 use Rattle.serving.specs.Host.{Lent, run_of, lent_short, host_conditions, host_part, host_reply, host_left}
-use Rattle.serving.specs.HostMeans.{StoreMade, six, AllLent, SomeShort, SoundLent, HostMeans, HostsMean}
+use Rattle.serving.specs.HostMeans.{StoreMade, six, AllLent, SomeShort, SoundLent, HostsMean}
 
 -- a store was made, or none was
 is_made : (n : ℕ) → Means (not (eqb n 0)) (0 < n) (n ≡ 0)

@@ -3,25 +3,24 @@ use mathlib.Core.Path.{◌≡◌, refl, sym, ap, ap₂, ◌∙◌, subst}
 use mathlib.Core.Bool.{Bool, true, false, not, cond, ◌&&◌, ◌||◌}
 use mathlib.Core.Logic.{◌⊎◌, inl, inr}
 use mathlib.Core.List.{List, [], ◌∷◌}
-use Prim.Native.Nat.{ℕ, zero, suc, ◌+◌, ◌*◌, ◌≤◌, ◌<◌}
+use Prim.Native.Nat.{ℕ, zero, suc, ◌*◌, ◌≤◌, ◌<◌}
 use native.Mathlib.Omega.{arith}
 use lib.Dec.{eqb, ltb}
 use lib.ListN.{length, get_or}
 use lib.Seq.{sets}
-use borrow.Author.Tests.{eq-eqb, ne_eqb, ltb-false, lt-ltb, le-ltb, not-true, not-false}
+use borrow.Author.Tests.{eq-eqb, ne_eqb, ltb-false, lt-ltb, le-ltb, not-false}
 use Rattle.answer.specs.Reply.{Reply, accepted, refused}
 use Rattle.answer.specs.Refusal.{Condition, decide, leaves}
 use Rattle.answer.proofs.Cases.{cases}
 use Rattle.geometry.specs.declared.Geometry.{Geometry}
 use Rattle.geometry.specs.declared.Making.{Making}
 use Rattle.geometry.specs.declared.Making.TheVariants as making
-use Rattle.geometry.specs.Limits.{Inside, blocks, geometry_of, fits, making_of, most_tables, most_log, most_out}
+use Rattle.geometry.specs.Limits.{Inside, geometry_of, fits, making_of, most_tables, most_log, most_out}
 use Rattle.geometry.proofs.Made.{fits_inside, inside_fits}
 use Rattle.alloc_log.specs.Word.{write_at}
 use Rattle.alloc_log.proofs.Tools.{made_of, outside}
 use Rattle.model.specs.Layout.{need}
-use Rattle.model.specs.Memory.{Memory, lent, sound?, make_reply}
-use Rattle.model.specs.SoundStore.{SoundStore}
+use Rattle.model.specs.Memory.{Memory, sound?, make_reply}
 use Rattle.model.proofs.SoundTest.{sound_iff}
 use Rattle.script.specs.Said.{said_at}
 use Rattle.script.specs.Spoken.{Spoken, makes, asks, nothing, spoken_at}

@@ -1,9 +1,8 @@
 -- A PART SERVED FOR A HOST that lends everything: the seven numbers of the run, and memory enough for every geometry. Nothing is trusted.
-use Rattle.std.specs.Prelude.{◌≡◌, Bool, not, cond, ◌&&◌, ◌||◌, List, [], ◌∷◌, ℕ, ◌<◌, eqb, ltb, length, get_or}
+use Rattle.std.specs.Prelude.{◌≡◌, Bool, not, ◌&&◌, ◌||◌, List, [], ◌∷◌, ℕ, ◌<◌, eqb, ltb, length, get_or}
 use Rattle.std.proofs.lemmas.List.Edits.{sets}
 use Rattle.answer.specs.Reply.{Reply, accepted, refused}
 use Rattle.answer.specs.Refusal.{Condition, decide, leaves}
-use Rattle.geometry.specs.declared.Geometry.{Geometry}
 use Rattle.geometry.specs.Limits.{geometry_of, fits, most_tables, most_log, most_out}
 use Rattle.alloc_log.specs.Word.{write_at}
 use Rattle.model.specs.Memory.{Memory, lent, sound?}

@@ -1,4 +1,6 @@
 // A script served in parts: replies to whole lines of a text, into a lent buffer.
+#![tactic(auto)]
+
 pub mod host;
 
 ghost use Rattle.std.specs.Prelude.{length};

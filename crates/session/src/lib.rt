@@ -1,4 +1,6 @@
 // A script's run on memory that the runner owns: a line in, an answer out. Soundness is kept, not checked again.
+#![tactic(auto)]
+
 ghost use Rattle.std.specs.Prelude.{◌≡◌, length};
 ghost use Rattle.answer.specs.Reply.{reply_of};
 ghost use Rattle.answer.specs.declared.Answer.TheVariants.{Refused};

@@ -1,5 +1,7 @@
 // The store for callers in C and Rust. Any six numbers, any memory, any arguments. Each function answers 0 where the call was done, else the number of
 // the refusal; `count` becomes the number of the result's numbers, at the start of `out`. A refusal leaves `count` and all lent memory as they were.
+#![tactic(auto)]
+
 ghost use Rattle.std.specs.Prelude.{◌≡◌};
 ghost use Rattle.geometry.specs.Limits.{geometry_of};
 ghost use Rattle.alloc_log.specs.Tool.{read_reply, read_out, verdict_of, compare_verdict, compact_reply_of, compact_reply, compact_out};
@@ -11,8 +13,8 @@ pub mod looks;
 pub mod names;
 pub mod scripts;
 
-use answer::Answer;
 use alloc_log::tool::{Compaction, Comparison, compact, compare, read_held};
+use answer::Answer;
 use store::make::make;
 
 // The code of a call that was done; a refusal's is its number.

@@ -1,4 +1,6 @@
 // The store: what users call. Any six numbers, any memory, any arguments; nothing is trusted.
+#![tactic(auto)]
+
 pub mod call;
 pub mod look;
 pub mod make;

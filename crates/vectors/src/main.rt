@@ -1,5 +1,6 @@
 // Runs each script that its arguments name: the name on a line, then the script's replies.
 #![tactic(auto)]
+
 ghost use Rattle.std.specs.Prelude.{◌≤◌, length, IfOk};
 
 use geometry::Geometry;

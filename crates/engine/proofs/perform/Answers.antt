@@ -1,7 +1,6 @@
 -- `perform`: each arm is one call; what it is not lent stays.
 use mathlib.Core.Path.{refl}
 use Rattle.engine.proofs.Untouched.{log_stays, out_stays, tables_stay, call_link, of_call, copy_looked, copy_alone, copy_named, copy_left, copy_answers}
-use borrow.Author.Rules.{rules}
 use Rattle.engine.proofs.perform.Goals as goal
 
 pub begin-requires : goal.begin-requires

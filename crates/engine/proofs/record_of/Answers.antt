@@ -1,5 +1,4 @@
 -- `record_of` meets its contract, call by call.
-use borrow.Author.Rules.{rules}
 use Rattle.engine.proofs.record_of.Goals as goal
 
 pub returns-in-Begin : goal.returns-in-Begin

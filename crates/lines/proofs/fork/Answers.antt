@@ -1,5 +1,4 @@
 -- F: a refusal leaves everything; else what was done is what the model says.
-use borrow.Author.Rules.{rules}
 use Rattle.lines.proofs.Answers
 use Rattle.lines.proofs.fork.Goals as goal
 
@@ -10,10 +9,10 @@ fork_at-number-requires c =
 
 pub returns-in-Refused : goal.returns-in-Refused
 returns-in-Refused c = let both = Answers.refused_left c.requires.0 _ _ _ _ _ c.forking-verdict.ensures c.in-Refused.is in record {
-      reply = both.0;
-      tables = both.1.0;
-      out = both.1.1;
-    }
+  reply = both.0;
+  tables = both.1.0;
+  out = both.1.1;
+}
 
 pub returns-in-Accept : goal.returns-in-Accept
 returns-in-Accept c =

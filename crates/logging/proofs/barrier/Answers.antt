@@ -2,7 +2,6 @@
 use Rattle.model.specs.Layout.{state_of}
 use Rattle.logging.proofs.Answers.{barrier_refused, barrier_done}
 use native.Mathlib.Omega.{arith}
-use borrow.Author.Rules.{rules}
 use Rattle.logging.proofs.barrier.Goals as goal
 
 pub overflow_sub-g : goal.overflow_sub-g
@@ -19,7 +18,7 @@ returns-then-g-used-lt1 c =
     }
 
 pub returns : goal.returns
-returns c =  let both = barrier_done c.args.g c.args.t.now c.args.log.now c.wide-used.result c.wide-used.ensures _ _ c.requires.0 c.if-g-used-lt1.false c.append.ensures.1
+returns c = let both = barrier_done c.args.g c.args.t.now c.args.log.now c.wide-used.result c.wide-used.ensures _ _ c.requires.0 c.if-g-used-lt1.false c.append.ensures.1
     c.release.ensures in record {
       reply = both.0;
       tables = both.1.0;

@@ -1,15 +1,13 @@
 -- `free_list`: the pairs that the loops have still to write complete the free list.
-use borrow.Author.Rules.{rules}
 use native.Mathlib.Omega.{arith}
 use mathlib.Core.Path.{◌≡◌, refl, sym, ap, ◌∙◌}
-use Prim.Native.Nat.{◌+◌, ◌-◌, ◌*◌, ◌≤◌}
+use Prim.Native.Nat.{◌+◌, ◌*◌}
 use native.Mathlib.Nat.{zero-add, zero-mul, sub-zero}
-use Rattle.geometry.specs.Limits.{blocks}
 use Rattle.choice.specs.Words.{free_in}
 use Rattle.alloc_log.proofs.Walking.{arena_inside, arena_next}
 use Rattle.logging.proofs.Births.{words, words_long}
 use Rattle.logging.proofs.NextRun.{next_run}
-use Rattle.logging.proofs.Listing.{pairs_from, Stands, turn, last_turn, through}
+use Rattle.logging.proofs.Listing.{turn, last_turn, through}
 use Rattle.logging.proofs.Answers.{listed}
 use Rattle.logging.proofs.free_list.Goals as goal
 

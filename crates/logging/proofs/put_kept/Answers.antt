@@ -1,13 +1,12 @@
 -- `put_kept`: the words that the loops have still to write complete the compressed log.
-use borrow.Author.Rules.{rules}
 use native.Mathlib.Omega.{arith}
 use mathlib.Core.Path.{◌≡◌, refl, sym, ap, ◌∙◌}
-use Prim.Native.Nat.{◌+◌, ◌-◌, ◌*◌, ◌≤◌}
+use Prim.Native.Nat.{◌+◌, ◌-◌, ◌*◌}
 use native.Mathlib.Nat.{zero-add, zero-mul, sub-zero}
 use Rattle.alloc_log.specs.Runs.{runs}
 use Rattle.alloc_log.specs.Compress.{compressed}
 use Rattle.alloc_log.proofs.Walking.{arena_inside, arena_next}
-use Rattle.alloc_log.proofs.Compressing.{words_from, Stands, turn_emit, last_turn, through}
+use Rattle.alloc_log.proofs.Compressing.{words_from, turn_emit, last_turn, through}
 use Rattle.logging.proofs.Births.{kept}
 use Rattle.logging.proofs.Told.{kept_run, left_run}
 use Rattle.logging.proofs.put_kept.Goals as goal

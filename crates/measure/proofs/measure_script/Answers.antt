@@ -6,7 +6,6 @@ use Rattle.geometry.specs.Limits.{most_tables, most_log, most_out}
 use Rattle.session.specs.declared.Session.{Session}
 use Rattle.serving.proofs.Serving.{no_store_kept}
 use Rattle.measure.proofs.Measuring.{measures}
-use borrow.Author.Rules.{rules}
 use native.Mathlib.Omega.{arith}
 use Rattle.measure.proofs.measure_script.Goals as goal
 
@@ -17,7 +16,7 @@ serve_part-served-requires c =
     (omega (arith, length-replicate {A = ℕ} most_out 0))
 
 pub returns : goal.returns
-returns c =  let both = measures _ _ _ c.serve_part-served.result _ _ c.start-session.ensures c.serve_part-served.ensures in record {
-      count = both.0;
-      replies = both.1;
-    }
+returns c = let both = measures _ _ _ c.serve_part-served.result _ _ c.start-session.ensures c.serve_part-served.ensures in record {
+  count = both.0;
+  replies = both.1;
+}

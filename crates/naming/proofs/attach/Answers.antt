@@ -2,7 +2,6 @@
 use mathlib.Core.Path.{ap, ◌∙◌}
 use Prim.Native.Nat.{◌-◌}
 use native.Mathlib.Omega.{arith}
-use borrow.Author.Rules.{rules}
 use Rattle.naming.specs.Rows.{count_up}
 use Rattle.naming.proofs.Replies.{refuse_reply, refuse_tables}
 use Rattle.naming.proofs.Attaching

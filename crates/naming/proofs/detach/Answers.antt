@@ -1,7 +1,6 @@
 -- The call U: a refusal leaves everything, and an accepted call does what the model says.
 use mathlib.Core.Path.{◌∙◌}
 use native.Mathlib.Omega.{arith}
-use borrow.Author.Rules.{rules}
 use Rattle.naming.proofs.Replies.{refuse_reply, refuse_tables}
 use Rattle.naming.proofs.Finding
 use Rattle.naming.proofs.detach.Goals as goal

@@ -1,6 +1,5 @@
 -- The call M: a refusal leaves everything, and an accepted call gives the number of the record.
 use native.Mathlib.Omega.{arith}
-use borrow.Author.Rules.{rules}
 use Rattle.naming.proofs.Replies.{refuse_reply, refuse_out}
 use Rattle.naming.proofs.Finding
 use Rattle.naming.proofs.resolve.Goals as goal

@@ -1,9 +1,8 @@
 -- Blocks lose their births in the queue and wait, one after another.
-use borrow.Author.Rules.{rules}
 use native.Mathlib.Omega.{arith}
 use mathlib.Core.Path.{◌≡◌, refl, ap, ◌∙◌}
-use Prim.Native.Nat.{◌+◌, ◌-◌, ◌≤◌, ◌<◌}
-use lib.ListN.{length, get_or, length-set}
+use Prim.Native.Nat.{◌<◌}
+use lib.ListN.{length-set}
 use Rattle.geometry.specs.Limits.{blocks}
 use Rattle.reclaiming.specs.Stages.{ended_all}
 use Rattle.reclaiming.proofs.Listing.{firsts}

@@ -1,9 +1,8 @@
 -- The first blocks of the queue are listed, each with its birth, block after block.
-use borrow.Author.Rules.{rules}
 use native.Mathlib.Omega.{arith}
 use mathlib.Core.Path.{◌≡◌, refl, ap, ◌∙◌}
-use Prim.Native.Nat.{◌+◌, ◌-◌, ◌≤◌, ◌<◌}
-use lib.ListN.{length, get_or, take, length-set}
+use Prim.Native.Nat.{◌+◌, ◌<◌}
+use lib.ListN.{get_or, take, length-set}
 use lib.Seq.{sets}
 use Rattle.geometry.specs.Limits.{blocks}
 use Rattle.model.specs.Results.{paired}
@@ -46,8 +45,7 @@ bounds-out-i-in-loop-i c = simp length-set (omega arith)
 
 pub loop-i-preserved : goal.loop-i-preserved
 loop-i-preserved c =
-    let turn = c.loop-i in
-    (
+    let turn = c.loop-i in (
       simp length-set turn.invariant.0,
       omega arith,
       Listing.list_turn c.requires.0 turn.i (omega (arith, c.requires.1)) _ c.queue_at.ensures c.args.out.now turn.out _ _

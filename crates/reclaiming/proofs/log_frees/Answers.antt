@@ -1,10 +1,8 @@
 -- The words of the freed blocks join the log, word after word.
 use native.Mathlib.Omega.{arith}
-use borrow.Author.Rules.{rules}
-use mathlib.Core.Path.{◌≡◌, refl, ap, ◌∙◌}
-use Prim.Native.Nat.{◌+◌, ◌-◌, ◌*◌, ◌≤◌}
-use lib.ListN.{length, set, length-set}
-use Rattle.alloc_log.specs.Word.{write_at}
+use mathlib.Core.Path.{refl, ap, ◌∙◌}
+use Prim.Native.Nat.{◌+◌, ◌*◌}
+use lib.ListN.{set, length-set}
 use Rattle.reclaiming.proofs.Logging
 use Rattle.reclaiming.proofs.Logging.{freed}
 use Rattle.reclaiming.proofs.log_frees.Goals as goal

@@ -1,6 +1,5 @@
 -- The call T: a refusal leaves everything, and an accepted call does what the model says.
 use native.Mathlib.Omega.{arith}
-use borrow.Author.Rules.{rules}
 use mathlib.Core.Path.{◌≡◌, ap, ◌∙◌}
 use Rattle.reclaiming.specs.Stages.{turn}
 use Rattle.reclaiming.proofs.Answers
@@ -8,20 +7,20 @@ use Rattle.reclaiming.proofs.Answers.{Accepts}
 use Rattle.reclaiming.proofs.reclaim.Goals as goal
 
 pub returns-then-k-eq0 : goal.returns-then-k-eq0
-returns-then-k-eq0 c =  let both = Answers.none _ _ _ c.if-k-eq0.true _ _ in record {
-      reply = both.0;
-      tables = both.1.0;
-      log = both.1.1.0;
-      out = both.1.1.1;
-    }
+returns-then-k-eq0 c = let both = Answers.none _ _ _ c.if-k-eq0.true _ _ in record {
+  reply = both.0;
+  tables = both.1.0;
+  log = both.1.1.0;
+  out = both.1.1.1;
+}
 
 pub returns-then-k-gt64 : goal.returns-then-k-gt64
-returns-then-k-gt64 c =  let both = Answers.large _ _ _ c.if-k-eq0.false c.if-k-gt64.true _ _ in record {
-      reply = both.0;
-      tables = both.1.0;
-      log = both.1.1.0;
-      out = both.1.1.1;
-    }
+returns-then-k-gt64 c = let both = Answers.large _ _ _ c.if-k-eq0.false c.if-k-gt64.true _ _ in record {
+  reply = both.0;
+  tables = both.1.0;
+  log = both.1.1.0;
+  out = both.1.1.1;
+}
 
 pub overflow_sub-g : goal.overflow_sub-g
 overflow_sub-g c =

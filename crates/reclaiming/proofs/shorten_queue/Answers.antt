@@ -1,12 +1,9 @@
 -- The other blocks of the queue move down, number after number; then its length is stored.
-use borrow.Author.Rules.{rules}
 use native.Mathlib.Omega.{arith}
-use mathlib.Core.Path.{◌≡◌, refl, ap}
-use Prim.Native.Nat.{◌-◌, ◌≤◌}
-use lib.ListN.{length, length-set}
-use lib.Seq.{sets}
+use mathlib.Core.Path.{refl, ap}
+use Prim.Native.Nat.{◌-◌}
+use lib.ListN.{length-set}
 use Rattle.geometry.specs.Limits.{blocks}
-use Rattle.model.specs.Layout.{queue_cell, numbers}
 use Rattle.reclaiming.proofs.Ending
 use Rattle.reclaiming.proofs.shorten_queue.Goals as goal
 

@@ -1,20 +1,19 @@
 -- K: three refusals, then the window is stored.
-use borrow.Author.Rules.{rules}
 use lib.ListN.{length-set}
 use Rattle.retaining.proofs.Retaining
 use Rattle.retaining.proofs.retain.Goals as goal
 
 pub returns-then-most-eq0 : goal.returns-then-most-eq0
-returns-then-most-eq0 c =  let both = Retaining.none c.requires.0 _ _ c.if-most-eq0.true in record {
-      reply = both.0;
-      tables = both.1;
-    }
+returns-then-most-eq0 c = let both = Retaining.none c.requires.0 _ _ c.if-most-eq0.true in record {
+  reply = both.0;
+  tables = both.1;
+}
 
 pub returns-then-most-gt62 : goal.returns-then-most-gt62
-returns-then-most-gt62 c =  let both = Retaining.large c.requires.0 _ _ c.if-most-eq0.false c.if-most-gt62.true in record {
-      reply = both.0;
-      tables = both.1;
-    }
+returns-then-most-gt62 c = let both = Retaining.large c.requires.0 _ _ c.if-most-eq0.false c.if-most-gt62.true in record {
+  reply = both.0;
+  tables = both.1;
+}
 
 pub returns-then-link-eq0 : goal.returns-then-link-eq0
 returns-then-link-eq0 c =

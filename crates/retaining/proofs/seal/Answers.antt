@@ -1,6 +1,5 @@
 -- The call S: a refusal leaves everything; in a line with a window `close` does the rest, in another the seal is all.
 use native.Mathlib.Omega.{arith}
-use borrow.Author.Rules.{rules}
 use Rattle.retaining.proofs.Closing
 use Rattle.retaining.proofs.Sealing
 use Rattle.retaining.proofs.seal.Goals as goal
@@ -52,11 +51,11 @@ seal_at-requires c =
     (c.requires.0, rules.0, rules.1, rules.2, rules.3, rules.4, rules.5)
 
 pub returns-in-Refused : goal.returns-in-Refused
-returns-in-Refused c =  let both = Sealing.refused_left c.requires.0 _ _ c.sealing-verdict.ensures _ c.in-Refused.is c.args.out.now in record {
-      reply = both.0;
-      tables = both.1.0;
-      out = both.1.1;
-    }
+returns-in-Refused c = let both = Sealing.refused_left c.requires.0 _ _ c.sealing-verdict.ensures _ c.in-Refused.is c.args.out.now in record {
+  reply = both.0;
+  tables = both.1.0;
+  out = both.1.1;
+}
 
 pub returns-else-window-ne0 : goal.returns-else-window-ne0
 returns-else-window-ne0 c =

@@ -1,12 +1,7 @@
 -- `serve_part`: what is left of the part is the whole of it, line by line.
 use mathlib.Core.Path.{refl}
-use Prim.Native.Nat.{◌-◌}
-use lib.ListN.{length}
-use Rattle.model.specs.Memory.{lent}
-use Rattle.serving.specs.Part.{begun, served}
-use Rattle.serving.proofs.Serving.{Running, begins, at_end, when_full, name_inside, room, turned}
+use Rattle.serving.proofs.Serving.{begins, at_end, when_full, name_inside, room, turned}
 use native.Mathlib.Omega.{arith}
-use borrow.Author.Rules.{rules}
 use Rattle.serving.proofs.serve_part.Goals as goal
 
 pub returns-then-replies-lt-LONGEST : goal.returns-then-replies-lt-LONGEST

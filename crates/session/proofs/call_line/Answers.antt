@@ -2,7 +2,6 @@
 use Rattle.model.specs.Command.{command}
 use Rattle.engine.proofs.Untouched.{found_link}
 use Rattle.session.proofs.Stepping.{no_store_lem, perform_asks, called, stepping_as, unmade_hints, call_hints}
-use borrow.Author.Rules.{rules}
 use native.Mathlib.Omega.{arith}
 use Rattle.session.proofs.call_line.Goals as goal
 

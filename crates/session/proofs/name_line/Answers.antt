@@ -2,7 +2,6 @@
 use Rattle.model.specs.Command.{Command, command_on}
 use Rattle.engine.proofs.Untouched.{found_link, copy_looked, copy_named, name_performed}
 use Rattle.session.proofs.Stepping.{no_store_lem, perform_asks, called, stepping_as, unmade_hints, call_hints}
-use borrow.Author.Rules.{rules}
 use native.Mathlib.Omega.{arith}
 use Rattle.session.proofs.name_line.Goals as goal
 

@@ -4,7 +4,6 @@ use lib.ListN.{length}
 use Rattle.script.specs.Said.{NameAt}
 use Rattle.script.specs.Spoken.{spoken_at}
 use Rattle.session.proofs.Stepping.{no_call, is_no, name_lies, name_asks, told_as, stepping_as, store_hints, no_hints}
-use borrow.Author.Rules.{rules}
 use native.Mathlib.Omega.{arith}
 use Rattle.session.proofs.other_line.Goals as goal
 

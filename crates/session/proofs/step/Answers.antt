@@ -2,7 +2,6 @@
 use mathlib.Core.Path.{refl, ap}
 use Rattle.script.specs.Spoken.{spoken_at}
 use Rattle.session.proofs.Stepping.{is_uncalled, promised}
-use borrow.Author.Rules.{rules}
 use Rattle.session.proofs.step.Goals as goal
 
 pub other_line-requires : goal.other_line-requires

@@ -4,7 +4,6 @@ use Rattle.geometry.specs.Limits.{making_of}
 use Rattle.alloc_log.proofs.Tools.{made_of, outside}
 use Rattle.session.specs.Step.{geometry_in}
 use Rattle.session.proofs.Stepping.{six_made, store_outside, store_refused, store_done, stepping_as}
-use borrow.Author.Rules.{rules}
 use Rattle.session.proofs.store_line.Goals as goal
 
 pub returns-in_default : goal.returns-in_default

@@ -1,11 +1,10 @@
 -- `sogvect_log_compact`: what `compact` promises, coded.
 use Rattle.sogvect.proofs.Coding.{was_compacted}
-use borrow.Author.Rules.{rules}
 use Rattle.sogvect.proofs.sogvect_log_compact.Goals as goal
 
 pub returns : goal.returns
-returns c =  let both = was_compacted _ _ _ _ _ _ _ (c.compact-c.ensures.reply, c.compact-c.ensures.out) (c.compacted.ensures.code, c.compacted.ensures.count) in record {
-      code = both.0;
-      count = both.1.0;
-      out = both.1.1;
-    }
+returns c = let both = was_compacted _ _ _ _ _ _ _ (c.compact-c.ensures.reply, c.compact-c.ensures.out) (c.compacted.ensures.code, c.compacted.ensures.count) in record {
+  code = both.0;
+  count = both.1.0;
+  out = both.1.1;
+}

@@ -1,7 +1,6 @@
 -- `sogvect_make`: what `make` promises, coded.
 use mathlib.Core.Path.{◌∙◌}
 use Rattle.sogvect.proofs.Coding.{code_is}
-use borrow.Author.Rules.{rules}
 use Rattle.sogvect.proofs.sogvect_make.Goals as goal
 
 pub returns : goal.returns

@@ -1,5 +1,4 @@
 -- The call D: a refusal leaves everything, and an accepted call does what the model says.
-use borrow.Author.Rules.{rules}
 use Rattle.deleting.proofs.Verdicts
 use Rattle.deleting.proofs.Calling
 use Rattle.deleting.proofs.delete.delete.Goals as goal

@@ -1,6 +1,5 @@
 -- A record is taken out of its line, the blocks that only it had are queued, and it leaves the store.
 use native.Mathlib.Omega.{arith}
-use borrow.Author.Rules.{rules}
 use Prim.Native.Nat.{◌<◌}
 use lib.ListN.{length-set}
 use Rattle.tables.proofs.Ranges

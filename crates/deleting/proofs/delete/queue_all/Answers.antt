@@ -1,9 +1,7 @@
 -- Blocks are queued, one after another.
 use native.Mathlib.Omega.{arith}
-use borrow.Author.Rules.{rules}
 use mathlib.Core.Path.{◌≡◌, refl, ap, ◌∙◌}
-use Prim.Native.Nat.{◌+◌, ◌-◌, ◌≤◌}
-use lib.ListN.{length, get_or, take}
+use lib.ListN.{take}
 use Rattle.geometry.specs.Limits.{blocks}
 use Rattle.deleting.specs.Stages.{queued_all}
 use Rattle.deleting.proofs.Leaving

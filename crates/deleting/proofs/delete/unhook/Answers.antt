@@ -1,6 +1,5 @@
 -- A record is taken out of its line, on either way.
 use native.Mathlib.Omega.{arith}
-use borrow.Author.Rules.{rules}
 use mathlib.Core.Path.{◌≡◌, ap, ◌∙◌}
 use Prim.Native.Nat.{suc, ◌-◌}
 use lib.ListN.{length}

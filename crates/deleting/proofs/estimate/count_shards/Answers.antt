@@ -1,6 +1,5 @@
 -- The blocks are listed, sorted, and their stretches counted.
 use native.Mathlib.Omega.{arith}
-use borrow.Author.Rules.{rules}
 use mathlib.Core.Path.{◌∙◌}
 use Rattle.deleting.proofs.Estimating
 use Rattle.deleting.proofs.estimate.count_shards.Goals as goal

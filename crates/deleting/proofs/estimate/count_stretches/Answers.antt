@@ -1,11 +1,7 @@
 -- Where a block's birth is not that of the block before it, a stretch begins.
 use native.Mathlib.Omega.{arith}
-use borrow.Author.Rules.{rules}
-use mathlib.Core.Path.{◌≡◌, sym}
-use Prim.Native.Nat.{◌+◌, ◌-◌, ◌≤◌}
-use lib.ListN.{take, drop}
+use mathlib.Core.Path.{sym}
 use Rattle.model.specs.Layout.{view_of}
-use Rattle.model.specs.Sorted.{stretches}
 use Rattle.deleting.proofs.Sifting
 use Rattle.deleting.proofs.Estimating
 use Rattle.deleting.proofs.estimate.count_stretches.Goals as goal

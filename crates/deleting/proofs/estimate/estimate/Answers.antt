@@ -1,6 +1,5 @@
 -- The call Q: its three refusals, and its three numbers.
 use native.Mathlib.Omega.{arith}
-use borrow.Author.Rules.{rules}
 use Prim.Native.Nat.{◌-◌}
 use lib.ListN.{set, length-set}
 use Rattle.deleting.proofs.Calling
@@ -10,9 +9,9 @@ use Rattle.deleting.proofs.estimate.estimate.Goals as goal
 
 pub returns-then-link-eq0 : goal.returns-then-link-eq0
 returns-then-link-eq0 c = let both = Estimating.not_there _ _ _ _ _ c.requires.2.0 c.if-link-eq0.true in record {
-      reply = both.0;
-      out = both.1;
-    }
+  reply = both.0;
+  out = both.1;
+}
 
 pub returns-then-is_forked : goal.returns-then-is_forked
 returns-then-is_forked c = let both = Estimating.has_a_fork _ _ _ _ _ c.requires.2.0 c.if-link-eq0.false _
@@ -32,13 +31,12 @@ pub follower_of-follower-requires : goal.follower_of-follower-requires
 follower_of-follower-requires c = (c.requires.0, omega arith)
 
 pub count_frees-requires : goal.count_frees-requires
-count_frees-requires c =
-    (
-      c.requires.0,
-      omega (arith, c.requires.2.1),
-      Verdicts.slot_live _ _ _ _ c.requires.2.0 c.if-link-eq0.false c.requires.0,
-      c.follower_of-follower.ensures.range,
-    )
+count_frees-requires c = (
+  c.requires.0,
+  omega (arith, c.requires.2.1),
+  Verdicts.slot_live _ _ _ _ c.requires.2.0 c.if-link-eq0.false c.requires.0,
+  c.follower_of-follower.ensures.range,
+)
 
 pub overflow_cast-out : goal.overflow_cast-out
 overflow_cast-out c =
@@ -50,13 +48,12 @@ bounds-out-1 c =
     omega (arith, c.requires.1, length-set c.args.out.now 0 c.count_frees.result)
 
 pub shards_of-requires : goal.shards_of-requires
-shards_of-requires c =
-    (
-      c.requires.0,
-      omega (arith, c.requires.2.1),
-      Verdicts.slot_live _ _ _ _ c.requires.2.0 c.if-link-eq0.false c.requires.0,
-      c.follower_of-follower.ensures.range,
-    )
+shards_of-requires c = (
+  c.requires.0,
+  omega (arith, c.requires.2.1),
+  Verdicts.slot_live _ _ _ _ c.requires.2.0 c.if-link-eq0.false c.requires.0,
+  c.follower_of-follower.ensures.range,
+)
 
 pub bounds-out-2 : goal.bounds-out-2
 bounds-out-2 c =

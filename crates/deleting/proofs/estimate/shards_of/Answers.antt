@@ -1,6 +1,5 @@
 -- None, or those of the record that follows.
 use native.Mathlib.Omega.{arith}
-use borrow.Author.Rules.{rules}
 use mathlib.Core.Path.{◌∙◌}
 use Rattle.model.specs.Layout.{view_of}
 use Rattle.deleting.proofs.Estimating

@@ -1,12 +1,8 @@
 -- The blocks of the pages passed are counted, and `rest` is what is left of the word.
-use mathlib.Core.Path.{◌≡◌, sym, ap, ◌∙◌}
-use Prim.Native.Nat.{◌+◌, ◌-◌, ◌/◌, ◌^◌, ◌≤◌}
+use mathlib.Core.Path.{sym, ap, ◌∙◌}
 use lib.Count.{count_trailing_zeros}
 use lib.ListN.{length}
-use Rattle.choice.specs.Words.{word_of}
 use Rattle.choice.proofs.Runs.{zeros_fit}
-use Rattle.model.specs.Lists.{rows}
-use Rattle.model.specs.Check.{own_at}
 use Rattle.model.specs.Layout.{view_of}
 use Rattle.tables.specs.Rows.{differs}
 use Rattle.tables.proofs.PagesWord.{bits_next, bits_inside, bits_few}

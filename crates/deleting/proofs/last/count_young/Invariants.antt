@@ -1,13 +1,10 @@
 -- Blocks that the pred has not are counted, word by word.
-use mathlib.Core.Path.{◌≡◌, refl, ap, ◌∙◌}
-use Prim.Native.Nat.{◌+◌, ◌-◌, ◌≤◌}
+use mathlib.Core.Path.{◌≡◌}
+use Prim.Native.Nat.{◌-◌, ◌≤◌}
 use lib.ListN.{length}
 use Rattle.model.specs.Lists.{rows}
 use Rattle.model.specs.Check.{own_at}
 use Rattle.model.specs.Layout.{view_of}
-use Rattle.deleting.proofs.Owning
-use borrow.Author.Rules.{rules}
-use native.Mathlib.Omega.{arith}
 use Rattle.deleting.proofs.last.count_young.Given as goal
 
 abbrev pub invariant-loop-x : goal.invariant-loop-x

@@ -1,13 +1,10 @@
 -- The blocks of the pages passed are listed, and `rest` is what is left of the word.
-use mathlib.Core.Path.{◌≡◌, refl, sym, ap, ◌∙◌}
-use Prim.Native.Nat.{◌+◌, ◌-◌, ◌/◌, ◌^◌, ◌≤◌}
+use mathlib.Core.Path.{refl, sym, ap, ◌∙◌}
+use Prim.Native.Nat.{◌+◌}
 use lib.Count.{count_trailing_zeros}
 use lib.ListN.{length, length-set}
 use lib.Seq.{sets}
-use Rattle.choice.specs.Words.{word_of}
 use Rattle.choice.proofs.Runs.{zeros_fit}
-use Rattle.model.specs.Lists.{rows}
-use Rattle.model.specs.Check.{own_at}
 use Rattle.model.specs.Layout.{view_of}
 use Rattle.tables.specs.Rows.{differs}
 use Rattle.tables.proofs.PagesWord.{bits_next, bits_inside, bits_few}

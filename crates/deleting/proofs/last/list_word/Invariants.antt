@@ -1,22 +1,17 @@
 -- The blocks of the pages passed are listed, and `rest` is what is left of the word.
-use mathlib.Core.Path.{◌≡◌, refl, sym, ap, ◌∙◌}
+use mathlib.Core.Path.{◌≡◌}
 use Prim.Native.Nat.{◌+◌, ◌-◌, ◌/◌, ◌^◌, ◌≤◌}
-use lib.Count.{count_trailing_zeros}
-use lib.ListN.{length, length-set}
+use lib.ListN.{length}
 use lib.Seq.{sets}
 use Rattle.choice.specs.Words.{word_of}
-use Rattle.choice.proofs.Runs.{zeros_fit}
 use Rattle.model.specs.Lists.{rows}
 use Rattle.model.specs.Check.{own_at}
 use Rattle.model.specs.Layout.{view_of}
 use Rattle.tables.specs.Rows.{differs}
-use Rattle.tables.proofs.PagesWord.{bits_next, bits_inside, bits_few}
-use Rattle.deleting.proofs.Owning
-use native.Mathlib.Omega.{arith}
 use Rattle.deleting.proofs.last.list_word.Given as goal
 
 abbrev pub invariant-loop-rest : goal.invariant-loop-rest
-invariant-loop-rest l =     (length l.out ≡ length l.initial.out) × (l.x ≤ l.y) × (l.y ≤ l.x + l.n) × (l.rest ≡ word_of (differs (view_of l.g l.t) l.s l.pred) l.x l.n / 2 ^ (l.y - l.x)) × (l.found ≤ l.y) ×
+invariant-loop-rest l = (length l.out ≡ length l.initial.out) × (l.x ≤ l.y) × (l.y ≤ l.x + l.n) × (l.rest ≡ word_of (differs (view_of l.g l.t) l.s l.pred) l.x l.n / 2 ^ (l.y - l.x)) × (l.found ≤ l.y) ×
     (l.found ≡ l.count + length (rows (own_at (view_of l.g l.t) l.s) l.x (l.y - l.x))) × (l.out ≡ sets l.initial.out l.count (rows (own_at (view_of l.g l.t) l.s) l.x (l.y - l.x)))
 
 abbrev pub decreases-loop-rest : goal.decreases-loop-rest

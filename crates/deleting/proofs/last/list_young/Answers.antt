@@ -1,13 +1,10 @@
 -- Blocks that the pred has not are listed, word by word.
-use mathlib.Core.Path.{◌≡◌, refl, ap, ◌∙◌}
-use Prim.Native.Nat.{◌-◌, ◌≤◌}
+use mathlib.Core.Path.{refl, ap, ◌∙◌}
 use lib.ListN.{length}
 use lib.Seq.{sets}
 use Rattle.model.specs.Lists.{rows}
-use Rattle.model.specs.Check.{own_at}
 use Rattle.model.specs.Layout.{view_of}
 use Rattle.deleting.proofs.Owning
-use borrow.Author.Rules.{rules}
 use native.Mathlib.Omega.{arith}
 use Rattle.deleting.proofs.last.list_young.Goals as goal
 

@@ -1,6 +1,5 @@
 -- A page of a row.
 use mathlib.Core.Path.{sym}
-use borrow.Author.Rules.{rules}
 use Rattle.tables.proofs.Fields
 use Rattle.deleting.proofs.last.page_at.Goals as goal
 

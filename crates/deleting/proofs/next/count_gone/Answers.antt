@@ -1,9 +1,7 @@
 -- The blocks that leave it, counted along the deadlist.
 use native.Mathlib.Omega.{arith}
-use borrow.Author.Rules.{rules}
-use mathlib.Core.Path.{◌≡◌, refl, sym, ap, ◌∙◌}
-use Prim.Native.Nat.{◌-◌, ◌≤◌}
-use lib.ListN.{length, take}
+use mathlib.Core.Path.{refl, sym, ap, ◌∙◌}
+use lib.ListN.{length}
 use Rattle.model.specs.Lists.{keep_if}
 use Rattle.model.specs.Window.{born_above}
 use Rattle.model.specs.Layout.{view_of}

@@ -1,15 +1,8 @@
 -- The blocks that leave it, counted along the deadlist.
-use native.Mathlib.Omega.{arith}
-use borrow.Author.Rules.{rules}
-use mathlib.Core.Path.{◌≡◌, refl, sym, ap, ◌∙◌}
+use mathlib.Core.Path.{◌≡◌}
 use Prim.Native.Nat.{◌-◌, ◌≤◌}
 use lib.ListN.{length, take}
-use Rattle.model.specs.Lists.{keep_if}
-use Rattle.model.specs.Window.{born_above}
 use Rattle.model.specs.Layout.{view_of}
-use Rattle.tables.proofs.Fields
-use Rattle.tables.proofs.Ranges
-use Rattle.deleting.proofs.Parting
 use Rattle.deleting.specs.Stages.{younger}
 use Rattle.deleting.proofs.next.count_gone.Given as goal
 

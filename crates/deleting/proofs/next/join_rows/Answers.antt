@@ -1,11 +1,7 @@
 -- A deadlist is copied behind another.
 use native.Mathlib.Omega.{arith}
-use borrow.Author.Rules.{rules}
-use mathlib.Core.Path.{◌≡◌, refl}
-use Prim.Native.Nat.{◌+◌, ◌-◌, ◌≤◌}
-use lib.ListN.{length, take, length-set}
-use lib.Seq.{sets}
-use Rattle.model.specs.Layout.{list_cell, view_of}
+use mathlib.Core.Path.{refl}
+use lib.ListN.{length-set}
 use Rattle.deleting.proofs.Parting
 use Rattle.deleting.proofs.Joining
 use Rattle.deleting.proofs.next.join_rows.Goals as goal

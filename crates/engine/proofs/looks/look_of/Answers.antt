@@ -1,6 +1,5 @@
 -- `look_of`: the arm of each look, and one for the calls that do more.
 use Rattle.engine.proofs.Looking.{seen_as, not_seen}
-use borrow.Author.Rules.{rules}
 use Rattle.engine.specs.declared.looks.Look.TheVariants as look
 use Rattle.engine.proofs.looks.look_of.Goals as goal
 

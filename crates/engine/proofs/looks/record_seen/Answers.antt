@@ -1,5 +1,4 @@
 -- `record_seen` meets its contract, look by look.
-use borrow.Author.Rules.{rules}
 use Rattle.engine.proofs.looks.record_seen.Goals as goal
 
 pub returns-in-Read : goal.returns-in-Read

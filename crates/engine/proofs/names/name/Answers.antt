@@ -1,7 +1,6 @@
 -- `name`: each arm is one call of a name; what it is not lent stays.
 use mathlib.Core.Path.{refl}
 use Rattle.engine.proofs.Untouched.{out_stays, tables_stay, name_link, of_name}
-use borrow.Author.Rules.{rules}
 use Rattle.engine.proofs.names.name.Goals as goal
 
 pub attach-requires : goal.attach-requires

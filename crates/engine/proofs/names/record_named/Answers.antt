@@ -1,5 +1,4 @@
 -- `record_named` meets its contract, call by call.
-use borrow.Author.Rules.{rules}
 use Rattle.engine.proofs.names.record_named.Goals as goal
 
 pub returns-in-Attach : goal.returns-in-Attach

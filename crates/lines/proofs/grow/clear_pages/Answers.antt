@@ -1,7 +1,5 @@
 -- The pages of slot f become empty: at each turn the first x of them are.
-use borrow.Author.Rules.{rules}
 use native.Mathlib.Omega.{arith}
-use Prim.Native.Nat.{◌-◌, ◌≤◌}
 use Rattle.lines.proofs.Growing
 use Rattle.lines.proofs.grow.clear_pages.Goals as goal
 
@@ -21,7 +19,7 @@ shape_of-t c = Growing.paging_length c.requires.0 _ _ _ _ c.loop-x.invariant.1
 
 pub returns : goal.returns
 returns c = record {
-      is =
+  is =
       let i = c.loop-x.invariant in
-    Growing.paging_last c.requires.0 _ _ _ _ i.1 (omega arith);
-    }
+      Growing.paging_last c.requires.0 _ _ _ _ i.1 (omega arith);
+}

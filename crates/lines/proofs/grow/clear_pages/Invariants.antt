@@ -1,6 +1,4 @@
 -- The pages of slot f become empty: at each turn the first x of them are.
-use borrow.Author.Rules.{rules}
-use native.Mathlib.Omega.{arith}
 use Prim.Native.Nat.{◌-◌, ◌≤◌}
 use Rattle.lines.proofs.Growing
 use Rattle.lines.proofs.grow.clear_pages.Given as goal

@@ -1,7 +1,5 @@
 -- The pages of slot f become those of slot s: at each turn the first x of them are.
-use borrow.Author.Rules.{rules}
 use native.Mathlib.Omega.{arith}
-use Prim.Native.Nat.{suc, ◌-◌, ◌≤◌}
 use Rattle.lines.proofs.Growing
 use Rattle.lines.proofs.grow.copy_pages.Goals as goal
 
@@ -24,7 +22,7 @@ shape_of-t c = Growing.paging_length c.requires.0 _ _ _ _ c.loop-x.invariant.1
 
 pub returns : goal.returns
 returns c = record {
-      is =
+  is =
       let i = c.loop-x.invariant in
-    Growing.paging_last c.requires.0 _ _ _ _ i.1 (omega arith);
-    }
+      Growing.paging_last c.requires.0 _ _ _ _ i.1 (omega arith);
+}

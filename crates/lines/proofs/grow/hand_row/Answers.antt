@@ -1,6 +1,5 @@
 -- A row of names goes to another slot.
 use native.Mathlib.Omega.{arith}
-use borrow.Author.Rules.{rules}
 use Rattle.lines.proofs.Growing
 use Rattle.lines.proofs.grow.hand_row.Goals as goal
 

@@ -1,6 +1,5 @@
 -- The name of a record goes to another slot: its row, then its count.
 use native.Mathlib.Omega.{arith}
-use borrow.Author.Rules.{rules}
 use Rattle.lines.proofs.Growing
 use Rattle.lines.proofs.grow.move_name.Goals as goal
 

@@ -1,6 +1,5 @@
 -- A new record: the code stores just the numbers of `opened`.
 use native.Mathlib.Omega.{arith}
-use borrow.Author.Rules.{rules}
 use mathlib.Core.Path.{refl}
 use lib.ListN.{length-set}
 use Rattle.lines.specs.Growing.{opened}
@@ -33,6 +32,6 @@ shape_of-t c = simp length-set
 pub returns : goal.returns
 unfolding opened
 returns c = record {
-      is = refl;
-      number = refl;
-    }
+  is = refl;
+  number = refl;
+}

@@ -1,5 +1,4 @@
 -- The verdict on F: 8, then 9 on an open record, then what `room` says.
-use borrow.Author.Rules.{rules}
 use Rattle.lines.proofs.Verdicts
 use Rattle.lines.proofs.verdict.forking.Goals as goal
 

@@ -1,5 +1,4 @@
 -- The refusals 11 and 12, in their order.
-use borrow.Author.Rules.{rules}
 use Rattle.lines.proofs.Verdicts
 use Rattle.lines.proofs.verdict.room.Goals as goal
 

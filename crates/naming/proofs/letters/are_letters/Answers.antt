@@ -1,10 +1,7 @@
 -- `are_letters`: the bytes from i on are letters just where all are.
 use mathlib.Core.Path.{refl, ap, ◌∙◌}
-use Prim.Native.Nat.{◌≤◌, ◌-◌}
 use native.Mathlib.Omega.{arith}
-use lib.ListN.{length}
-use borrow.Author.Rules.{rules}
-use Rattle.naming.proofs.Spelling.{letter?, Lettered, letters_stop, letters_go, letters_end}
+use Rattle.naming.proofs.Spelling.{letter?, letters_stop, letters_go, letters_end}
 use Rattle.naming.proofs.letters.are_letters.Goals as goal
 
 pub loop-i-init : goal.loop-i-init
@@ -19,7 +16,6 @@ loop-i-preserved c = (
   omega arith,
   letters_go _ _ c.loop-i.invariant.1
       (c.is_letter.ensures ∙ ap letter? c.letter_of.ensures) c.loop-i-test.true c.if-not-is_letter.false-raw,
-
 )
 
 pub returns : goal.returns

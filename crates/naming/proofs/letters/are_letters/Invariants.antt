@@ -1,10 +1,7 @@
 -- `are_letters`: the bytes from i on are letters just where all are.
-use mathlib.Core.Path.{refl, ap, ◌∙◌}
 use Prim.Native.Nat.{◌≤◌, ◌-◌}
-use native.Mathlib.Omega.{arith}
 use lib.ListN.{length}
-use borrow.Author.Rules.{rules}
-use Rattle.naming.proofs.Spelling.{letter?, Lettered, letters_stop, letters_go, letters_end}
+use Rattle.naming.proofs.Spelling.{Lettered}
 use Rattle.naming.proofs.letters.are_letters.Given as goal
 
 abbrev pub invariant-loop-i : goal.invariant-loop-i

@@ -1,5 +1,4 @@
 -- `is_valid`: its length, then its letters.
-use borrow.Author.Rules.{rules}
 use Rattle.naming.proofs.Spelling.{valid_none, valid_long, valid_is}
 use Rattle.naming.proofs.letters.is_valid.Goals as goal
 

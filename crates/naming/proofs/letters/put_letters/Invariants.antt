@@ -1,11 +1,8 @@
 -- `put_letters`: the bytes before i are stored.
-use mathlib.Core.Path.{◌≡◌, refl}
+use mathlib.Core.Path.{◌≡◌}
 use Prim.Native.Nat.{◌≤◌, ◌-◌}
-use native.Mathlib.Omega.{arith}
-use lib.ListN.{length, take, length-set}
+use lib.ListN.{length, take}
 use lib.Seq.{sets}
-use borrow.Author.Rules.{rules}
-use Rattle.naming.proofs.Spelling.{stored_next, stored_all}
 use Rattle.naming.proofs.letters.put_letters.Given as goal
 
 abbrev pub invariant-loop-i : goal.invariant-loop-i

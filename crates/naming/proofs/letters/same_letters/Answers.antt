@@ -1,10 +1,6 @@
 -- `same_letters`: the lengths are the same, and the letters before i.
-use mathlib.Core.Path.{◌≡◌}
-use Prim.Native.Nat.{◌≤◌, ◌-◌}
 use native.Mathlib.Omega.{arith}
-use lib.ListN.{length}
-use borrow.Author.Rules.{rules}
-use Rattle.naming.proofs.Spelling.{Same, same_start, same_next, length_differs, letter_differs, letters_agree}
+use Rattle.naming.proofs.Spelling.{same_start, same_next, length_differs, letter_differs, letters_agree}
 use Rattle.naming.proofs.letters.same_letters.Goals as goal
 
 pub returns-then-n-name : goal.returns-then-n-name

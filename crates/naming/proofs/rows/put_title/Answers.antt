@@ -1,7 +1,6 @@
 -- `put_title`: link, length and letters are stored, one after another.
 use native.Mathlib.Omega.{arith}
 use lib.ListN.{length-set}
-use borrow.Author.Rules.{rules}
 use Rattle.model.specs.Layout.{title_cell}
 use Rattle.tables.specs.Titles.{title_put}
 use Rattle.naming.proofs.rows.put_title.Goals as goal

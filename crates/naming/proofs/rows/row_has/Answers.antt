@@ -1,5 +1,4 @@
 -- `row_has`: an empty row has no name; in another the letters were compared.
-use borrow.Author.Rules.{rules}
 use Rattle.naming.proofs.Searching.{has_none, has_name_lem}
 use Rattle.naming.proofs.rows.row_has.Goals as goal
 

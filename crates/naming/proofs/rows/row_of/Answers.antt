@@ -1,8 +1,6 @@
 -- `row_of`: what is left to look at has the same first row.
-use Prim.Native.Nat.{◌≤◌, ◌-◌}
 use native.Mathlib.Omega.{arith}
-use borrow.Author.Rules.{rules}
-use Rattle.naming.proofs.Searching.{Left, left_first, left_none, left_here, left_next}
+use Rattle.naming.proofs.Searching.{left_first, left_none, left_here, left_next}
 use Rattle.naming.proofs.rows.row_of.Goals as goal
 
 pub loop-i-init : goal.loop-i-init
@@ -10,9 +8,9 @@ loop-i-init c = (omega arith, left_first _ _)
 
 pub returns-then-row_has : goal.returns-then-row_has
 returns-then-row_has c = record {
-      is = left_here _ _ _ c.loop-i.invariant.1 c.row_has.ensures c.loop-i-test.true c.if-row_has.true;
-      range = omega arith;
-    }
+  is = left_here _ _ _ c.loop-i.invariant.1 c.row_has.ensures c.loop-i-test.true c.if-row_has.true;
+  range = omega arith;
+}
 
 pub loop-i-preserved : goal.loop-i-preserved
 loop-i-preserved c =
@@ -20,6 +18,6 @@ loop-i-preserved c =
 
 pub returns : goal.returns
 returns c = record {
-      is = left_none _ _ _ c.loop-i.invariant.1 c.loop-i-test.false;
-      range = omega arith;
-    }
+  is = left_none _ _ _ c.loop-i.invariant.1 c.loop-i-test.false;
+  range = omega arith;
+}

@@ -1,8 +1,6 @@
 -- `row_of`: what is left to look at has the same first row.
 use Prim.Native.Nat.{◌≤◌, ◌-◌}
-use native.Mathlib.Omega.{arith}
-use borrow.Author.Rules.{rules}
-use Rattle.naming.proofs.Searching.{Left, left_first, left_none, left_here, left_next}
+use Rattle.naming.proofs.Searching.{Left}
 use Rattle.naming.proofs.rows.row_of.Given as goal
 
 abbrev pub invariant-loop-i : goal.invariant-loop-i

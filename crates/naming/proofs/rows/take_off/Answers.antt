@@ -3,7 +3,6 @@ use mathlib.Core.Path.{◌≡◌, ap, ◌∙◌}
 use Prim.Native.Nat.{pred, ◌-◌}
 use native.Mathlib.Omega.{arith}
 use lib.ListN.{get_or, set}
-use borrow.Author.Rules.{rules}
 use Rattle.model.specs.Layout.{title_cell}
 use Rattle.tables.specs.Titles.{title_off}
 use Rattle.naming.specs.Rows.{count_down, taken_off}

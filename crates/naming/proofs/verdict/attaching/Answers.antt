@@ -1,6 +1,5 @@
 -- `attaching`: the refusals of N, one by one.
 use native.Mathlib.Omega.{arith}
-use borrow.Author.Rules.{rules}
 use Rattle.naming.proofs.Spelling.{valid_short}
 use Rattle.naming.proofs.Verdicts.{attach_bad, attach_absent, attach_used, attach_second, attach_full, attach_row}
 use Rattle.naming.proofs.verdict.attaching.Goals as goal

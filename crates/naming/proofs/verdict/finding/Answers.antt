@@ -1,6 +1,5 @@
 -- `finding`: the refusals of U and M, one by one.
 use native.Mathlib.Omega.{arith}
-use borrow.Author.Rules.{rules}
 use Rattle.naming.proofs.Spelling.{valid_short}
 use Rattle.naming.proofs.Verdicts.{find_bad, find_none, find_row}
 use Rattle.naming.proofs.verdict.finding.Goals as goal

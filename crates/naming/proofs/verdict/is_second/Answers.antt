@@ -1,5 +1,4 @@
 -- `is_second`: of a record that is not open nothing else is asked.
-use borrow.Author.Rules.{rules}
 use Rattle.naming.proofs.Verdicts.{second_sealed, second_open}
 use Rattle.naming.proofs.verdict.is_second.Goals as goal
 

@@ -1,5 +1,4 @@
 -- E: a refusal leaves everything; else the action leaves what the model says.
-use borrow.Author.Rules.{rules}
 use Rattle.paging.proofs.Answers
 use Rattle.paging.proofs.Erasing
 use Rattle.paging.proofs.erase.erase.Goals as goal

@@ -1,6 +1,5 @@
 -- The page is emptied; a block that is freed is logged and given.
 use native.Mathlib.Omega.{arith}
-use borrow.Author.Rules.{rules}
 use mathlib.Core.Path.{◌∙◌}
 use lib.ListN.{length-set}
 use Rattle.paging.proofs.Erasing

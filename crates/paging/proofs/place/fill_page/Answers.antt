@@ -1,5 +1,4 @@
 -- The old block is killed, the new one is put there, the mark and the turn move.
-use borrow.Author.Rules.{rules}
 use Rattle.paging.proofs.Placing
 use Rattle.paging.proofs.place.fill_page.Goals as goal
 
@@ -13,6 +12,6 @@ turn_on-requires c = let A = c.requires.0 in let P = c.requires.1 in let k = c.k
 
 pub returns : goal.returns
 returns c = record {
-      freed = c.kill_on-killed.ensures.freed;
-      tables = Placing.page_filled c.requires.0 c.requires.1 _ c.kill_on-killed.ensures.tables _ c.put_block.ensures _ c.turn_on.ensures;
-    }
+  freed = c.kill_on-killed.ensures.freed;
+  tables = Placing.page_filled c.requires.0 c.requires.1 _ c.kill_on-killed.ensures.tables _ c.put_block.ensures _ c.turn_on.ensures;
+}

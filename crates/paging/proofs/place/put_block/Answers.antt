@@ -1,5 +1,4 @@
 -- The number is read; the page and the birth are stored.
-use borrow.Author.Rules.{rules}
 use mathlib.Core.Path.{refl}
 use Rattle.paging.proofs.Killing
 use Rattle.paging.proofs.Placing

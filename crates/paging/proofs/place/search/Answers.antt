@@ -1,6 +1,5 @@
 -- The choice, on the parts of the tables that it is lent; the birth is beside it.
 use native.Mathlib.Omega.{arith}
-use borrow.Author.Rules.{rules}
 use Rattle.paging.proofs.Searching
 use Rattle.paging.proofs.place.search.Goals as goal
 

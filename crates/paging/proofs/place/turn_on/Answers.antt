@@ -1,6 +1,5 @@
 -- The mark and the turn after a block was given.
 use native.Mathlib.Omega.{arith}
-use borrow.Author.Rules.{rules}
 use lib.ListN.{length-set}
 use Rattle.paging.proofs.Placing
 use Rattle.paging.proofs.place.turn_on.Goals as goal

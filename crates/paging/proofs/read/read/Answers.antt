@@ -1,6 +1,5 @@
 -- R: two refusals, an empty page, a block with its birth.
 use native.Mathlib.Omega.{arith}
-use borrow.Author.Rules.{rules}
 use mathlib.Core.Path.{refl}
 use lib.ListN.{length-set}
 use Rattle.paging.proofs.Answers
@@ -11,15 +10,15 @@ use Rattle.paging.proofs.read.read.Goals as goal
 
 pub returns-then-g-wide : goal.returns-then-g-wide
 returns-then-g-wide c = let both = Answers.refused_out _ _ _ _ (Looking.read_5 _ _ _ _ _ c.wide.ensures c.if-g-wide.true) _ in record {
-      reply = both.0;
-      out = both.1;
-    }
+  reply = both.0;
+  out = both.1;
+}
 
 pub returns-then-link-eq0 : goal.returns-then-link-eq0
 returns-then-link-eq0 c = let both = Answers.refused_out _ _ _ _ (Looking.read_8 _ _ _ _ _ c.wide.ensures _ c.if-g-wide.false c.requires.2.0 c.if-link-eq0.true) _ in record {
-      reply = both.0;
-      out = both.1;
-    }
+  reply = both.0;
+  out = both.1;
+}
 
 pub returns-then-there-eq0 : goal.returns-then-there-eq0
 returns-then-there-eq0 c = let both = Looking.read_empty _ _ _ _ _ c.wide.ensures c.requires.0 _ c.if-g-wide.false c.requires.2.0 c.if-link-eq0.false _ _

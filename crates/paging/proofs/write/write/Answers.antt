@@ -1,5 +1,4 @@
 -- W: a refusal leaves everything; else the action leaves what the model says.
-use borrow.Author.Rules.{rules}
 use Rattle.paging.proofs.Answers
 use Rattle.paging.proofs.Giving
 use Rattle.paging.proofs.write.write.Goals as goal

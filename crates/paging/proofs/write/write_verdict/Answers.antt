@@ -1,6 +1,5 @@
 -- The refusals of W in their order, or the slot, the place of the block and its birth.
 use native.Mathlib.Omega.{arith}
-use borrow.Author.Rules.{rules}
 use mathlib.Core.Path.{refl}
 use Rattle.paging.proofs.Looking
 use Rattle.paging.proofs.Erasing

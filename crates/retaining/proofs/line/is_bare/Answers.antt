@@ -1,5 +1,4 @@
 -- Whether a window may take a record: neither a name nor a fork is on it.
-use borrow.Author.Rules.{rules}
 use Rattle.retaining.proofs.Bare
 use Rattle.retaining.proofs.line.is_bare.Goals as goal
 

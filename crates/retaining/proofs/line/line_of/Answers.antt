@@ -1,10 +1,6 @@
 -- The records of a line, newest first: at each turn those that are written and those that the link leads to are the line.
-use borrow.Author.Rules.{rules}
 use native.Mathlib.Omega.{arith}
-use Prim.Native.Nat.{◌-◌, ◌≤◌, ◌<◌}
-use Rattle.geometry.specs.declared.Geometry.{Geometry}
-use Rattle.model.specs.Layout.{view_of}
-use Rattle.tables.specs.Ready.{Ready}
+use Prim.Native.Nat.{◌-◌}
 use Rattle.tables.proofs.Ranges
 use Rattle.retaining.proofs.Lining
 use Rattle.retaining.proofs.Lining.{Lining}
@@ -23,12 +19,11 @@ pub bounds-t-s : goal.bounds-t-s
 bounds-t-s c = omega (arith, Ranges.slot_in c.requires.0 c.args.s c.requires.1)
 
 pub loop-link-init : goal.loop-link-init
-loop-link-init c =
-    (
-      omega arith,
-      omega (arith, c.wide-link.ensures, Ranges.prev_cell_le c.requires.0 c.args.s c.requires.1),
-      λ g R h. Lining.lining_first R c.args.s h c.args.line.now _ c.requires.2 c.wide-link.ensures,
-    )
+loop-link-init c = (
+  omega arith,
+  omega (arith, c.wide-link.ensures, Ranges.prev_cell_le c.requires.0 c.args.s c.requires.1),
+  λ g R h. Lining.lining_first R c.args.s h c.args.line.now _ c.requires.2 c.wide-link.ensures,
+)
 
 pub bounds-line-count : goal.bounds-line-count
 bounds-line-count c =

@@ -1,11 +1,6 @@
 -- The walk along the line: at each turn, what is done and what is left to do are the whole.
-use borrow.Author.Rules.{rules}
-use native.Mathlib.Omega.{arith}
-use mathlib.Core.Path.{◌≡◌, refl, sym, ◌∙◌}
-use Prim.Native.Nat.{suc, ◌-◌, ◌<◌}
+use Prim.Native.Nat.{◌<◌}
 use lib.ListN.{get_or}
-use Rattle.retaining.proofs.Lining
-use Rattle.retaining.proofs.Trimming
 use Rattle.retaining.proofs.Trimming.{Walk}
 use Rattle.retaining.proofs.oldest.delete_oldest.Given as goal
 

@@ -1,5 +1,4 @@
 -- The verdict on S: 8, then 9 on a sealed record, then what `room` says.
-use borrow.Author.Rules.{rules}
 use Rattle.retaining.proofs.Verdicts
 use Rattle.retaining.proofs.verdict.sealing.Goals as goal
 

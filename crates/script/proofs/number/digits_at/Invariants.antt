@@ -1,12 +1,8 @@
 -- `digits_at` meets its contract: what is read from i on, behind the value so far, is the whole; the value is below a power of ten.
-use borrow.Author.Rules.{rules}
-use native.Mathlib.Omega.{arith}
 use Prim.Native.Nat.{◌≤◌, ◌<◌, ◌+◌, ◌-◌, ◌^◌}
-use mathlib.Core.Path.{◌≡◌, sym, ◌∙◌}
-use lib.ListN.{length, drop, get_or}
+use mathlib.Core.Path.{◌≡◌}
+use lib.ListN.{length, drop}
 use Rattle.script.specs.Parse.{digits_from}
-use Rattle.script.proofs.Reading.{digits_full, digits_end, digits_other, digits_more, digit_low, digit_high, digit_yes, value_small, value_more}
-use Prim.Native.Nat.{suc}
 use Rattle.script.proofs.number.digits_at.Given as goal
 
 abbrev pub invariant-loop-i : goal.invariant-loop-i

@@ -1,5 +1,4 @@
 -- `call_line` meets its contract.
-use borrow.Author.Rules.{rules}
 use mathlib.Core.Path.{◌∙◌}
 use Rattle.script.proofs.Letters.{call_empty, call_says}
 use Rattle.script.proofs.parse.call_line.Goals as goal

@@ -1,5 +1,4 @@
 -- `call_of` meets its contract, count by count.
-use borrow.Author.Rules.{rules}
 use Rattle.script.specs.Parse.{says_by}
 use Rattle.script.proofs.Letters.{says_none}
 use Rattle.script.proofs.parse.call_of.Goals as goal

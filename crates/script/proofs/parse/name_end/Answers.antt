@@ -1,10 +1,7 @@
 -- `name_end` meets its contract: what is left of the name from i on, after the part passed, is the whole.
 use borrow.Author.Rules.{rules}
 use native.Mathlib.Omega.{arith}
-use Prim.Native.Nat.{◌≤◌, ◌-◌, ◌+◌}
-use mathlib.Core.Path.{◌≡◌, refl}
-use lib.ListN.{length, drop}
-use Rattle.script.specs.Parse.{name_run}
+use mathlib.Core.Path.{refl}
 use Rattle.script.proofs.Names.{name_here, name_more, name_over}
 use Rattle.script.proofs.parse.name_end.Goals as goal
 
@@ -13,9 +10,9 @@ loop-i-init c = (search rules, search rules, refl)
 
 pub returns-then-line-i-eq32 : goal.returns-then-line-i-eq32
 returns-then-line-i-eq32 c = let here = name_here c.args.line.now c.loop-i.i c.loop-i-test.true c.if-line-i-eq32.true in record {
-      is = omega arith;
-      range = omega arith;
-    }
+  is = omega arith;
+  range = omega arith;
+}
 
 pub loop-i-preserved : goal.loop-i-preserved
 loop-i-preserved c = let more = name_more c.args.line.now c.loop-i.i c.loop-i-test.true c.if-line-i-eq32.false in
@@ -23,6 +20,6 @@ loop-i-preserved c = let more = name_more c.args.line.now c.loop-i.i c.loop-i-te
 
 pub returns : goal.returns
 returns c = let over = name_over c.args.line.now c.loop-i.i c.loop-i-test.false in record {
-      is = omega arith;
-      range = omega arith;
-    }
+  is = omega arith;
+  range = omega arith;
+}

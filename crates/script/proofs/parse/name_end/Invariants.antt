@@ -1,11 +1,8 @@
 -- `name_end` meets its contract: what is left of the name from i on, after the part passed, is the whole.
-use borrow.Author.Rules.{rules}
-use native.Mathlib.Omega.{arith}
 use Prim.Native.Nat.{◌≤◌, ◌-◌, ◌+◌}
-use mathlib.Core.Path.{◌≡◌, refl}
+use mathlib.Core.Path.{◌≡◌}
 use lib.ListN.{length, drop}
 use Rattle.script.specs.Parse.{name_run}
-use Rattle.script.proofs.Names.{name_here, name_more, name_over}
 use Rattle.script.proofs.parse.name_end.Given as goal
 
 abbrev pub invariant-loop-i : goal.invariant-loop-i

@@ -1,5 +1,4 @@
 -- `name_line` meets its contract, test by test.
-use borrow.Author.Rules.{rules}
 use mathlib.Core.Path.{◌∙◌}
 use Rattle.script.proofs.Names.{name_short, name_unspaced, name_missing, name_says}
 use Rattle.script.proofs.parse.name_line.Goals as goal

@@ -1,5 +1,4 @@
 -- `naming_of` meets its contract, count by count.
-use borrow.Author.Rules.{rules}
 use Rattle.script.specs.Parse.{named_by}
 use Rattle.script.proofs.Names.{named_none}
 use Rattle.script.proofs.parse.naming_of.Goals as goal

@@ -1,5 +1,4 @@
 -- `numbers_at` meets its contract: what is read from here on, after the numbers in the buffer, is the whole.
-use borrow.Author.Rules.{rules}
 use native.Mathlib.Omega.{arith}
 use native.Mathlib.Nat.{sub-zero}
 use Prim.Native.Nat.{ℕ, suc, ◌+◌, ◌-◌, ◌<◌, ◌≤◌}

@@ -1,5 +1,4 @@
 -- `opens_name` meets its contract.
-use borrow.Author.Rules.{rules}
 use mathlib.Core.Path.{◌∙◌}
 use Rattle.script.proofs.Names.{opens_empty, opens_listed}
 use Rattle.script.proofs.parse.opens_name.Goals as goal

@@ -1,9 +1,8 @@
 -- `opens_store` meets its contract: whether the rest of the line begins with the rest of the word is the whole question.
-use borrow.Author.Rules.{rules}
 use native.Mathlib.Omega.{arith}
-use Prim.Native.Nat.{◌≤◌, ◌<◌, ◌-◌}
+use Prim.Native.Nat.{◌<◌}
 use mathlib.Core.Path.{◌≡◌, refl, sym, ◌∙◌}
-use lib.ListN.{length, drop}
+use lib.ListN.{length}
 use Rattle.script.specs.Parse.{opens, store}
 use Rattle.script.proofs.Opening.{opens_short, opens_more, opens_not}
 use Rattle.script.proofs.parse.opens_store.Goals as goal

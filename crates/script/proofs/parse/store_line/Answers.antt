@@ -1,5 +1,4 @@
 -- `store_line` meets its contract.
-use borrow.Author.Rules.{rules}
 use Rattle.script.proofs.Letters.{store_yes, store_no}
 use Rattle.script.proofs.parse.store_line.Goals as goal
 

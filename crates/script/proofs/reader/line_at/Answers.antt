@@ -1,5 +1,4 @@
 -- `line_at` meets its contract.
-use borrow.Author.Rules.{rules}
 use borrow.Author.Tests.{lt-ltb, le-ltb}
 use Rattle.script.specs.Lines.{line_at}
 use Rattle.script.proofs.reader.line_at.Goals as goal

@@ -1,10 +1,7 @@
 -- `line_end` meets its contract: what is left of the line from i on, behind the part passed, is the whole.
 use borrow.Author.Rules.{rules}
 use native.Mathlib.Omega.{arith}
-use Prim.Native.Nat.{◌≤◌, ◌-◌, ◌+◌}
-use mathlib.Core.Path.{◌≡◌, refl}
-use lib.ListN.{length, drop}
-use Rattle.script.specs.Lines.{run}
+use mathlib.Core.Path.{refl}
 use Rattle.script.proofs.Runs.{run_here, run_more, run_end}
 use Rattle.script.proofs.reader.line_end.Goals as goal
 

@@ -1,11 +1,8 @@
 -- `line_end` meets its contract: what is left of the line from i on, behind the part passed, is the whole.
-use borrow.Author.Rules.{rules}
-use native.Mathlib.Omega.{arith}
 use Prim.Native.Nat.{◌≤◌, ◌-◌, ◌+◌}
-use mathlib.Core.Path.{◌≡◌, refl}
+use mathlib.Core.Path.{◌≡◌}
 use lib.ListN.{length, drop}
 use Rattle.script.specs.Lines.{run}
-use Rattle.script.proofs.Runs.{run_here, run_more, run_end}
 use Rattle.script.proofs.reader.line_end.Given as goal
 
 abbrev pub invariant-loop-i : goal.invariant-loop-i

@@ -1,5 +1,4 @@
 -- `is_blocks` meets its contract, spelling by spelling.
-use borrow.Author.Rules.{rules}
 use Rattle.script.proofs.reply.is_blocks.Goals as goal
 
 pub returns-in-Numbers : goal.returns-in-Numbers

@@ -1,12 +1,7 @@
 -- `put_blocks` meets its contract: at the head of the loop the blocks from i on are left to write.
-use borrow.Author.Rules.{rules}
 use native.Mathlib.Omega.{arith}
-use Prim.Native.Nat.{◌≤◌, ◌+◌, ◌-◌, ◌*◌}
-use mathlib.Core.Path.{◌≡◌, refl, ◌∙◌}
-use lib.ListN.{length, take, drop}
-use Rattle.model.specs.Results.{born_in}
-use Rattle.script.specs.ReplyText.{items_text}
-use Rattle.script.proofs.Printing.{Left, left_all, left_less, left_none, blocks_left, blocks_over}
+use mathlib.Core.Path.{refl, ◌∙◌}
+use Rattle.script.proofs.Printing.{left_all, left_less, left_none, blocks_left, blocks_over}
 use Rattle.script.proofs.reply.put_blocks.Goals as goal
 
 pub loop-i-init : goal.loop-i-init

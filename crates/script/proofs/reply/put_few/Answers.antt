@@ -1,6 +1,5 @@
 -- `put_few` meets its contract: the digits that are not there are written over.
 use native.Mathlib.Omega.{arith}
-use borrow.Author.Rules.{rules}
 use lib.ListN.{length-set}
 use Rattle.script.proofs.Printing.{put_few}
 use Rattle.script.proofs.reply.put_few.Goals as goal

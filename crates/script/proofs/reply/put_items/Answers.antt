@@ -1,5 +1,4 @@
 -- `put_items` meets its contract: the text by the test.
-use borrow.Author.Rules.{rules}
 use mathlib.Core.Path.{sym, ◌∙◌}
 use Rattle.script.proofs.Printing.{by_test}
 use Rattle.script.proofs.reply.put_items.Goals as goal

@@ -1,6 +1,5 @@
 -- `put_number` meets its contract, by how many digits the number has.
 use native.Mathlib.Omega.{arith}
-use borrow.Author.Rules.{rules}
 use mathlib.Core.Path.{◌∙◌}
 use lib.ListN.{length-set}
 use Rattle.script.proofs.Decimals.{length_decimal}

@@ -1,11 +1,7 @@
 -- `put_numbers` meets its contract: at the head of the loop the numbers from i on are left to write.
-use borrow.Author.Rules.{rules}
 use native.Mathlib.Omega.{arith}
-use Prim.Native.Nat.{◌≤◌, ◌+◌, ◌-◌, ◌*◌}
-use mathlib.Core.Path.{◌≡◌, refl, ◌∙◌}
-use lib.ListN.{length, take, drop}
-use Rattle.script.specs.Decimal.{spaced}
-use Rattle.script.proofs.Printing.{Left, left_all, left_less, left_none, numbers_left, numbers_over}
+use mathlib.Core.Path.{refl, ◌∙◌}
+use Rattle.script.proofs.Printing.{left_all, left_less, left_none, numbers_left, numbers_over}
 use Rattle.script.proofs.reply.put_numbers.Goals as goal
 
 pub loop-i-init : goal.loop-i-init

@@ -1,6 +1,5 @@
 -- `put_reply` meets its contract: a sign, the items or the number, and a line feed.
 use native.Mathlib.Omega.{arith}
-use borrow.Author.Rules.{rules}
 use mathlib.Core.Path.{◌∙◌}
 use lib.ListN.{length-set}
 use Rattle.answer.specs.Reply.{reply_of}

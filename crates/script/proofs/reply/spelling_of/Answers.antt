@@ -1,5 +1,4 @@
 -- `spelling_of` meets its contract: an arm for each call that names blocks, and one for the others.
-use borrow.Author.Rules.{rules}
 use Rattle.script.specs.ReplyText.{spelling_of}
 use Rattle.script.proofs.Printing.{spelling_none, spelling_other}
 use Rattle.script.proofs.reply.spelling_of.Goals as goal

@@ -1,6 +1,5 @@
 -- `by_line` meets its contract: the line that the reader finds lies inside the text, and what it says is read from that part.
 use native.Mathlib.Omega.{arith}
-use borrow.Author.Rules.{rules}
 use mathlib.Core.Path.{◌≡◌, sym, ◌∙◌}
 use Prim.Native.Nat.{◌<◌, ◌≤◌}
 use lib.ListN.{length}

@@ -1,10 +1,8 @@
 -- `few_digits` meets its contract: what is read from i on, behind the value so far, is the whole; the value is below a power of ten.
-use native.Mathlib.Omega.{arith}
-use Prim.Native.Nat.{◌≤◌, ◌<◌, ◌+◌, ◌-◌, ◌^◌, suc}
-use mathlib.Core.Path.{◌≡◌, sym, ◌∙◌}
-use lib.ListN.{length, drop, get_or}
+use Prim.Native.Nat.{◌≤◌, ◌<◌, ◌+◌, ◌-◌, ◌^◌}
+use mathlib.Core.Path.{◌≡◌}
+use lib.ListN.{length, drop}
 use Rattle.script.specs.Parse.{digits_from}
-use Rattle.script.proofs.Reading.{digits_other, digits_more, digit_low, digit_high, digit_yes, value_small, value_more, read_behind}
 use Rattle.script.proofs.said.few_digits.Given as goal
 
 abbrev pub invariant-loop-i : goal.invariant-loop-i

@@ -1,5 +1,4 @@
 -- `found` meets its contract.
-use borrow.Author.Rules.{rules}
 use Rattle.script.proofs.OnePass.{near_none}
 use Rattle.script.proofs.said.found.Goals as goal
 

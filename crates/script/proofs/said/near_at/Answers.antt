@@ -1,6 +1,5 @@
 -- `near_at` meets its contract: a letter up to the line feed is the whole line, or a number follows.
 use native.Mathlib.Omega.{arith}
-use borrow.Author.Rules.{rules}
 use mathlib.Core.Path.{refl}
 use mathlib.Core.List.{[]}
 use lib.ListN.{get_or}

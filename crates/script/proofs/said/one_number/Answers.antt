@@ -1,6 +1,5 @@
 -- `one_number` meets its contract: a letter and one number up to the line feed are the whole line, or the second number follows.
 use native.Mathlib.Omega.{arith}
-use borrow.Author.Rules.{rules}
 use mathlib.Core.List.{[], ◌∷◌}
 use Prim.Native.Nat.{◌+◌}
 use lib.ListN.{drop}

@@ -1,6 +1,4 @@
 -- `said_at_lem` meets its contract: what is found in one pass is said, any other line is read by its end; a line ends inside its text, or where it was looked for.
-use native.Mathlib.Omega.{arith}
-use borrow.Author.Rules.{rules}
 use Rattle.script.specs.Said.{said_at}
 use Rattle.script.proofs.OnePass.{tells_is}
 use Rattle.script.proofs.Placed.{said_promised}

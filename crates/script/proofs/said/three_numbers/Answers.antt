@@ -1,6 +1,5 @@
 -- `three_numbers` meets its contract: a letter and three numbers up to the line feed are the whole line.
 use native.Mathlib.Omega.{arith}
-use borrow.Author.Rules.{rules}
 use mathlib.Core.List.{[], ◌∷◌}
 use Prim.Native.Nat.{◌+◌}
 use lib.ListN.{drop}

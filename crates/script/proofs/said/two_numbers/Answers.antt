@@ -1,6 +1,5 @@
 -- `two_numbers` meets its contract: a letter and two numbers up to the line feed are the whole line, or the third number follows.
 use native.Mathlib.Omega.{arith}
-use borrow.Author.Rules.{rules}
 use mathlib.Core.List.{[], ◌∷◌}
 use Prim.Native.Nat.{◌+◌}
 use lib.ListN.{drop}

@@ -1,7 +1,5 @@
 -- `is_outside`: once there is a store, the making of its numbers says it.
 use Rattle.serving.proofs.Hosting.{none_made, made_inside, not_inside}
-use borrow.Author.Rules.{rules}
-use native.Mathlib.Omega.{arith}
 use Rattle.serving.proofs.host.is_outside.Goals as goal
 
 pub returns-then-s-eq0 : goal.returns-then-s-eq0

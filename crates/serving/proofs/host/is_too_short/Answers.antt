@@ -1,8 +1,6 @@
 -- `is_too_short`: length by length.
 use Rattle.serving.specs.Host.{lent_by}
 use Rattle.serving.proofs.Hosting.{run_short, tables_short, log_short, out_short, replies_short}
-use borrow.Author.Rules.{rules}
-use native.Mathlib.Omega.{arith}
 use Rattle.serving.proofs.host.is_too_short.Goals as goal
 
 pub returns-then-run-lt7 : goal.returns-then-run-lt7

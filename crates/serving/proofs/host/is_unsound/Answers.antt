@@ -2,7 +2,6 @@
 use mathlib.Core.Path.{ap, ◌∙◌}
 use mathlib.Core.Bool.{not}
 use Rattle.serving.proofs.Hosting.{none_made, some_made, tables_enough, log_enough}
-use borrow.Author.Rules.{rules}
 use native.Mathlib.Omega.{arith}
 use Rattle.serving.proofs.host.is_unsound.Goals as goal
 

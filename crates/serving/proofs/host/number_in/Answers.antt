@@ -1,7 +1,6 @@
 -- `number_in`: a number of the run has 32 bits.
 use mathlib.Core.Path.{refl, sym}
 use lib.ListN.{get_or-eq_default}
-use borrow.Author.Rules.{rules}
 use native.Mathlib.Omega.{arith}
 use Rattle.serving.proofs.host.number_in.Goals as goal
 

@@ -1,7 +1,6 @@
 -- `put_run`: seven stores.
 use mathlib.Core.List.{[], ◌∷◌}
 use lib.Seq.{lt-length-sets}
-use borrow.Author.Rules.{rules}
 use native.Mathlib.Omega.{arith}
 use Rattle.serving.proofs.host.put_run.Goals as goal
 

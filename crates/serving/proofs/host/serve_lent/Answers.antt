@@ -3,8 +3,6 @@ use mathlib.Core.Path.{sym, ◌∙◌}
 use lib.ListN.{length}
 use Rattle.serving.specs.Host.{lent_by}
 use Rattle.serving.proofs.Hosting.{by_2, by_3, by_4, kept, done, long, inside_limits, narrow_after}
-use borrow.Author.Rules.{rules}
-use native.Mathlib.Omega.{arith}
 use Rattle.serving.proofs.host.serve_lent.Goals as goal
 
 pub returns-then-is_outside : goal.returns-then-is_outside

@@ -2,7 +2,6 @@
 use mathlib.Core.Path.{◌≡◌}
 use Prim.Native.Nat.{◌%◌}
 use Rattle.sogvect.proofs.Letters.{asks_none, bare_asked, one_asked, two_asked, three_asked}
-use borrow.Author.Rules.{rules}
 use native.Mathlib.Omega.{arith}
 use Rattle.sogvect.proofs.calls.asked_by.Goals as goal
 

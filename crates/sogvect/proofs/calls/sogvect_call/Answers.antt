@@ -4,7 +4,6 @@ use Rattle.geometry.specs.Limits.{geometry_of}
 use Rattle.model.specs.Memory.{Memory, lent}
 use Rattle.sogvect.proofs.Coding.{no_call, called}
 use Rattle.sogvect.proofs.Letters.{is_call, is_none}
-use borrow.Author.Rules.{rules}
 use Rattle.sogvect.proofs.calls.sogvect_call.Goals as goal
 
 pub returns-in_default : goal.returns-in_default

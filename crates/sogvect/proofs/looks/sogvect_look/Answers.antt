@@ -9,7 +9,6 @@ use Rattle.engine.specs.Looks.{look_call, only_looks, seen_call}
 use Rattle.sogvect.specs.Letters.{asked_by}
 use Rattle.sogvect.proofs.Coding.{no_call, called}
 use Rattle.sogvect.proofs.Letters.{is_call, is_none}
-use borrow.Author.Rules.{rules}
 use Rattle.sogvect.proofs.looks.sogvect_look.Goals as goal
 
 pub returns-in_default : goal.returns-in_default

@@ -3,7 +3,6 @@ use Rattle.geometry.specs.Limits.{geometry_of}
 use Rattle.model.specs.Command.{Attach}
 use Rattle.model.specs.Memory.{lent}
 use Rattle.sogvect.proofs.Coding.{replied}
-use borrow.Author.Rules.{rules}
 use Rattle.sogvect.proofs.names.sogvect_name.Goals as goal
 
 pub returns : goal.returns

@@ -1,6 +1,5 @@
 -- `sogvect_script`: what `serve_lent` promises, coded.
 use Rattle.sogvect.proofs.Coding.{scripted}
-use borrow.Author.Rules.{rules}
 use Rattle.sogvect.proofs.scripts.sogvect_script.Goals as goal
 
 pub returns : goal.returns

@@ -6,7 +6,6 @@ use Rattle.model.specs.Command.{Command, command}
 use Rattle.model.specs.Memory.{Memory, lent}
 use Rattle.engine.proofs.Untouched.{found_link}
 use Rattle.store.proofs.Admitted.{call_2, call_3, call_4, call_done, sound_requires, perform_requires_of}
-use borrow.Author.Rules.{rules}
 use Rattle.store.proofs.call.call.Goals as goal
 
 pub returns-in_default : goal.returns-in_default

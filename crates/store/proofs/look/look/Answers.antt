@@ -8,7 +8,6 @@ use Rattle.store.proofs.Admitted.{call_2, call_3, call_4, call_done, sound_requi
 use Rattle.engine.specs.Looks.{look_call}
 use Rattle.engine.proofs.Looking.{look_performed}
 use Rattle.engine.proofs.Untouched.{found_link}
-use borrow.Author.Rules.{rules}
 use Rattle.store.proofs.look.look.Goals as goal
 
 pub returns-in_default : goal.returns-in_default

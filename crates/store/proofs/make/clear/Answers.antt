@@ -1,10 +1,9 @@
 -- `clear`: the zeros so far.
 use mathlib.Core.Path.{◌≡◌, refl, sym, ap, ◌∙◌}
-use Prim.Native.Nat.{suc, ◌+◌, ◌-◌, ◌≤◌}
+use Prim.Native.Nat.{suc, ◌+◌}
 use lib.ListN.{set, replicate}
 use lib.Seq.{sets, length-sets}
 use Rattle.store.proofs.Filling.{zeros_next}
-use borrow.Author.Rules.{rules}
 use native.Mathlib.Omega.{arith}
 use Rattle.store.proofs.make.clear.Goals as goal
 

@@ -1,11 +1,8 @@
 -- `clear`: the zeros so far.
-use mathlib.Core.Path.{◌≡◌, refl, sym, ap, ◌∙◌}
-use Prim.Native.Nat.{suc, ◌+◌, ◌-◌, ◌≤◌}
-use lib.ListN.{set, replicate}
-use lib.Seq.{sets, length-sets}
-use Rattle.store.proofs.Filling.{zeros_next}
-use borrow.Author.Rules.{rules}
-use native.Mathlib.Omega.{arith}
+use mathlib.Core.Path.{◌≡◌}
+use Prim.Native.Nat.{◌-◌, ◌≤◌}
+use lib.ListN.{replicate}
+use lib.Seq.{sets}
 use Rattle.store.proofs.make.clear.Given as goal
 
 abbrev pub invariant-loop-i : goal.invariant-loop-i

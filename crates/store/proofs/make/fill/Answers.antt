@@ -5,7 +5,6 @@ use Rattle.geometry.specs.Limits.{blocks}
 use Rattle.model.specs.Layout.{listed}
 use Rattle.store.specs.Fresh.{full_word, six_numbers}
 use Rattle.store.proofs.Filling.{filled}
-use borrow.Author.Rules.{rules}
 use Rattle.store.proofs.make.fill.Goals as goal
 
 pub returns : goal.returns

@@ -1,12 +1,11 @@
 -- `fill_words`: the words so far.
 use mathlib.Core.Path.{◌≡◌, sym, ap, ◌∙◌}
-use Prim.Native.Nat.{suc, ◌+◌, ◌-◌, ◌≤◌}
+use Prim.Native.Nat.{suc, ◌+◌}
 use lib.ListN.{length, set}
 use lib.Seq.{sets, length-sets}
 use Rattle.model.specs.Layout.{listed}
 use Rattle.store.specs.Fresh.{full_word}
 use Rattle.store.proofs.Filling.{listed_none, listed_next}
-use borrow.Author.Rules.{rules}
 use native.Mathlib.Omega.{arith}
 use Rattle.store.proofs.make.fill_words.Goals as goal
 

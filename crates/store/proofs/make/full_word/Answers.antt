@@ -1,7 +1,6 @@
 -- `full_word`: by where the blocks end.
 use Rattle.store.proofs.Filling.{full_none, full_one, full_some, full_all}
 use native.Mathlib.Omega.{arith}
-use borrow.Author.Rules.{rules}
 use Rattle.store.proofs.make.full_word.Goals as goal
 
 pub returns-then-n-k : goal.returns-then-n-k

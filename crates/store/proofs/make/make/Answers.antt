@@ -6,7 +6,6 @@ use Rattle.alloc_log.proofs.Tools.{MadeOf, made_of, outside}
 use Rattle.model.proofs.Keeps.{is_long}
 use Rattle.model.specs.Memory.{lent}
 use Rattle.store.proofs.Making.{make_2, make_3, make_done}
-use borrow.Author.Rules.{rules}
 use Rattle.store.proofs.make.make.Goals as goal
 
 pub returns-in_default : goal.returns-in_default

@@ -1,7 +1,6 @@
 -- `put_six`: six stores, one behind another.
 use lib.ListN.{length-set}
 use native.Mathlib.Omega.{arith}
-use borrow.Author.Rules.{rules}
 use Rattle.store.proofs.make.put_six.Goals as goal
 
 pub bounds-t-1 : goal.bounds-t-1

@@ -7,7 +7,6 @@ use Rattle.model.specs.Command.{Command, Resolve}
 use Rattle.model.specs.Memory.{Memory, lent}
 use Rattle.store.proofs.Admitted.{call_2, call_3, call_4, call_done, sound_requires, perform_requires_of}
 use Rattle.engine.proofs.Untouched.{result_alone}
-use borrow.Author.Rules.{rules}
 use Rattle.store.proofs.names.resolve.Goals as goal
 
 pub returns-in_default : goal.returns-in_default
