@@ -1,5 +1,5 @@
 -- A NUMBER AS AN ARGUMENT SPELLS IT: 1 to 7 decimal digits, no leading zero but 0 itself.
-use Rattle.std.specs.Prelude.{ℕ, zero, suc, ◌+◌, ◌-◌, ◌*◌, Bool, not, cond, ◌&&◌, ◌||◌, List, [], ◌∷◌, eqb, leb, length, get_or}
+use Rattle.std.specs.Prelude.{ℕ, ◌+◌, ◌-◌, ◌*◌, Bool, not, cond, ◌&&◌, ◌||◌, List, [], ◌∷◌, eqb, leb, length, get_or}
 use Rattle.logtool.specs.declared.number.Number.{Number}
 use Rattle.logtool.specs.declared.number.Number.TheVariants.{Is, No}
 

@@ -4,16 +4,24 @@ use crate::file::{MOST, read_file};
 use crate::reply::{print_line, print_refusal};
 use crate::sentence::refused;
 use alloc_log::tool::{Comparison, compare};
+use std::rt::{Env, Files};
 
 // Compares two logs; where one is no log, the sentence is about the first that is none.
-fn judge(arenas: usize, per: usize, first: &[u8], second: &[u8]) {
+fn judge(
+    rt: &(impl Env + Print),
+    err: &impl Print,
+    arenas: usize,
+    per: usize,
+    first: &[u8],
+    second: &[u8],
+) {
     let verdict = compare(arenas, per, PAGES, RECORDS, TURN, WORDS, first, second);
     match verdict {
-        Comparison::Alike => print_line(b"+ alike"),
-        Comparison::Different => print_line(b"+ different"),
+        Comparison::Alike => print_line(rt, err, b"+ alike"),
+        Comparison::Different => print_line(rt, err, b"+ different"),
         Comparison::Refused(k) => {
-            print_refusal(k);
-            refused(k, first_bad(arenas, per, first));
+            print_refusal(rt, err, k);
+            refused(rt, err, k, first_bad(arenas, per, first));
         }
     }
 }
@@ -28,18 +36,23 @@ fn first_bad(arenas: usize, per: usize, first: &[u8]) -> usize {
     }
 }
 
-pub fn print_comparison(arenas: usize, per: usize) {
+pub fn print_comparison(
+    rt: &(impl Env + Files + Print),
+    err: &impl Print,
+    arenas: usize,
+    per: usize,
+) {
     let mut space = [0u8; MOST];
-    let first = read_file(FILE, &mut space);
+    let first = read_file(rt, err, FILE, &mut space);
     if !first.ok {
         return;
     }
     let mut more = [0u8; MOST];
-    let second = read_file(OTHER, &mut more);
+    let second = read_file(rt, err, OTHER, &mut more);
     if !second.ok {
         return;
     }
     let n = first.length;
     let m = second.length;
-    judge(arenas, per, &space[..n], &more[..m]);
+    judge(rt, err, arenas, per, &space[..n], &more[..m]);
 }

@@ -1,10 +1,13 @@
 // Files that arguments name: reading one whole, making a new one.
 ghost use Rattle.std.specs.Prelude.{◌+◌, ◌≤◌, length};
-ghost use Rattle.io.specs.Counts.{IsPrefixLen};
-ghost use Rattle.libc.specs.Io.{Ended};
 
+use crate::args::PATH;
 use crate::sentence::{fail, say};
-use libc::{EEXIST, ENOENT, PATH_MAX};
+use std::env::FillError;
+use std::fs::{File, OpenFile, OpenOptions};
+use std::io::{Error, ErrorKind, Read, Write};
+use std::rt::{Env, Files};
+use std::{fs, io};
 
 // The longest file that is read, in bytes: three times the longest log of a store. Two of them stand on the stack.
 pub const MOST: usize = 196608;
@@ -16,114 +19,184 @@ pub struct Content {
     pub length: usize,
 }
 
+// The system's numbers of two errors.
+const EINVAL: i32 = 22;
+
+const ENAMETOOLONG: i32 = 36;
+
+// Why an argument cannot be had, as the system's error.
+fn argument_error(error: FillError) -> Error {
+    match error {
+        FillError::NotPresent => Error::from_raw_os_error(EINVAL),
+        FillError::TooLong => Error::from_raw_os_error(ENAMETOOLONG),
+    }
+}
+
+// A path as text, which is what the calls of the library take.
+fn text_of(path: &[u8]) -> io::Result<&str> {
+    match str::from_utf8(path) {
+        Ok(text) => Ok(text),
+        Err(_) => Err(Error::new(ErrorKind::InvalidFilename, "the name is not UTF-8")),
+    }
+}
+
+fn open_read<R: Files>(rt: &R, path: &[u8]) -> io::Result<R::File> {
+    File::open(rt, text_of(path)?)
+}
+
+fn create<R: Files>(rt: &R, path: &[u8]) -> io::Result<R::File> {
+    OpenOptions::new()
+        .write(true)
+        .create_new(true)
+        .open(rt, text_of(path)?)
+}
+
+fn rename(rt: &impl Files, from: &[u8], to: &[u8]) -> io::Result<()> {
+    fs::rename(rt, text_of(from)?, text_of(to)?)
+}
+
+fn unlink(rt: &impl Files, path: &[u8]) {
+    if let Ok(text) = text_of(path) {
+        let _ = fs::remove_file(rt, text);
+    }
+}
+
+// Reads until `space` is full, the input ends or a read fails; returns how many bytes it put at the start of `space`.
+fn read_full(file: &mut impl Read, space: &mut [u8]) -> usize
+    ensures { result ≤ length space.new }
+{
+    let mut done = 0;
+    while done < space.len() {
+        match file.read(&mut space[done..]) {
+            Ok(n) if n > 0 => done += n,
+            _ => break,
+        }
+    }
+    done
+}
+
 // Whether the input ends behind the bytes that were read; a sentence where it does not.
-fn is_whole(fd: i32, path: &[u8], length: usize, most: usize) -> bool {
+fn is_whole(
+    file: &mut impl Read,
+    err: &impl Print,
+    path: &[u8],
+    length: usize,
+    most: usize,
+) -> bool {
     let mut next = [0u8; 1];
-    let got = libc::read(fd, &mut next);
-    if got < 0 {
-        fail(path);
-        return false;
+    match file.read(&mut next) {
+        Ok(0) => true,
+        Ok(_) => {
+            if length < most {
+                say(err, path, b"the read was interrupted");
+            } else {
+                say(err, path, b"longer than 196608 bytes");
+            }
+            false
+        }
+        Err(e) => {
+            fail(err, path, &e);
+            false
+        }
     }
-    if got == 0 {
-        return true;
-    }
-    if length < most {
-        say(path, b"the read was interrupted");
-        return false;
-    }
-    say(path, b"longer than 196608 bytes");
-    false
 }
 
 // Reads the file of a path into `space`.
-fn read_path(path: &[u8], space: &mut [u8]) -> Content
-    ensures { IsPrefixLen result.length space.new }
+fn read_path(rt: &impl Files, err: &impl Print, path: &[u8], space: &mut [u8]) -> Content
+    ensures { result.length ≤ length space.new }
 {
-    let fd = os::open_read(path);
-    if fd < 0 {
-        fail(path);
-        return Content {
-            ok: false,
-            length: 0,
-        };
+    match open_read(rt, path) {
+        Ok(mut file) => {
+            let length = read_full(&mut file, space);
+            let ok = is_whole(&mut file, err, path, length, space.len());
+            Content { ok, length }
+        }
+        Err(e) => {
+            fail(err, path, &e);
+            Content {
+                ok: false,
+                length: 0,
+            }
+        }
     }
-    let length = io::read_full(fd, space);
-    let ok = is_whole(fd, path, length, space.len());
-    libc::close(fd);
-    Content { ok, length }
 }
 
 // Reads the file that argument i names into `space`.
-pub fn read_file(i: usize, space: &mut [u8; MOST]) -> Content
-    ensures { IsPrefixLen result.length space.new }
+pub fn read_file(
+    rt: &(impl Env + Files),
+    err: &impl Print,
+    i: usize,
+    space: &mut [u8; MOST],
+) -> Content
+    ensures { result.length ≤ length space.new }
 {
-    let mut path = io::buffer();
-    let n = os::arg(i, &mut path);
-    if os::errno() != 0 {
-        fail(b"a file's name");
-        return Content {
-            ok: false,
-            length: 0,
-        };
+    let mut path = [0u8; PATH];
+    match rt.arg(i, &mut path) {
+        Ok(n) => read_path(rt, err, &path[..n], space),
+        Err(e) => {
+            fail(err, b"a file's name", &argument_error(e));
+            Content {
+                ok: false,
+                length: 0,
+            }
+        }
     }
-    read_path(&path[..n], space)
 }
 
 // Writes all bytes and waits until they have reached the device.
-fn write_through(fd: i32, bytes: &[u8]) -> bool {
-    if io::write_all(fd, bytes) {
-        return libc::fsync(fd) == 0;
-    }
-    false
+fn write_through(file: &mut (impl Write + OpenFile), bytes: &[u8]) -> io::Result<()> {
+    file.write_all(bytes)?;
+    file.sync_all()
 }
 
 // Makes the file, or says why it cannot. A part file that is there already is another run's, or what is left of one.
-fn open_part(part: &[u8]) -> i32 {
-    let fd = os::create(part);
-    if fd >= 0 {
-        return fd;
+fn open_part<R: Files>(rt: &R, err: &impl Print, part: &[u8]) -> Option<R::File> {
+    match create(rt, part) {
+        Ok(file) => Some(file),
+        Err(e) => {
+            if e.kind() == ErrorKind::AlreadyExists {
+                say(
+                    err,
+                    part,
+                    b"another run is writing it, or left it when it was ended; if none is, remove it",
+                );
+            } else {
+                fail(err, part, &e);
+            }
+            None
+        }
     }
-    if os::errno() != EEXIST {
-        fail(part);
-        return fd;
-    }
-    say(
-        part,
-        b"another run is writing it, or left it when it was ended; if none is, remove it",
-    );
-    fd
 }
 
 // Makes a file with these bytes; leaves none behind where it cannot.
-fn write_new(part: &[u8], bytes: &[u8]) -> bool {
-    let fd = open_part(part);
-    if fd < 0 {
+fn write_new(rt: &impl Files, err: &impl Print, part: &[u8], bytes: &[u8]) -> bool {
+    let Some(mut file) = open_part(rt, err, part) else {
         return false;
+    };
+    match write_through(&mut file, bytes) {
+        Ok(()) => true,
+        Err(e) => {
+            fail(err, part, &e);
+            unlink(rt, part);
+            false
+        }
     }
-    let ok = write_through(fd, bytes);
-    if !ok {
-        fail(part);
-        os::unlink(part);
-    }
-    libc::close(fd);
-    ok
 }
 
-// Whether no file has this name, not even a link that leads nowhere: then there is no link to read, nor anything that is none.
-fn is_free(path: &[u8; PATH_MAX]) -> bool
-    requires { Ended path.now }
-{
-    let mut link = [0u8; 1];
-    let got = libc::readlink(path, &mut link);
-    if got < 0 {
-        return os::errno() == ENOENT;
+// Whether no file has this name, not even a link that leads nowhere: the look follows no link.
+fn is_free(rt: &impl Files, path: &[u8]) -> bool {
+    let Ok(text) = text_of(path) else {
+        return false;
+    };
+    match fs::symlink_metadata(rt, text) {
+        Ok(_) => false,
+        Err(e) => e.kind() == ErrorKind::NotFound,
     }
-    false
 }
 
 // How many bytes of a path name its folder, the slash at the end among them; 0 where it names none.
 fn folder_length(path: &[u8]) -> usize
-    ensures { IsPrefixLen result path.now }
+    ensures { result ≤ length path.now }
 {
     let mut end = path.len();
     while end > 0 {
@@ -135,40 +208,42 @@ fn folder_length(path: &[u8]) -> usize
     end
 }
 
-// Waits until the names in a folder have reached the device.
-fn sync(folder: &[u8]) -> bool {
-    let fd = os::open_read(folder);
-    if fd < 0 {
-        fail(folder);
-        return false;
-    }
-    let ok = libc::fsync(fd) == 0;
-    if !ok {
-        fail(folder);
-    }
-    libc::close(fd);
-    ok
+fn sync_names(rt: &impl Files, folder: &[u8]) -> io::Result<()> {
+    let file = open_read(rt, folder)?;
+    file.sync_all()
 }
 
-fn sync_folder_of(path: &[u8]) -> bool {
+// Waits until the names in a folder have reached the device.
+fn sync(rt: &impl Files, err: &impl Print, folder: &[u8]) -> bool {
+    match sync_names(rt, folder) {
+        Ok(()) => true,
+        Err(e) => {
+            fail(err, folder, &e);
+            false
+        }
+    }
+}
+
+fn sync_folder_of(rt: &impl Files, err: &impl Print, path: &[u8]) -> bool {
     let n = folder_length(path);
     if n == 0 {
-        return sync(b".");
+        return sync(rt, err, b".");
     }
-    sync(&path[..n])
+    sync(rt, err, &path[..n])
 }
 
 // Gives a finished file its name; removes it where it cannot.
-fn give_name(part: &[u8], path: &[u8]) -> bool {
-    if os::rename(part, path) != 0 {
-        fail(path);
-        os::unlink(part);
+fn give_name(rt: &impl Files, err: &impl Print, part: &[u8], path: &[u8]) -> bool {
+    if let Err(e) = rename(rt, part, path) {
+        fail(err, path, &e);
+        unlink(rt, part);
         return false;
     }
-    if sync_folder_of(path) {
+    if sync_folder_of(rt, err, path) {
         return true;
     }
     say(
+        err,
         path,
         b"written, but a failure of power may take it away again",
     );
@@ -178,7 +253,7 @@ fn give_name(part: &[u8], path: &[u8]) -> bool {
 // Puts `.part` behind the first n bytes; returns how many bytes there are then.
 fn add_part(path: &mut [u8], n: usize) -> usize
     requires { n + 5 ≤ length path.old }
-    ensures { IsPrefixLen result path.new }
+    ensures { result ≤ length path.new }
 {
     path[n] = b'.';
     path[n + 1] = b'p';
@@ -188,33 +263,39 @@ fn add_part(path: &mut [u8], n: usize) -> usize
     n + 5
 }
 
-// Makes the file that argument i names, with these bytes. They go to NAME.part first, and reach the device before that file
-// gets the name: whenever the run is ended, the name has no file, or one with all bytes. The kit has no call that gives a
-// name only where it is free, so the look comes first. Two runs of this tool cannot meet there, since each makes NAME.part;
+// Makes the file of a path, with these bytes. They go to NAME.part first, and reach the device before that file gets the
+// name: whenever the run is ended, the name has no file, or one with all bytes. The library has no call that gives a name
+// only where it is free, so the look comes first. Two runs of this tool cannot meet there, since each makes NAME.part;
 // a file that another program makes between the look and the renaming would be replaced.
-pub fn write_file(i: usize, bytes: &[u8]) -> bool {
-    let mut path = io::buffer();
-    let n = os::arg(i, &mut path);
-    if os::errno() != 0 {
-        fail(b"a file's name");
+fn write_path(rt: &impl Files, err: &impl Print, path: &[u8], part: &[u8], bytes: &[u8]) -> bool {
+    if !write_new(rt, err, part, bytes) {
         return false;
     }
-    // A path has at most 4,095 bytes, five of them for `.part`.
-    if 4090 < n {
-        say(&path[..n], b"the name is too long");
-        return false;
+    if is_free(rt, path) {
+        return give_name(rt, err, part, path);
     }
-    let mut part = path;
-    let m = add_part(&mut part, n);
-    if !write_new(&part[..m], bytes) {
-        return false;
-    }
-    let mut name = path;
-    name[4095] = 0;
-    if is_free(&name) {
-        return give_name(&part[..m], &path[..n]);
-    }
-    say(&path[..n], b"there is a file of this name already");
-    os::unlink(&part[..m]);
+    say(err, path, b"there is a file of this name already");
+    unlink(rt, part);
     false
+}
+
+// Makes the file that argument i names, with these bytes.
+pub fn write_file(rt: &(impl Env + Files), err: &impl Print, i: usize, bytes: &[u8]) -> bool {
+    let mut path = [0u8; PATH];
+    match rt.arg(i, &mut path) {
+        Ok(n) => {
+            // A path has at most 4,095 bytes, five of them for `.part`.
+            if 4090 < n {
+                say(err, &path[..n], b"the name is too long");
+                return false;
+            }
+            let mut part = path;
+            let m = add_part(&mut part, n);
+            write_path(rt, err, &path[..n], &part[..m], bytes)
+        }
+        Err(e) => {
+            fail(err, b"a file's name", &argument_error(e));
+            false
+        }
+    }
 }

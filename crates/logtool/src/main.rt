@@ -1,4 +1,6 @@
 // A tool for allocation logs: which blocks a log holds, a log compressed, two logs compared.
+#![tactic(auto)]
+
 mod args;
 mod compare;
 mod compress;
@@ -10,13 +12,14 @@ mod sentence;
 
 use args::Command;
 
-fn main() {
-    let asked = args::read_args();
+fn main(rt: HostRuntime) {
+    let err = rt.stderr();
+    let asked = args::read_args(&rt);
     let command = asked.command;
     match command {
-        Command::Held => held::print_held(asked.arenas, asked.per),
-        Command::Compress => compress::write_compressed(asked.arenas, asked.per),
-        Command::Compare => compare::print_comparison(asked.arenas, asked.per),
-        Command::Unclear => sentence::usage(),
+        Command::Held => held::print_held(&rt, &err, asked.arenas, asked.per),
+        Command::Compress => compress::write_compressed(&rt, &err, asked.arenas, asked.per),
+        Command::Compare => compare::print_comparison(&rt, &err, asked.arenas, asked.per),
+        Command::Unclear => sentence::usage(&err),
     }
 }

@@ -1,64 +1,64 @@
 // Replies on standard output: `+` and a result, or `-` and a refusal.
 use crate::sentence::fail;
-use libc::STDOUT_FILENO;
 
-fn put(text: &[u8]) -> bool {
-    if io::write_all(STDOUT_FILENO, text) {
-        return true;
+fn put(rt: &impl Print, err: &impl Print, text: &[u8]) -> bool {
+    match rt.write_all(text) {
+        Ok(()) => true,
+        Err(e) => {
+            fail(err, b"standard output", &e);
+            false
+        }
     }
-    fail(b"standard output");
-    false
 }
 
-fn put_number(n: u64) -> bool {
-    let mut text = [0u8; 20];
-    let k = io::decimal(n, &mut text);
-    if put(b" ") {
-        return put(&text[..k]);
+fn put_digits(rt: &impl Print, err: &impl Print, n: u64) -> bool {
+    match rt.print(n) {
+        Ok(()) => true,
+        Err(e) => {
+            fail(err, b"standard output", &e);
+            false
+        }
     }
-    false
 }
 
-fn wide(x: u32) -> u64 {
-    x as u64
+fn put_number(rt: &impl Print, err: &impl Print, n: u64) -> bool {
+    put(rt, err, b" ") && put_digits(rt, err, n)
 }
 
 // `+` and the numbers.
-pub fn print_numbers(numbers: &[u32]) {
-    if !put(b"+") {
+pub fn print_numbers(rt: &impl Print, err: &impl Print, numbers: &[u32]) {
+    if !put(rt, err, b"+") {
         return;
     }
-    let mut i: usize = 0;
-    while i < numbers.len() {
-        if !put_number(wide(numbers[i])) {
+    for number in numbers {
+        if !put_number(rt, err, u64::from(*number)) {
             return;
         }
-        i += 1;
     }
-    put(b"\n");
+    put(rt, err, b"\n");
 }
 
 // `+` and a count.
-pub fn print_count(n: usize) {
-    if put(b"+") {
-        if put_number(n as u64) {
-            put(b"\n");
+pub fn print_count(rt: &impl Print, err: &impl Print, n: usize) {
+    if put(rt, err, b"+") {
+        if put_number(rt, err, n as u64) {
+            put(rt, err, b"\n");
         }
     }
 }
 
 // A line as it stands.
-pub fn print_line(text: &[u8]) {
-    if put(text) {
-        put(b"\n");
+pub fn print_line(rt: &impl Print, err: &impl Print, text: &[u8]) {
+    if put(rt, err, text) {
+        put(rt, err, b"\n");
     }
 }
 
 // `-` and the number of a refusal.
-pub fn print_refusal(number: u8) {
-    if put(b"-") {
-        if put_number(number as u64) {
-            put(b"\n");
+pub fn print_refusal(rt: &impl Print, err: &impl Print, number: u8) {
+    if put(rt, err, b"-") {
+        if put_number(rt, err, u64::from(number)) {
+            put(rt, err, b"\n");
         }
     }
 }

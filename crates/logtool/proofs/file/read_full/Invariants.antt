@@ -1,0 +1,9 @@
+-- `file::read_full` ends: each turn reads a byte, and what was read is inside the space.
+use Rattle.std.proofs.Common.{length, ◌-◌, ◌≤◌}
+use Rattle.logtool.proofs.file.read_full.Given as goal
+
+abbrev pub invariant-loop-done : goal.invariant-loop-done
+invariant-loop-done g l = l.done ≤ length l.space
+
+abbrev pub decreases-loop-done : goal.decreases-loop-done
+decreases-loop-done g l = length l.space - l.done
