@@ -4,7 +4,7 @@
  * record may be forked into a new line. Records may have names, and a record that has one is not deleted. The store decides which block a page gets and
  * which blocks a change frees; it never touches the blocks' contents.
  *
- * Link with target/staticlib/libsogvect.a (x86-64 Linux; made by `rt staticlib sogvect`). The library allocates nothing and keeps nothing between calls:
+ * Link with target/staticlib/libsogvect.a (x86-64 Linux; made by `tools/build sogvect`). The library allocates nothing and keeps nothing between calls:
  * a store lives wholly in memory that its owner lends with every call. The header is C99 and C++.
  *
  *   static uint32_t tables[SOGVECT_TABLES_NUMBERS(4, 6)], out[SOGVECT_OUT_NUMBERS(6)];

@@ -13,7 +13,7 @@ fn main() {
         exit(1);
     }
     if !archive.is_file() {
-        eprintln!("sogvect: target/staticlib/libsogvect.a is not there. In the repository, run: rt staticlib sogvect");
+        eprintln!("sogvect: target/staticlib/libsogvect.a is not there. In the repository, run: tools/build sogvect");
         exit(1);
     }
     println!("cargo:rustc-link-search=native={}", folder.display());
