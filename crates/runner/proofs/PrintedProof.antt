@@ -11,12 +11,12 @@ use lib.Seq.{length-take-le, take-take, get_or-take}
 use borrow.Author.Tests.{eqb-true}
 use Rattle.answer.proofs.Cases.{cases, either}
 use Rattle.alloc_log.specs.Word.{write_at}
-use Rattle.serving.specs.Part.{Part, begun, longest}
+use Rattle.serving.specs.Part.{Part, begun}
 use Rattle.serving.specs.Transcribed.{parts_most, looked, Ends}
 use Rattle.serving.proofs.Serving.{taken}
 use Rattle.serving.proofs.TranscriptProof.{runner_prints}
 use Rattle.ledger.specs.Transcript.{most_read}
-use Rattle.runner.specs.Turn.{whole_after, feed_end, part_end, answered}
+use Rattle.runner.specs.Turn.{whole_after, feed_end, part_end}
 use Rattle.runner.specs.Printed.{turned, turns, Reads, TurnsPrint, HandsReplies}
 use Rattle.runner.proofs.Feeds.{part_inside, answered_at_once}
 

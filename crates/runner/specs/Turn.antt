@@ -1,6 +1,5 @@
 -- A TURN OF THE RUNNER: whether the script is whole, which bytes of the text so far are answered, and what the answer leaves.
-use Rattle.std.specs.Prelude.{◌≡◌, Bool, false, cond, ◌||◌, List, ℕ, zero, suc, ◌-◌, ◌≤◌, eqb, leb, ltb, pos, length, get_or, take}
-use Rattle.std.specs.Int.Signed.{lt_z}
+use Rattle.std.specs.Prelude.{◌≡◌, Bool, false, cond, ◌||◌, List, ℕ, zero, suc, ◌-◌, ◌≤◌, eqb, leb, ltb, length, get_or, take}
 use Rattle.alloc_log.specs.Word.{write_at}
 use Rattle.model.specs.Memory.{Memory}
 use Rattle.ledger.specs.Transcript.{most_read}
@@ -39,7 +38,7 @@ buffer_most (suc n) text room p buffer =
 
 -- the last replies could not be written
 abbrev pub failed : Answered → Bool
-failed r = lt_z r.fd (pos 0)
+failed r = r.failed
 
 -- the parts served: those that were written, and the one whose replies could not be
 abbrev pub parts_served : Answered → ℕ → ℕ

@@ -1,79 +1,89 @@
 // Reading the script as it comes.
-ghost use Rattle.std.specs.Prelude.{◌≡◌, ◌+◌, ◌≤◌, length, take};
+ghost use Rattle.std.specs.Prelude.{◌≡◌, ◌+◌, ◌≤◌, IfOk, IfSome, None, length, take};
 ghost use Rattle.runner.specs.Turn.{whole_after, feed_end, part_end};
 
-use crate::sentence::say;
-use libc::{EAGAIN, EINTR};
+use crate::sentence::{fail, say};
+use crate::stream::Stream;
+use std::fs::File;
+use std::io;
+use std::io::{ErrorKind, Read, Stdin};
+use std::rt::Files;
 
 // How often a call that a signal interrupts is made again.
 const TURNS: usize = 1000000;
 
-// What a read brought: so many bytes, none at the end of the input. What is read next is read from `fd`; below 0 the read failed.
-#[derive(Clone, Copy)]
-pub struct Input {
-    pub fd: i32,
-    pub more: usize,
-}
-
-// One read, after the first `from` bytes of `text`.
-fn read_once(fd: i32, text: &mut [u8], from: usize) -> Input
+// One read, after the first `from` bytes of `text`: how many bytes it brought, none at the end of the input.
+fn read_once<S: Read>(input: &mut S, text: &mut [u8], from: usize) -> io::Result<usize>
     requires { from ≤ length text.old }
-    ensures range { from + result.more ≤ length text.old }
+    ensures range { IfOk result (λ more. from + more ≤ length text.old) }
     ensures stays { take from text.new ≡ take from text.old }
 {
-    let got = libc::read(fd, &mut text[from..]);
-    if got < 0 {
-        return Input { fd: -1, more: 0 };
-    }
-    let more = io::count(got, &text[from..]);
-    Input { fd, more }
+    input.read(&mut text[from..])
 }
 
-// Where to read on after a read that failed, or -1 with a sentence. An input that is set not to wait, and has nothing yet, is
+// Whether to read on after a read that failed; where not, it says why. An input that is set not to wait, and has nothing yet, is
 // opened once more without that setting.
-fn after_failure(fd: i32) -> i32 {
-    let error = os::errno();
-    if error == EINTR {
-        return fd;
+fn after_failure<R: Files<File = File> + Eprint + Alloc>(
+    rt: &R,
+    input: &mut Stream<Stdin>,
+    error: &io::Error,
+) -> bool {
+    match error.kind() {
+        ErrorKind::Interrupted => true,
+        ErrorKind::WouldBlock => open_again(rt, input),
+        _ => {
+            fail(rt, "standard input", error);
+            false
+        }
     }
-    if error != EAGAIN {
-        os::fail(b"sogvect: standard input");
-        return -1;
-    }
-    let again = os::open_read(b"/dev/stdin");
-    if again < 0 {
-        say(b"standard input has nothing yet, is set not to wait, and cannot be opened again");
-    }
-    again
 }
 
-fn given_up() -> Input
-    ensures { result.more ≡ 0 }
+fn open_again<R: Files<File = File> + Eprint>(rt: &R, input: &mut Stream<Stdin>) -> bool {
+    match File::open(rt, "/dev/stdin") {
+        Ok(file) => {
+            *input = Stream::Opened(file);
+            true
+        }
+        Err(_) => {
+            say(
+                rt,
+                "standard input has nothing yet, is set not to wait, and cannot be opened again",
+            );
+            false
+        }
+    }
+}
+
+fn given_up(rt: &impl Eprint) -> Option<usize>
+    ensures { result ≡ None }
 {
-    say(b"standard input: interrupted too often");
-    Input { fd: -1, more: 0 }
+    say(rt, "standard input: interrupted too often");
+    None
 }
 
-// Reads what is there, and waits where nothing is there yet. The bytes read before stay.
-pub fn read_more(fd: i32, text: &mut [u8], from: usize) -> Input
+// Reads what is there, and waits where nothing is there yet: so many bytes, none at the end of the input. Where that fails, it says
+// why. The bytes read before stay.
+pub fn read_more<R: Files<File = File> + Eprint + Alloc>(
+    rt: &R,
+    input: &mut Stream<Stdin>,
+    text: &mut [u8],
+    from: usize,
+) -> Option<usize>
     requires { from ≤ length text.old }
-    ensures range { from + result.more ≤ length text.old }
+    ensures range { IfSome result (λ more. from + more ≤ length text.old) }
     ensures stays { take from text.new ≡ take from text.old }
 {
-    let mut input = fd;
-    let mut turns: usize = TURNS;
-    while turns > 0 {
-        let got = read_once(input, text, from);
-        if got.fd >= 0 {
-            return got;
+    for _ in 0..TURNS {
+        match read_once(input, text, from) {
+            Ok(more) => return Some(more),
+            Err(error) => {
+                if !after_failure(rt, input, &error) {
+                    return None;
+                }
+            }
         }
-        input = after_failure(input);
-        if input < 0 {
-            return got;
-        }
-        turns -= 1;
     }
-    given_up()
+    given_up(rt)
 }
 
 // The most bytes of a script that are read.

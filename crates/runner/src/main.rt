@@ -1,7 +1,10 @@
+#![tactic(auto)]
+
 // Runs a script: reads at most 65,536 bytes of it from standard input, writes a reply for each line as the lines come.
 mod input;
 mod output;
 mod sentence;
+mod stream;
 
 ghost use Rattle.std.specs.Prelude.{◌≤◌, length};
 ghost use Rattle.model.specs.Memory.{lent};
@@ -11,22 +14,26 @@ ghost use Rattle.runner.specs.Turn.{Answers};
 
 use geometry::Geometry;
 use input::{MOST, is_whole, part_end, read_more};
-use libc::{STDIN_FILENO, STDOUT_FILENO};
 use output::write_replies;
 use serving::serve_part;
 use session::{Session, start};
+use std::fs::File;
+use std::io::Stdout;
+use std::rt::Files;
+use stream::Stream;
 
-// How far a text is answered, what the run has then, and where replies go on; below 0 the last could not be written.
+// How far a text is answered, what the run has then, and whether the last replies could not be written.
 #[derive(Clone, Copy)]
 struct Answered {
     session: Session,
     at: usize,
-    fd: i32,
+    failed: bool,
 }
 
 // Answers the lines of a text from `at` on, part after part.
-fn answer(
-    fd: i32,
+fn answer<R: Files<File = File> + Eprint + Alloc>(
+    rt: &R,
+    output: &mut Stream<Stdout>,
     text: &[u8],
     at: usize,
     session: Session,
@@ -42,14 +49,14 @@ fn answer(
         (lent t.new log.new out.new) replies.new }
 {
     let mut kept = session;
-    let mut output = fd;
+    let mut failed = false;
     let mut done = at;
     while done < text.len() {
         let served = serve_part(text, done, kept, t, log, out, replies);
         let used = served.used;
-        output = write_replies(output, &replies[..used]);
+        failed = !write_replies(rt, output, &replies[..used]);
         kept = served.session;
-        if output < 0 {
+        if failed {
             break;
         }
         done = served.at;
@@ -57,37 +64,35 @@ fn answer(
     Answered {
         session: kept,
         at: done,
-        fd: output,
+        failed,
     }
 }
 
 // Lines are answered as they come; what is left without a line feed once the script is whole: at its end, or at 65,536 bytes. `answer` is called in one
 // place alone, so that it is compiled into `main`, where it is known that the five arrays are apart.
-fn main() {
+fn main(rt: HostRuntime) {
     let mut t = [0u32; Geometry::MOST_TABLES];
     let mut log = [0u8; Geometry::MOST_LOG];
     let mut out = [0u32; Geometry::MOST_OUT];
     let mut replies = [0u8; 65536];
     let mut text = [0u8; MOST];
     let mut session = start();
-    let mut from = STDIN_FILENO;
-    let mut to = STDOUT_FILENO;
+    let mut from = Stream::Given(rt.stdin());
+    let mut to = Stream::Given(rt.stdout());
     let mut n: usize = 0;
     let mut at: usize = 0;
     let mut whole = false;
     while !whole {
-        let input = read_more(from, &mut text, n);
-        from = input.fd;
-        if from < 0 {
+        let Some(more) = read_more(&rt, &mut from, &mut text, n) else {
             return;
-        }
-        let more = input.more;
+        };
         let all = n + more;
         whole = is_whole(more, all);
         let end = part_end(&text[..all], n, whole);
         n = all;
         let answered = answer(
-            to,
+            &rt,
+            &mut to,
             &text[..end],
             at,
             session,
@@ -98,8 +103,7 @@ fn main() {
         );
         session = answered.session;
         at = answered.at;
-        to = answered.fd;
-        if to < 0 {
+        if answered.failed {
             return;
         }
     }
