@@ -96,13 +96,16 @@ pub fn is_whole(more: usize, all: usize) -> bool
     (more == 0) | (all == MOST)
 }
 
+// What ends a line.
+const FEED: u8 = b'\n';
+
 // Where the last whole line of `text` ends, of which the bytes from `from` on are new; 0 where no line ends among these.
 fn lines_end(text: &[u8], from: usize) -> usize
     ensures { result ≡ feed_end text.now from (length text.now) }
 {
     let mut end = text.len();
     while end > from {
-        if text[end - 1] == b'\n' {
+        if text[end - 1] == FEED {
             return end;
         }
         end -= 1;

@@ -10,11 +10,11 @@ loop-end-init c = looks _ _
 pub bounds-text-end : goal.bounds-text-end
 bounds-text-end c = omega (arith, c.loop-end.invariant.inside, c.loop-end-test.true)
 
-pub returns-then-text-end-eq10 : goal.returns-then-text-end-eq10
-returns-then-text-end-eq10 c = sym (feed_here _ _ _ c.loop-end-test.true c.if-text-end-eq10.true) ∙ c.loop-end.invariant.left
+pub returns-then-text-end-eq-FEED : goal.returns-then-text-end-eq-FEED
+returns-then-text-end-eq-FEED c = sym (feed_here _ _ _ c.loop-end-test.true c.if-text-end-eq-FEED.true) ∙ c.loop-end.invariant.left
 
 pub loop-end-preserved : goal.loop-end-preserved
-loop-end-preserved c = looks_on _ _ _ c.loop-end.invariant c.loop-end-test.true c.if-text-end-eq10.false
+loop-end-preserved c = looks_on _ _ _ c.loop-end.invariant c.loop-end-test.true c.if-text-end-eq-FEED.false
 
 pub returns : goal.returns
 returns c = sym (no_feed _ _ _ c.loop-end-test.false) ∙ c.loop-end.invariant.left
