@@ -136,7 +136,7 @@ waits_on u b [] h = inr h
 waits_on u b (e ∷ l) h =
     cases (either (synced? e))
     (λ y. inl (inl y))
-    (λ n. cases (waits_on (unsynced_after u e) b l (rw n (or_left (u b) (freed_among b (events_of e.call e.answer)) h))) (λ y. inl (inr y)) (λ y. inr y))
+    (λ n. cases (waits_on (unsynced_after u e) b l (rw n (or_left (u b) _ h))) (λ y. inl (inr y)) (λ y. inr y))
 
 freed_waits : (u : ℕ → Bool) (b : ℕ) (xs : List Entry) (e : Entry) (ys : List Entry) → Frees b e →
     Some Synced ys ⊎ (unsynced_from u (xs ++ (e ∷ ys)) b ≡ true)
