@@ -1,5 +1,38 @@
 -- Words behind a readable log: what the log then reads to. First in marks, then in terms of which blocks are held.
-use Rattle.std.proofs.Common.{◌≡◌, ℕ, ◌+◌, ◌*◌, ◌%◌, ◌^◌, ◌<◌, ◌≤◌, Bool, true, false, not, eqb, List, [], ◌∷◌, ◌++◌, length, get_or, set, sym, refl, ap, ◌∙◌, arith, length-append, get_or-set_other, get_or-set_same, eqb-true}
+use Rattle.std.proofs.Common.{
+  ◌≡◌,
+  Option,
+  Some,
+  None,
+  ℕ,
+  ◌+◌,
+  ◌*◌,
+  ◌%◌,
+  ◌^◌,
+  ◌<◌,
+  ◌≤◌,
+  Bool,
+  true,
+  false,
+  not,
+  eqb,
+  List,
+  [],
+  ◌∷◌,
+  ◌++◌,
+  length,
+  get_or,
+  set,
+  sym,
+  refl,
+  ap,
+  ◌∙◌,
+  arith,
+  length-append,
+  get_or-set_other,
+  get_or-set_same,
+  eqb-true,
+}
 use mathlib.Core.Bool.{false≢true}
 use mathlib.Core.List.{foldl-append}
 use Rattle.answer.proofs.Cases.{cases, same?}
@@ -8,7 +41,7 @@ use Rattle.alloc_log.specs.Marks.{mark_of, mark_run, held_in, marks_for}
 use Rattle.alloc_log.specs.Read.{State, changed, by_progress, read_word, read_words, free, Result, ended, end_of, read_log, Reads}
 use Rattle.alloc_log.specs.Compress.{compressed}
 use Rattle.alloc_log.specs.declared.read.Progress.{Progress}
-use Rattle.alloc_log.specs.declared.read.Progress.TheVariants.{Ready, Run, Bad}
+use Rattle.alloc_log.specs.declared.read.Progress.TheVariants.{Ready, Run}
 use Rattle.alloc_log.proofs.Reading.{cond_all, result_is}
 use Rattle.alloc_log.proofs.Writing.{length_bytes}
 use Rattle.alloc_log.proofs.MarksFacts.{zeros, marked, not_marked, marks_held, held_by_mark, table_mark}
@@ -30,18 +63,18 @@ words_append (a ∷ b ∷ c ∷ d ∷ e ∷ f ∷ g ∷ i ∷ rest) k h = ap (λ
 
 -- ── a readable log: its length, and its last state ──
 
-ready_of : (p : Progress) (l m : List ℕ) → ended p l ≡ (true, m) → ◌≡◌ {A = State} (p, l) (Ready, m)
+ready_of : (p : Option Progress) (l m : List ℕ) → ended p l ≡ (true, m) → ◌≡◌ {A = State} (p, l) (Some Ready, m)
 unfolding ended
-ready_of Ready l m e = ap (λ (r : Result). (Ready, r.1)) e
-ready_of (Run held b) l m e = let z : false ≡ true = ap (λ (r : Result). r.0) e in absurd (false≢true z)
-ready_of Bad l m e = let z : false ≡ true = ap (λ (r : Result). r.0) e in absurd (false≢true z)
+ready_of (Some Ready) l m e = ap (λ (r : Result). (Some Ready, r.1)) e
+ready_of (Some (Run held b)) l m e = let z : false ≡ true = ap (λ (r : Result). r.0) e in absurd (false≢true z)
+ready_of None l m e = let z : false ≡ true = ap (λ (r : Result). r.0) e in absurd (false≢true z)
 
 pub is_ready : (arenas per : ℕ) (l m : List ℕ) → read_log arenas per l ≡ (true, m)
-    → (length l % 8 ≡ 0) × (read_words arenas per (Ready, free) (words l) ≡ (Ready, m))
+    → (length l % 8 ≡ 0) × (read_words arenas per (Some Ready, free) (words l) ≡ (Some Ready, m))
 unfolding read_log
 is_ready arenas per l m =
-    let s : State = read_words arenas per (Ready, free) (words l) in
-    cond_all (λ (r : Result). r ≡ (true, m) → (length l % 8 ≡ 0) × (s ≡ (Ready, m))) (eqb (length l % 8) 0) (end_of s) (false, free)
+    let s : State = read_words arenas per (Some Ready, free) (words l) in
+    cond_all (λ (r : Result). r ≡ (true, m) → (length l % 8 ≡ 0) × (s ≡ (Some Ready, m))) (eqb (length l % 8) 0) (end_of s) (false, free)
     (λ t e. (eqb-true _ _ t, ready_of s.0 s.1 m e))
     (λ t e. absurd (false≢true (ap (λ (r : Result). r.0) e)))
 
@@ -55,20 +88,20 @@ module _ (arenas per : ℕ) (l m : List ℕ) (e : read_log arenas per l ≡ (tru
       let c = (is_ready arenas per l m e).0 in
       omega arith
 
-  pub state_behind : (ws : List ℕ) → AllFit ws → read_words arenas per (Ready, free) (words (l ++ bytes_of ws)) ≡ read_words arenas per (Ready, m) ws
+  pub state_behind : (ws : List ℕ) → AllFit ws → read_words arenas per (Some Ready, free) (words (l ++ bytes_of ws)) ≡ read_words arenas per (Some Ready, m) ws
   state_behind ws f =
       let r = is_ready arenas per l m e in
-      ap (read_words arenas per (Ready, free)) (words_append l (bytes_of ws) r.0 ∙ ap (λ (vs : List ℕ). words l ++ vs) (words_bytes ws f))
-      ∙ foldl-append (read_word arenas per) (Ready, free) (words l) ws
+      ap (read_words arenas per (Some Ready, free)) (words_append l (bytes_of ws) r.0 ∙ ap (λ (vs : List ℕ). words l ++ vs) (words_bytes ws f))
+      ∙ foldl-append (read_word arenas per) (Some Ready, free) (words l) ws
       ∙ ap (λ (t : State). read_words arenas per t ws) r.1
 
-  pub words_behind : (ws : List ℕ) → AllFit ws → read_log arenas per (l ++ bytes_of ws) ≡ end_of (read_words arenas per (Ready, m) ws)
+  pub words_behind : (ws : List ℕ) → AllFit ws → read_log arenas per (l ++ bytes_of ws) ≡ end_of (read_words arenas per (Some Ready, m) ws)
   words_behind ws f =
-      let s : State = read_words arenas per (Ready, m) ws in
+      let s : State = read_words arenas per (Some Ready, m) ws in
       result_is arenas per (l ++ bytes_of ws) s.0 s.1 (length_behind ws) (sym (state_behind ws f))
 
 pub word_behind : (arenas per : ℕ) (l m : List ℕ) (w : ℕ) → w < 2 ^ 64 → read_log arenas per l ≡ (true, m)
-    → read_log arenas per (l ++ bytes_of (w ∷ [])) ≡ end_of (read_word arenas per (Ready, m) w)
+    → read_log arenas per (l ++ bytes_of (w ∷ [])) ≡ end_of (read_word arenas per (Some Ready, m) w)
 unfolding AllFit
 word_behind arenas per l m w h e = words_behind arenas per l m e (w ∷ []) (h, tt)
 
@@ -118,7 +151,8 @@ module _ (arenas per : ℕ) (p : 0 < per) (q : arenas * per ≤ 2048) where
   result_of : (l : List ℕ) (h : ℕ → Bool) → Reads arenas per l h → read_log arenas per l ≡ (true, (read_log arenas per l).1)
   result_of l h r = ap (λ (t : Bool). (t, (read_log arenas per l).1)) r.readable
 
-  pub reads_marks : (l m : List ℕ) (h : ℕ → Bool) → read_log arenas per l ≡ (true, m) → ((b : ℕ) → b < arenas * per → get_or m b 0 ≡ mark_of (h b)) → Reads arenas per l h
+  pub reads_marks : (l m : List ℕ) (h : ℕ → Bool) → read_log arenas per l ≡ (true, m) → ((b : ℕ) → b < arenas * per → get_or m b 0 ≡ mark_of (h b))
+      → Reads arenas per l h
   reads_marks l m h e f =
       record {
         readable = ap (λ (r : Result). r.0) e;
@@ -159,7 +193,8 @@ module _ (arenas per : ℕ) (p : 0 < per) (q : arenas * per ≤ 2048) where
 
   pub reads_compressed : (h : ℕ → Bool) → Reads arenas per (bytes_of (compressed arenas per h)) h
   reads_compressed h =
-      reads_marks (bytes_of (compressed arenas per h)) (marks_for h (arenas * per)) h (compressed_read arenas per p q h) (λ b k. marks_held h (arenas * per) b q k)
+      reads_marks (bytes_of (compressed arenas per h)) (marks_for h (arenas * per)) h (compressed_read arenas per p q h)
+      (λ b k. marks_held h (arenas * per) b q k)
 
   -- a log has one meaning
   pub reads_same : (l : List ℕ) (h k : ℕ → Bool) → Reads arenas per l h → Reads arenas per l k → (b : ℕ) → b < arenas * per → h b ≡ k b

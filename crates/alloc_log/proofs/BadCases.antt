@@ -1,12 +1,43 @@
 -- Each bad case (6.5) by its name: bytes of that kind, behind a readable log and before any other bytes, are no log.
-use Rattle.std.proofs.Common.{◌≡◌, ℕ, ◌+◌, ◌-◌, ◌*◌, ◌/◌, ◌%◌, ◌^◌, ◌<◌, ◌≤◌, Bool, true, false, eqb, leb, List, [], ◌∷◌, ◌++◌, length, get_or, refl, ap, ◌∙◌, arith, ne_eqb, eqb-true, leb-false}
+use Rattle.std.proofs.Common.{
+  ◌≡◌,
+  Some,
+  None,
+  ℕ,
+  ◌+◌,
+  ◌-◌,
+  ◌*◌,
+  ◌/◌,
+  ◌%◌,
+  ◌^◌,
+  ◌<◌,
+  ◌≤◌,
+  Bool,
+  true,
+  false,
+  eqb,
+  leb,
+  List,
+  [],
+  ◌∷◌,
+  ◌++◌,
+  length,
+  get_or,
+  refl,
+  ap,
+  ◌∙◌,
+  arith,
+  ne_eqb,
+  eqb-true,
+  leb-false,
+}
 use mathlib.Core.List.{foldl-append}
 use borrow.Author.Tests.{eqb-false, lt-leb}
 use Rattle.answer.proofs.Cases.{cases, lt?}
 use Rattle.alloc_log.specs.Word.{bytes_of, words, allocated, released, allocated_run, released_run, length_of}
 use Rattle.alloc_log.specs.Marks.{mark_of}
 use Rattle.alloc_log.specs.Read.{State, changed, by_code, first_word, second_word, by_progress, read_word, read_words, free, Result, ended, end_of, read_log}
-use Rattle.alloc_log.specs.declared.read.Progress.TheVariants.{Ready, Bad}
+use Rattle.alloc_log.specs.declared.read.Progress.TheVariants.{Ready}
 use Rattle.alloc_log.proofs.Reading.{cond_all}
 use Rattle.alloc_log.proofs.MarksFacts.{not_marked}
 use Rattle.alloc_log.proofs.Steps.{one_word, run_word, one_word_lem, run_word_lem, size_word}
@@ -22,9 +53,9 @@ bad_length arenas per l h = rw (ne_eqb (length l % 8) 0 (λ e. omega arith))
 
 module _ (n : ℕ) (m : List ℕ) (w : ℕ) where
   abbrev IsBad : State → Type 0
-  IsBad s = s ≡ (Bad, m)
+  IsBad s = s ≡ (None, m)
 
-  code_bad : (1 ≤ w % 256 → w % 256 ≤ 5 → ⊥) → first_word n m w ≡ (Bad, m)
+  code_bad : (1 ≤ w % 256 → w % 256 ≤ 5 → ⊥) → first_word n m w ≡ (None, m)
   unfolding first_word by_code
   code_bad f =
       let other : (c : ℕ) → 1 ≤ c → c ≤ 5 → eqb (w % 256) c ≡ false = λ c h k. ne_eqb (w % 256) c (λ e. f (omega arith) (omega arith)) in
@@ -32,10 +63,15 @@ module _ (n : ℕ) (m : List ℕ) (w : ℕ) where
       (cond_all IsBad (eqb ((w - w % 256) % 16384) 0) _ _
       (λ _. cond_all IsBad (leb n ((w - w % 256) / 16384)) _ _
       (λ _. refl)
-      (λ _. rw (other 1 (omega arith) (omega arith), other 2 (omega arith) (omega arith), other 4 (omega arith) (omega arith), other 5 (omega arith) (omega arith))))
+      (λ _. rw (
+        other 1 (omega arith) (omega arith),
+        other 2 (omega arith) (omega arith),
+        other 4 (omega arith) (omega arith),
+        other 5 (omega arith) (omega arith),
+      )))
       (λ _. refl))
 
-  barrier_bad : w % 256 ≡ 3 → 0 < w - w % 256 → first_word n m w ≡ (Bad, m)
+  barrier_bad : w % 256 ≡ 3 → 0 < w - w % 256 → first_word n m w ≡ (None, m)
   unfolding first_word
   barrier_bad h k =
       cond_all IsBad (eqb (w % 256) 3) _ _
@@ -44,7 +80,7 @@ module _ (n : ℕ) (m : List ℕ) (w : ℕ) where
       (λ _. refl))
       (λ y. absurd (eqb-false (w % 256) 3 y h))
 
-  address_bad : 0 < (w - w % 256) % 16384 → first_word n m w ≡ (Bad, m)
+  address_bad : 0 < (w - w % 256) % 16384 → first_word n m w ≡ (None, m)
   unfolding first_word
   address_bad h =
       cond_all IsBad (eqb (w % 256) 3) _ _
@@ -55,7 +91,7 @@ module _ (n : ℕ) (m : List ℕ) (w : ℕ) where
       (λ y. let z = eqb-true ((w - w % 256) % 16384) 0 y in absurd (let v : ⊥ = omega arith in v))
       (λ _. refl))
 
-  end_bad : (w % 256 ≡ 3 → ⊥) → n * 16384 ≤ w - w % 256 → first_word n m w ≡ (Bad, m)
+  end_bad : (w % 256 ≡ 3 → ⊥) → n * 16384 ≤ w - w % 256 → first_word n m w ≡ (None, m)
   unfolding first_word
   end_bad f h =
       rw (ne_eqb (w % 256) 3 f)
@@ -82,28 +118,28 @@ module _ (n : ℕ) (m : List ℕ) (w : ℕ) where
 -- ── second words ──
 
 module _ (per : ℕ) (m : List ℕ) (held : Bool) (b : ℕ) where
-  zero_bad : second_word per m held b 0 ≡ (Bad, m)
+  zero_bad : second_word per m held b 0 ≡ (None, m)
   unfolding second_word
   zero_bad = refl
 
-  uneven_bad : (v : ℕ) → 0 < v % 16384 → second_word per m held b v ≡ (Bad, m)
+  uneven_bad : (v : ℕ) → 0 < v % 16384 → second_word per m held b v ≡ (None, m)
   unfolding second_word
   uneven_bad v h =
-      cond_all (λ (s : State). s ≡ (Bad, m)) (eqb v 0) _ _
+      cond_all (λ (s : State). s ≡ (None, m)) (eqb v 0) _ _
       (λ _. refl)
       (λ _. rw (ne_eqb (v % 16384) 0 (λ e. omega arith)))
 
-  edge_bad : (n : ℕ) → per < b % per + n → second_word per m held b (length_of n) ≡ (Bad, m)
+  edge_bad : (n : ℕ) → per < b % per + n → second_word per m held b (length_of n) ≡ (None, m)
   unfolding second_word
   edge_bad n h =
       let e : n * 16384 / 16384 ≡ n = omega arith in
-      cond_all (λ (s : State). s ≡ (Bad, m)) (eqb (length_of n) 0) _ _
+      cond_all (λ (s : State). s ≡ (None, m)) (eqb (length_of n) 0) _ _
       (λ _. refl)
-      (λ _. cond_all (λ (s : State). s ≡ (Bad, m)) (eqb (length_of n % 16384) 0) _ _
+      (λ _. cond_all (λ (s : State). s ≡ (None, m)) (eqb (length_of n % 16384) 0) _ _
       (λ _. rw (e, lt-leb (b % per + n) per h))
       (λ _. refl))
 
-  again_bad : (n i : ℕ) → i < n → get_or m (b + i) 0 ≡ mark_of held → second_word per m held b (length_of n) ≡ (Bad, m)
+  again_bad : (n i : ℕ) → i < n → get_or m (b + i) 0 ≡ mark_of held → second_word per m held b (length_of n) ≡ (None, m)
   again_bad n i h e =
       cases (lt? per (b % per + n))
       (λ k. edge_bad n k)
@@ -111,28 +147,28 @@ module _ (per : ℕ) (m : List ℕ) (held : Bool) (b : ℕ) where
 
 -- ── behind a readable log, before any other bytes ──
 
-pub bad_stays : (arenas per : ℕ) (m ws : List ℕ) → read_words arenas per (Bad, m) ws ≡ (Bad, m)
+pub bad_stays : (arenas per : ℕ) (m ws : List ℕ) → read_words arenas per (None, m) ws ≡ (None, m)
 unfolding by_progress
 bad_stays arenas per m [] = refl
 bad_stays arenas per m (w ∷ ws) = bad_stays arenas per m ws
 
 module _ (arenas per : ℕ) (q : arenas * per ≤ 2048) (l m : List ℕ) (e : read_log arenas per l ≡ (true, m)) (rest : List ℕ) where
-  bad_words : (ws : List ℕ) → AllFit ws → read_words arenas per (Ready, m) ws ≡ (Bad, m) → read_log arenas per (l ++ bytes_of ws ++ rest) ≡ (false, free)
+  bad_words : (ws : List ℕ) → AllFit ws → read_words arenas per (Some Ready, m) ws ≡ (None, m) → read_log arenas per (l ++ bytes_of ws ++ rest) ≡ (false, free)
   unfolding read_log ended
   bad_words ws f b =
       cond_all (λ (r : Result). r ≡ (false, free)) (eqb (length (l ++ bytes_of ws ++ rest) % 8) 0) _ _
       (λ _. ap end_of (
-      ap (read_words arenas per (Ready, free)) (words_append (l ++ bytes_of ws) rest (length_behind arenas per l m e ws))
-      ∙ foldl-append (read_word arenas per) (Ready, free) (words (l ++ bytes_of ws)) (words rest)
+      ap (read_words arenas per (Some Ready, free)) (words_append (l ++ bytes_of ws) rest (length_behind arenas per l m e ws))
+      ∙ foldl-append (read_word arenas per) (Some Ready, free) (words (l ++ bytes_of ws)) (words rest)
       ∙ ap (λ (s : State). read_words arenas per s (words rest)) (state_behind arenas per l m e ws f ∙ b)
       ∙ bad_stays arenas per m (words rest)))
       (λ _. refl)
 
-  bad_first : (w : ℕ) → w < 2 ^ 64 → first_word (arenas * per) m w ≡ (Bad, m) → read_log arenas per (l ++ bytes_of (w ∷ []) ++ rest) ≡ (false, free)
+  bad_first : (w : ℕ) → w < 2 ^ 64 → first_word (arenas * per) m w ≡ (None, m) → read_log arenas per (l ++ bytes_of (w ∷ []) ++ rest) ≡ (false, free)
   unfolding AllFit by_progress
   bad_first w h b = bad_words (w ∷ []) (h, tt) b
 
-  bad_second : (held : Bool) (b v : ℕ) → b < arenas * per → v < 2 ^ 64 → second_word per m held b v ≡ (Bad, m)
+  bad_second : (held : Bool) (b v : ℕ) → b < arenas * per → v < 2 ^ 64 → second_word per m held b v ≡ (None, m)
       → read_log arenas per (l ++ bytes_of (run_word held b ∷ v ∷ []) ++ rest) ≡ (false, free)
   unfolding AllFit by_progress
   bad_second held b v h k d =
@@ -142,7 +178,8 @@ module _ (arenas per : ℕ) (q : arenas * per ≤ 2048) (l m : List ℕ) (e : re
       fits true = omega arith
       fits false = omega arith
 
-  bad_one : (held : Bool) (b : ℕ) → b < arenas * per → get_or m b 0 ≡ mark_of held → read_log arenas per (l ++ bytes_of (one_word held b ∷ []) ++ rest) ≡ (false, free)
+  bad_one : (held : Bool) (b : ℕ) → b < arenas * per → get_or m b 0 ≡ mark_of held
+      → read_log arenas per (l ++ bytes_of (one_word held b ∷ []) ++ rest) ≡ (false, free)
   bad_one held b h z =
       let d : b + 0 ≡ b = omega arith in
       bad_first (one_word held b) (fits held) (one_word_lem (arenas * per) m b held h ∙ ap changed (not_marked m b 1 0 held (omega arith) (rw d z)))
@@ -164,7 +201,8 @@ module _ (arenas per : ℕ) (q : arenas * per ≤ 2048) (l m : List ℕ) (e : re
   bad_address w h k = bad_first w h (address_bad (arenas * per) m w k)
 
   -- "or past the end" (6.5)
-  pub past_end : (w : ℕ) → w < 2 ^ 64 → (w % 256 ≡ 3 → ⊥) → arenas * per * 16384 ≤ w - w % 256 → read_log arenas per (l ++ bytes_of (w ∷ []) ++ rest) ≡ (false, free)
+  pub past_end : (w : ℕ) → w < 2 ^ 64 → (w % 256 ≡ 3 → ⊥) → arenas * per * 16384 ≤ w - w % 256
+      → read_log arenas per (l ++ bytes_of (w ∷ []) ++ rest) ≡ (false, free)
   past_end w h f k = bad_first w h (end_bad (arenas * per) m w f k)
 
   -- "a length … zero" (6.5)

@@ -1,20 +1,59 @@
 -- One turn of a loop over a list.
-use Rattle.std.proofs.Common.{◌≡◌, ℕ, suc, ◌+◌, ◌-◌, ◌<◌, ◌≤◌, Bool, true, false, ◌&&◌, eqb, List, [], ◌∷◌, get_or, set, replicate, sym, refl, ap, ◌∙◌, add-one, arith, eq-eqb, ne_eqb}
+use Rattle.std.proofs.Common.{
+  ◌≡◌,
+  Option,
+  Some,
+  None,
+  ℕ,
+  zero,
+  suc,
+  ◌+◌,
+  ◌-◌,
+  ◌<◌,
+  ◌≤◌,
+  Bool,
+  cond,
+  true,
+  false,
+  ◌&&◌,
+  eqb,
+  List,
+  [],
+  ◌∷◌,
+  ◌++◌,
+  length,
+  get_or,
+  take,
+  drop,
+  replicate,
+  sym,
+  refl,
+  ap,
+  ◌∙◌,
+  ap₂,
+  append_assoc,
+  add-one,
+  arith,
+  drop-cons,
+  drop-drop,
+  eq-eqb,
+  ne_eqb,
+}
+use mathlib.Core.Bool.{and_assoc, and-true}
+use lib.ListN.{length-replicate}
+use borrow.Rule.Slice.PartMut.{put_mid}
+use Rattle.std.specs.Bool.{then_some}
+use Rattle.std.specs.Int.{from_bool}
+use Rattle.std.specs.Cmp.Lexicographic.{pointwise}
+use Rattle.std.specs.List.{fold}
 use lib.Bits.{bit_or, bit_xor, or_zero_l, and_le_l, and_le_r, or_add_and, xor_add_and, xor_self}
-use lib.Seq.{sets}
+use lib.Seq.{sets, sets-eq}
 use Rattle.answer.proofs.Cases.{cases, same?}
-use Rattle.alloc_log.specs.Marks.{all_from, Change, held_in, passing}
-use Rattle.alloc_log.specs.Read.{State, progress_of, changed}
+use Rattle.alloc_log.specs.Marks.{all_from, mark_of, Change, held_in, passing}
+use Rattle.alloc_log.specs.Read.{State, changed}
 use Rattle.alloc_log.specs.Tool.{agree_from}
 use Rattle.alloc_log.specs.declared.read.Progress.{Progress}
-
-pub all_step : (x i to : ℕ) (m : List ℕ) → i < to → all_from x m i (to - i) ≡ eqb (get_or m i 0) x && all_from x m (i + 1) (to - (i + 1))
-all_step x i to m h =
-    let e : to - i ≡ suc (to - (i + 1)) = omega arith in
-    rw (e, add-one)
-
-pub all_end : (x i to : ℕ) (m : List ℕ) → to ≤ i → all_from x m i (to - i) ≡ true
-all_end x i to m h = let e : to - i ≡ 0 = omega arith in rw e
+use Rattle.alloc_log.specs.declared.read.Progress.TheVariants.{Ready}
 
 no_difference : (m x : ℕ) → bit_xor m x ≡ 0 → m ≡ x
 no_difference m x e = omega (arith, xor_add_and m x, and_le_l m x, and_le_r m x)
@@ -31,26 +70,52 @@ joined v m x =
     (λ f. ne_eqb (bit_xor m x) 0 (λ g. f (no_difference m x g)) ∙ sym (ne_eqb m x f))))
     (λ e. ne_eqb (bit_or v (bit_xor m x)) 0 (λ g. e (none_before v (bit_xor m x) g)) ∙ sym (ap (λ (t : Bool). t && eqb m x) (ne_eqb v 0 e)))
 
-pub agree_step : (m k : List ℕ) (i n : ℕ) → i < n → agree_from m k i (n - i) ≡ eqb (get_or m i 0) (get_or k i 0) && agree_from m k (i + 1) (n - (i + 1))
-agree_step m k i n h =
-    let e : n - i ≡ suc (n - (i + 1)) = omega arith in
-    rw (e, add-one)
+-- the differences of n marks from x, joined with v, are none where v is none and all of them are x
+pub differences : (x v i n : ℕ) (m : List ℕ) → i + n ≤ length m
+    → eqb (fold (λ (w k : ℕ). bit_or w (bit_xor k x)) v (take n (drop i m))) 0 ≡ (eqb v 0 && all_from x m i n)
+differences x v i zero m h = sym (and-true (eqb v 0))
+differences x v i (suc n) m h =
+    let k : i < length m = omega arith in
+    let d = differences x (bit_or v (bit_xor (get_or m i 0) x)) (suc i) n m (omega arith) in
+    rw (drop-cons m i 0 k)
+    (d ∙ ap (λ (t : Bool). t && all_from x m (suc i) n) (joined v (get_or m i 0) x) ∙ and_assoc (eqb v 0) (eqb (get_or m i 0) x) (all_from x m (suc i) n))
 
-pub agree_end : (m k : List ℕ) (i n : ℕ) → n ≤ i → agree_from m k i (n - i) ≡ true
-agree_end m k i n h = let e : n - i ≡ 0 = omega arith in rw e
+-- a part of one value is stores of it, one after the other
+pub filled : (m : List ℕ) (i n x : ℕ) → i + n ≤ length m → put_mid i n m (replicate n x) ≡ sets m i (replicate n x)
+filled m i n x h =
+    let k : i + length (replicate n x) ≤ length m = simp length-replicate h in
+    let e : n ≡ length (replicate n x) = sym (length-replicate n x) in
+    ap (λ (l : List ℕ). take i m ++ (replicate n x ++ l)) (drop-drop n i m ∙ ap (λ (j : ℕ). drop (i + j) m) e)
+    ∙ sym (sets-eq (replicate n x) m i k ∙ append_assoc (take i m) (replicate n x) (drop (i + length (replicate n x)) m))
 
--- stores of one value from i up to `to`, with the first one made
-pub fill_step : (m : List ℕ) (i to x : ℕ) → i < to → sets (set m i x) (i + 1) (replicate (to - (i + 1)) x) ≡ sets m i (replicate (to - i) x)
-fill_step m i to x h =
-    let e : to - i ≡ suc (to - (i + 1)) = omega arith in
-    rw (e, add-one)
+pub mark_is : {v : ℕ} (held : Bool) → v ≡ from_bool held → v ≡ mark_of held
+mark_is true e = e
+mark_is false e = e
 
-pub fill_end : (m : List ℕ) (i to x : ℕ) → to ≤ i → sets m i (replicate (to - i) x) ≡ m
-fill_end m i to x h = let e : to - i ≡ 0 = omega arith in rw e
+-- the test before a change
+pub tested : (m : List ℕ) (b n : ℕ) {r : Bool} {v x : ℕ} → r ≡ all_from v m b (b + n - b) → v ≡ x → r ≡ all_from x m b n
+tested m b n e f =
+    let k : b + n - b ≡ n = omega arith in
+    e ∙ ap₂ (λ (v n : ℕ). all_from v m b n) f k
+
+-- the first n marks of two tables agree exactly where they are one list
+pub agree_parts : (m k : List ℕ) (i n : ℕ) → i + n ≤ length m → i + n ≤ length k
+    → pointwise eqb (take n (drop i m)) (take n (drop i k)) ≡ agree_from m k i n
+agree_parts m k i zero h j = refl
+agree_parts m k i (suc n) h j =
+    let a : i < length m = omega arith in
+    let b : i < length k = omega arith in
+    rw (drop-cons m i 0 a, drop-cons k i 0 b) (ap (λ (t : Bool). eqb (get_or m i 0) (get_or k i 0) && t)
+    (agree_parts m k (suc i) n (omega arith) (omega arith)))
 
 -- the progress after a change that was asked for
-pub changed_is : (p : Progress) (r : Bool) (m : List ℕ) (s : Change) → p ≡ progress_of r → ◌≡◌ {A = Change} (r, m) s → ◌≡◌ {A = State} (p, m) (changed s)
+pub changed_is : (p : Option Progress) (r : Bool) (m : List ℕ) (s : Change) → p ≡ then_some r Ready → ◌≡◌ {A = Change} (r, m) s
+    → ◌≡◌ {A = State} (p, m) (changed s)
 changed_is p r m s e f = rw e (ap changed f)
+
+pub some_or : (t : Bool) (m : List ℕ) → ◌≡◌ {A = State} (then_some t Ready, m) (cond t (Some Ready, m) (None, m))
+some_or true m = refl
+some_or false m = refl
 
 -- ── the blocks that pass a test ──
 

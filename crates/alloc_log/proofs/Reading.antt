@@ -1,7 +1,45 @@
 -- Laws of the reading of a log.
-use Rattle.std.proofs.Common.{◌≡◌, ℕ, ◌+◌, ◌-◌, ◌*◌, ◌/◌, ◌%◌, ◌<◌, ◌≤◌, Bool, true, false, cond, List, [], ◌∷◌, length, drop, sym, refl, ap, ◌∙◌, ap₂, add-zero, add_assoc, arith, length-drop, drop_of_length-le, get_or-drop, drop-drop, eq-eqb, ne_eqb}
+use Rattle.std.proofs.Common.{
+  ◌≡◌,
+  Option,
+  Some,
+  ℕ,
+  ◌+◌,
+  ◌-◌,
+  ◌/◌,
+  ◌%◌,
+  ◌<◌,
+  ◌≤◌,
+  Bool,
+  true,
+  false,
+  cond,
+  List,
+  [],
+  ◌∷◌,
+  length,
+  get_or,
+  drop,
+  sym,
+  refl,
+  ap,
+  ◌∙◌,
+  ap₂,
+  add-zero,
+  arith,
+  length-drop,
+  drop_of_length-le,
+  get_or-drop,
+  drop-drop,
+  eq-eqb,
+  ne_eqb,
+  w64,
+}
+use Rattle.std.specs.Int.{from_be_bytes}
+use Rattle.std.specs.List.{between}
+use Rattle.std.proofs.lemmas.List.Edits.{get_or-between}
 use borrow.Author.Tests.{lt-leb}
-use Rattle.alloc_log.specs.Word.{spell, half_at, word_at, words}
+use Rattle.alloc_log.specs.Word.{spell, word_at, words}
 use Rattle.alloc_log.specs.Read.{State, by_code, first_word, read_words, free, ended, end_of, read_log}
 use Rattle.alloc_log.specs.declared.read.Progress.{Progress}
 use Rattle.alloc_log.specs.declared.read.Progress.TheVariants.{Ready}
@@ -19,10 +57,24 @@ first_code blocks m w h k l = simp (ne_eqb _ _ h, eq-eqb _ _ k, lt-leb _ _ l)
 
 -- ── the words of a log ──
 
--- a word is its two halves
-pub halves : (l : List ℕ) (i : ℕ) → half_at l i * 0x1_0000_0000 + half_at l (i + 4) ≡ word_at l i
-unfolding half_at word_at spell
-halves l i = rw (add_assoc i 4 1, add_assoc i 4 2, add_assoc i 4 3) (omega arith)
+-- the eight bytes of a part spell the word that stands there
+pub spelled : (l : List ℕ) (at : ℕ) → at + 8 ≤ length l → from_be_bytes w64 (between at (at + 8) l) ≡ word_at l at
+unfolding word_at spell
+spelled l at h =
+    let g : (i : ℕ) → i < 8 → get_or (between at (at + 8) l) i 0 ≡ get_or l (at + i) 0 = λ i k. get_or-between l at (at + 8) i 0 (omega arith) in
+    let z = ap (λ (i : ℕ). get_or l i 0) (add-zero at) in
+    omega (
+      arith,
+      g 0 (omega arith),
+      g 1 (omega arith),
+      g 2 (omega arith),
+      g 3 (omega arith),
+      g 4 (omega arith),
+      g 5 (omega arith),
+      g 6 (omega arith),
+      g 7 (omega arith),
+      z,
+    )
 
 words_first : (l : List ℕ) → 8 ≤ length l → words l ≡ word_at l 0 ∷ words (drop 8 l)
 unfolding words word_at
@@ -51,7 +103,7 @@ words_end l at h = ap words (drop_of_length-le l {i = at} h)
 
 -- ── the result ──
 
-pub result_is : (arenas per : ℕ) (log : List ℕ) (p : Progress) (m : List ℕ) → length log % 8 ≡ 0
-    → ◌≡◌ {A = State} (p, m) (read_words arenas per (Ready, free) (words log)) → read_log arenas per log ≡ ended p m
+pub result_is : (arenas per : ℕ) (log : List ℕ) (p : Option Progress) (m : List ℕ) → length log % 8 ≡ 0
+    → ◌≡◌ {A = State} (p, m) (read_words arenas per (Some Ready, free) (words log)) → read_log arenas per log ≡ ended p m
 unfolding read_log
 result_is arenas per log p m h e = simp (eq-eqb _ _ h) (sym (ap end_of e))

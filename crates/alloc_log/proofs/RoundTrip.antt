@@ -1,15 +1,55 @@
 -- A compressed log reads to the blocks that it was made from, and has at most one word more than there are blocks.
-use Rattle.std.proofs.Common.{◌≡◌, ℕ, zero, suc, ◌+◌, ◌-◌, ◌*◌, ◌/◌, ◌%◌, ◌^◌, ◌<◌, ◌≤◌, Bool, true, false, eqb, leb, List, [], ◌∷◌, ◌++◌, length, sym, refl, ap, ◌∙◌, subst, ap₂, add-zero, mul-zero, div-add-mod', arith, length-append, leb-false, leb-true}
+use Rattle.std.proofs.Common.{
+  ◌≡◌,
+  Option,
+  Some,
+  None,
+  ℕ,
+  zero,
+  suc,
+  ◌+◌,
+  ◌-◌,
+  ◌*◌,
+  ◌/◌,
+  ◌%◌,
+  ◌^◌,
+  ◌<◌,
+  ◌≤◌,
+  Bool,
+  true,
+  false,
+  eqb,
+  leb,
+  List,
+  [],
+  ◌∷◌,
+  ◌++◌,
+  length,
+  sym,
+  refl,
+  ap,
+  ◌∙◌,
+  subst,
+  ap₂,
+  add-zero,
+  mul-zero,
+  div-add-mod',
+  arith,
+  length-append,
+  leb-false,
+  leb-true,
+}
+use Rattle.std.specs.Bool.{then_some}
 use mathlib.Core.List.{foldl-append}
 use native.Mathlib.Nat.{div-div-eq-div-mul}
 use Rattle.answer.proofs.Cases.{cases, lt?}
 use Rattle.alloc_log.specs.Word.{spell, word_bytes, bytes_of, words, length_of}
 use Rattle.alloc_log.specs.Marks.{mark_run, held_in, marks_for, Table}
-use Rattle.alloc_log.specs.Read.{State, RunInside, progress_of, changed, by_code, first_word, second_word, by_progress, read_word, read_words, free, Result, ended, read_log}
+use Rattle.alloc_log.specs.Read.{State, RunInside, changed, by_code, first_word, second_word, by_progress, read_word, read_words, free, Result, ended, read_log}
 use Rattle.alloc_log.specs.Runs.{runs, runs_from, ending, Longest}
 use Rattle.alloc_log.specs.Compress.{run_words, runs_words, compressed}
 use Rattle.alloc_log.specs.declared.read.Progress.{Progress}
-use Rattle.alloc_log.specs.declared.read.Progress.TheVariants.{Ready, Run as Waits, Bad}
+use Rattle.alloc_log.specs.declared.read.Progress.TheVariants.{Ready, Run as Waits}
 use Rattle.alloc_log.proofs.Reading.{cond_all, result_is}
 use Rattle.alloc_log.proofs.Writing.{length_bytes, entry_length}
 use Rattle.alloc_log.proofs.Arith.{run_inside}
@@ -24,11 +64,21 @@ digit : (w n : ℕ) → w / (n * 256) * 256 + w / n % 256 ≡ w / n
 digit w n = ap (λ (x : ℕ). x * 256 + w / n % 256) (sym (div-div-eq-div-mul w n 256)) ∙ div-add-mod' (w / n) 256
 
 spelled : (w : ℕ) → w < 2 ^ 64
-    → spell (w / 0x100_0000_0000_0000 % 256) (w / 0x1_0000_0000_0000 % 256) (w / 0x100_0000_0000 % 256) (w / 0x1_0000_0000 % 256) (w / 0x100_0000 % 256) (w / 0x1_0000 % 256) (w / 0x100 % 256) (w % 256) ≡ w
+    → spell (w / 0x100_0000_0000_0000 % 256) (w / 0x1_0000_0000_0000 % 256) (w / 0x100_0000_0000 % 256) (w / 0x1_0000_0000 % 256) (w / 0x100_0000 % 256)
+    (w / 0x1_0000 % 256) (w / 0x100 % 256) (w % 256) ≡ w
 unfolding spell
 spelled w h =
     let t : w / 0x100_0000_0000_0000 % 256 ≡ w / 0x100_0000_0000_0000 = omega arith in
-    simp (t, digit w 0x1_0000_0000_0000, digit w 0x100_0000_0000, digit w 0x1_0000_0000, digit w 0x100_0000, digit w 0x1_0000, digit w 0x100, div-add-mod' w 256)
+    simp (
+      t,
+      digit w 0x1_0000_0000_0000,
+      digit w 0x100_0000_0000,
+      digit w 0x1_0000_0000,
+      digit w 0x100_0000,
+      digit w 0x1_0000,
+      digit w 0x100,
+      div-add-mod' w 256,
+    )
 
 -- each word fits into eight bytes
 unfoldable pub AllFit : List ℕ → Type 0
@@ -50,7 +100,7 @@ words_bytes (w ∷ ws) h = ap₂ (λ (x : ℕ) (xs : List ℕ). x ∷ xs) (spell
 module _ (arenas per : ℕ) (p : 0 < per) (q : arenas * per ≤ 2048) (held : ℕ → Bool) where
   -- the state with the blocks below k read
   abbrev At : ℕ → State
-  At k = (Ready, marks_for held k)
+  At k = (Some Ready, marks_for held k)
 
   run_marked : (s k : ℕ) → ((b : ℕ) → s ≤ b → b < s + k → held b ≡ true) → mark_run (marks_for held s) s k true ≡ (true, marks_for held (s + k))
   run_marked s k f = marked (marks_for held s) s k true (λ i h. marks_rest held s (s + i) (omega arith)) ∙ ap (λ (l : List ℕ). (true, l)) (marks_run held s k f)
@@ -70,7 +120,7 @@ module _ (arenas per : ℕ) (p : 0 < per) (q : arenas * per ≤ 2048) (held : �
   read_compressed =
       runs_walk per p held (arenas * per) (λ b l. read_words arenas per (At b) (runs_words l) ≡ At (arenas * per))
       (barrier_word (arenas * per) (marks_for held (arenas * per)))
-      (λ b l h e r. ap (λ (m : List ℕ). read_words arenas per (Ready, m) (runs_words l)) (marks_skip held b e) ∙ r)
+      (λ b l h e r. ap (λ (m : List ℕ). read_words arenas per (Some Ready, m) (runs_words l)) (marks_skip held b e) ∙ r)
       (λ s k l w r.
       foldl-append (read_word arenas per) (At s) (run_words s k) (runs_words l)
       ∙ ap (λ (t : State). read_words arenas per t (runs_words l)) (read_run s k w)
@@ -94,8 +144,8 @@ module _ (arenas per : ℕ) (p : 0 < per) (q : arenas * per ≤ 2048) (held : �
   compressed_read =
       let ws : List ℕ = compressed arenas per held in
       let l : length (bytes_of ws) ≡ 8 * length ws = length_bytes ws in
-      result_is arenas per (bytes_of ws) Ready (marks_for held (arenas * per)) (omega arith)
-      (sym (ap (read_words arenas per (Ready, free)) (words_bytes ws compressed_fits) ∙ read_compressed))
+      result_is arenas per (bytes_of ws) (Some Ready) (marks_for held (arenas * per)) (omega arith)
+      (sym (ap (read_words arenas per (Some Ready, free)) (words_bytes ws compressed_fits) ∙ read_compressed))
 
 length_runs : (arenas per : ℕ) → 0 < per → (held : ℕ → Bool) → length (compressed arenas per held) + 0 ≤ arenas * per + 1
 unfolding compressed runs_words
@@ -118,7 +168,7 @@ module _ (arenas per : ℕ) (p : 0 < per) where
   abbrev pub Good : State → Type 0
   Good s = RunInside (arenas * per) s.0 × Table (arenas * per) s.1
 
-  in_range : (t : Bool) → RunInside (arenas * per) (progress_of t)
+  in_range : (t : Bool) → RunInside (arenas * per) (then_some t Ready)
   in_range true = tt
   in_range false = tt
 
@@ -150,11 +200,11 @@ module _ (arenas per : ℕ) (p : 0 < per) where
       (λ _. (tt, t)))
       (λ _. (tt, t)))
 
-  pub good_word : (s : Progress) (m : List ℕ) (w : ℕ) → Good (s, m) → Good (read_word arenas per (s, m) w)
+  pub good_word : (s : Option Progress) (m : List ℕ) (w : ℕ) → Good (s, m) → Good (read_word arenas per (s, m) w)
   unfolding by_progress
-  good_word Ready m w g = good_first m w g.1
-  good_word (Waits held b) m w g = good_second m held b w g.1 g.0
-  good_word Bad m w g = g
+  good_word (Some Ready) m w g = good_first m w g.1
+  good_word (Some (Waits held b)) m w g = good_second m held b w g.1 g.0
+  good_word None m w g = g
 
   pub good_words : (s : State) (ws : List ℕ) → Good s → Good (read_words arenas per s ws)
   good_words s [] g = g
@@ -164,19 +214,19 @@ module _ (arenas per : ℕ) (p : 0 < per) where
   unfolding free
   free_table = all_free (arenas * per)
 
-  ended_table : (s : Progress) (m : List ℕ) → Table (arenas * per) m → Table (arenas * per) (ended s m).1
+  ended_table : (s : Option Progress) (m : List ℕ) → Table (arenas * per) m → Table (arenas * per) (ended s m).1
   unfolding ended
-  ended_table Ready m t = t
-  ended_table (Waits held b) m t = free_table
-  ended_table Bad m t = free_table
+  ended_table (Some Ready) m t = t
+  ended_table (Some (Waits held b)) m t = free_table
+  ended_table None m t = free_table
 
   -- reading any bytes gives a table
   pub read_table : (l : List ℕ) → Table (arenas * per) (read_log arenas per l).1
   unfolding read_log
   read_table l =
       cond_all (λ (r : Result). Table (arenas * per) r.1) (eqb (length l % 8) 0) _ _
-      (λ _. let s : State = read_words arenas per (Ready, free) (words l) in
-      ended_table s.0 s.1 (good_words (Ready, free) (words l) (tt, free_table)).1)
+      (λ _. let s : State = read_words arenas per (Some Ready, free) (words l) in
+      ended_table s.0 s.1 (good_words (Some Ready, free) (words l) (tt, free_table)).1)
       (λ _. free_table)
 
   pub readable_marks : (l m : List ℕ) → read_log arenas per l ≡ (true, m) → Table (arenas * per) m

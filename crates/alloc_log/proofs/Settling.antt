@@ -1,5 +1,44 @@
 -- What is settled of a log, found step by step: words and their bytes, how many words stand up to the last barrier, and a search from the log's end.
-use Rattle.std.proofs.Common.{◌≡◌, ℕ, suc, ◌+◌, ◌-◌, ◌*◌, ◌%◌, ◌<◌, ◌≤◌, cond, eqb, ltb, ◌⊎◌, List, [], ◌∷◌, ◌++◌, length, take, drop, sym, refl, ap, ◌∙◌, subst, ap₂, inl, inr, arith, length-append, length-drop, take-append-drop, length-take-le, take_all, take-take, lt-ltb, eq-eqb, ne_eqb}
+use Rattle.std.proofs.Common.{
+  ◌≡◌,
+  ℕ,
+  suc,
+  ◌+◌,
+  ◌-◌,
+  ◌*◌,
+  ◌/◌,
+  ◌%◌,
+  ◌<◌,
+  ◌≤◌,
+  cond,
+  eqb,
+  ltb,
+  ◌⊎◌,
+  List,
+  [],
+  ◌∷◌,
+  ◌++◌,
+  length,
+  take,
+  drop,
+  sym,
+  refl,
+  ap,
+  ◌∙◌,
+  subst,
+  inl,
+  inr,
+  arith,
+  length-append,
+  length-drop,
+  take-append-drop,
+  length-take-le,
+  take_all,
+  take-take,
+  lt-ltb,
+  eq-eqb,
+  ne_eqb,
+}
 use lib.Seq.{append_snoc}
 use Rattle.answer.proofs.Cases.{cases, lt?, same?}
 use Rattle.alloc_log.specs.Word.{words, word_at, barrier}
@@ -156,33 +195,31 @@ none_cut l k n =
     (rw (take-take m k l (omega arith)) (none_front (words (take m l)) (words (drop m l)) w))
     (short_none (drop m (take k l)) (omega (arith, length-drop m (take k l))))))
 
--- ── the search from the log's end: no word from `end` on is a barrier ──
+-- ── the search from the log's end ──
 
-module _ (log : List ℕ) (end : ℕ) where
-  -- it starts behind the last whole word
-  pub search_starts : end ≡ length log - length log % 8 → NoBarrier (words (drop end log))
-  search_starts e = short_none (drop end log) (omega (arith, length-drop end log))
+-- it starts after the last whole word
+pub search_starts : (log : List ℕ) → NoBarrier (words (drop (8 * (length log / 8)) log))
+search_starts log = short_none (drop (8 * (length log / 8)) log) (omega (arith, length-drop (8 * (length log / 8)) log))
 
-  module _ (p : 0 < end) (h : end ≤ length log) (w : end % 8 ≡ 0) (n : NoBarrier (words (drop end log))) {v : ℕ} (at : v ≡ word_at log (end - 8)) where
-    last_word : words (drop (end - 8) log) ≡ v ∷ words (drop end log)
-    last_word =
-        let e : end - 8 + 8 ≡ end = omega arith in
-        words_step log (end - 8) (omega arith) ∙ ap₂ (λ (x k : ℕ). x ∷ words (drop k log)) (sym at) e
+-- the word at `at` is v, and no word after it is a barrier
+module _ (log : List ℕ) (at : ℕ) (h : at + 8 ≤ length log) (w : at % 8 ≡ 0) (n : NoBarrier (words (drop (at + 8) log))) {v : ℕ} (is : v ≡ word_at log at) where
+  last_word : words (drop at log) ≡ v ∷ words (drop (at + 8) log)
+  last_word = words_step log at h ∙ ap (λ (x : ℕ). x ∷ words (drop (at + 8) log)) (sym is)
 
-    -- it goes on where the word before is none
-    pub search_on : (v ≡ 3 → ⊥) → NoBarrier (words (drop (end - 8) log))
-    search_on b = subst NoBarrier (sym last_word) (b, n)
+  -- the search goes on where the word is none
+  pub search_on : (v ≡ 3 → ⊥) → NoBarrier (words (drop at log))
+  search_on b = subst NoBarrier (sym last_word) (b, n)
 
-    -- and ends where it is one
-    last_barrier : v ≡ 3 → up_to_barrier (words log) ≡ suc (length (words (take (end - 8) log)))
-    last_barrier b =
-        let front : List ℕ = words (take (end - 8) log) in
-        ap up_to_barrier (words_split log (end - 8) (omega arith) (omega arith))
-        ∙ ap (λ (l : List ℕ). up_to_barrier (front ++ l)) (last_word ∙ ap (λ (x : ℕ). x ∷ words (drop end log)) b)
-        ∙ up_to front (words (drop end log)) n
+  -- and ends where it is one
+  last_barrier : v ≡ 3 → up_to_barrier (words log) ≡ suc (length (words (take at log)))
+  last_barrier b =
+      let front : List ℕ = words (take at log) in
+      ap up_to_barrier (words_split log at (omega arith) w)
+      ∙ ap (λ (l : List ℕ). up_to_barrier (front ++ l)) (last_word ∙ ap (λ (x : ℕ). x ∷ words (drop (at + 8) log)) b)
+      ∙ up_to front (words (drop (at + 8) log)) n
 
-    pub search_finds : v ≡ 3 → end ≡ 8 * up_to_barrier (words log)
-    search_finds b = omega (arith, last_barrier b, front_words log (end - 8) (omega arith) (omega arith))
+  pub search_finds : v ≡ 3 → at + 8 ≡ 8 * up_to_barrier (words log)
+  search_finds b = omega (arith, last_barrier b, front_words log at (omega arith) w)
 
 -- or at the log's start
 pub search_fails : (log : List ℕ) (end : ℕ) → end ≡ 0 → NoBarrier (words (drop end log)) → 0 ≡ 8 * up_to_barrier (words log)

@@ -1,5 +1,5 @@
 -- What each word of a log does to the marks.
-use Rattle.std.proofs.Common.{◌≡◌, ℕ, ◌+◌, ◌-◌, ◌*◌, ◌/◌, ◌%◌, ◌<◌, ◌≤◌, Bool, true, false, eqb, List, refl, arith, ne_eqb, le-leb}
+use Rattle.std.proofs.Common.{◌≡◌, Some, ℕ, ◌+◌, ◌-◌, ◌*◌, ◌/◌, ◌%◌, ◌<◌, ◌≤◌, Bool, true, false, eqb, List, refl, arith, ne_eqb, le-leb}
 use borrow.Author.Tests.{lt-leb}
 use Rattle.alloc_log.specs.Word.{allocated, released, barrier, allocated_run, released_run, length_of}
 use Rattle.alloc_log.specs.Marks.{mark_run}
@@ -29,16 +29,17 @@ unfolding by_code
 one_word_lem n m b true h = first_code n m b 1 h (omega arith) (λ e. omega arith)
 one_word_lem n m b false h = first_code n m b 2 h (omega arith) (λ e. omega arith)
 
-pub run_word_lem : (n : ℕ) (m : List ℕ) (b : ℕ) (held : Bool) → b < n → first_word n m (run_word held b) ≡ (Run held b, m)
+pub run_word_lem : (n : ℕ) (m : List ℕ) (b : ℕ) (held : Bool) → b < n → first_word n m (run_word held b) ≡ (Some (Run held b), m)
 unfolding by_code
 run_word_lem n m b true h = first_code n m b 4 h (omega arith) (λ e. omega arith)
 run_word_lem n m b false h = first_code n m b 5 h (omega arith) (λ e. omega arith)
 
-pub barrier_word : (n : ℕ) (m : List ℕ) → first_word n m barrier ≡ (Ready, m)
+pub barrier_word : (n : ℕ) (m : List ℕ) → first_word n m barrier ≡ (Some Ready, m)
 unfolding first_word
 barrier_word n m = refl
 
-pub size_word : (per : ℕ) (m : List ℕ) (held : Bool) (b n : ℕ) → 0 < n → b % per + n ≤ per → second_word per m held b (length_of n) ≡ changed (mark_run m b n held)
+pub size_word : (per : ℕ) (m : List ℕ) (held : Bool) (b n : ℕ) → 0 < n → b % per + n ≤ per
+    → second_word per m held b (length_of n) ≡ changed (mark_run m b n held)
 unfolding second_word
 size_word per m held b n p h =
     let d : n * 16384 % 16384 ≡ 0 = omega arith in

@@ -1,6 +1,6 @@
 -- The entry points for disk tools: any six numbers, any bytes, a buffer of any length.
 -- "3: … or a result buffer under 2 × N + 64 numbers. A log given to be read or compared may be of any length." (7.1, 7.3) "7: bytes that are no log." (7.1)
-use Rattle.std.specs.Prelude.{◌≡◌, ℕ, zero, suc, ◌+◌, ◌*◌, Bool, true, false, not, ◌&&◌, List, [], ◌∷◌, length, ◌==◌, nat_lt, slice_index}
+use Rattle.std.specs.Prelude.{◌≡◌, ℕ, zero, suc, ◌+◌, ◌*◌, Bool, true, not, ◌&&◌, List, [], ◌∷◌, length, ◌==◌, nat_lt, slice_index, Result, Ok, Err}
 use Rattle.std.proofs.lemmas.List.Edits.{sets}
 use Rattle.answer.specs.Reply.{Reply, accepted, refused}
 use Rattle.answer.specs.Refusal.{Condition, decide, leaves}
@@ -11,10 +11,8 @@ use Rattle.alloc_log.specs.Read.{read_log}
 use Rattle.alloc_log.specs.Settled.{settled}
 use Rattle.alloc_log.specs.Word.{write_at, bytes_of}
 use Rattle.alloc_log.specs.Compress.{compressed}
-use Rattle.alloc_log.specs.declared.tool.Comparison.{Comparison}
-use Rattle.alloc_log.specs.declared.tool.Comparison.TheVariants.{Alike, Different, Refused}
-use Rattle.alloc_log.specs.declared.tool.Compaction.{Compaction}
-use Rattle.alloc_log.specs.declared.tool.Compaction.TheVariants as compaction
+use Rattle.answer.specs.declared.Refusal.{Refusal}
+use Rattle.answer.specs.Number.{number_of}
 
 -- the bytes are a log of a store of geometry g
 unfoldable pub readable : Geometry → List ℕ → Bool
@@ -63,10 +61,9 @@ pub data Compared : Type 0 where
   judged : Bool → Compared
   turned_away : ℕ → Compared
 
-unfoldable pub verdict_of : Comparison → Compared
-verdict_of Alike = judged true
-verdict_of Different = judged false
-verdict_of (Refused n) = turned_away n
+unfoldable pub verdict_of : Result Bool Refusal → Compared
+verdict_of (Ok t) = judged t
+verdict_of (Err r) = turned_away (number_of r)
 
 abbrev pub compare_conditions : Geometry → List ℕ → List ℕ → List Condition
 compare_conditions g a b = (2, not (fits g)) ∷ (7, not (readable g a && readable g b)) ∷ []
@@ -81,9 +78,9 @@ compare_verdict g a b = verdict_by (decide (compare_conditions g a b) []) (alike
 -- ── compressing: every word counts ──
 
 -- the reply that a compaction stands for: the number of words, or the refusal
-unfoldable pub compact_reply_of : Compaction → Reply
-compact_reply_of (compaction.Words n) = accepted (n ∷ [])
-compact_reply_of (compaction.Refused k) = refused k
+unfoldable pub compact_reply_of : Result ℕ Refusal → Reply
+compact_reply_of (Ok n) = accepted (n ∷ [])
+compact_reply_of (Err r) = refused (number_of r)
 
 -- the words of a log written anew, compressed
 unfoldable pub compact_words : Geometry → List ℕ → List ℕ

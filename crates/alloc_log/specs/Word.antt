@@ -26,12 +26,9 @@ word_bytes w =
 unfoldable pub word_at : List ℕ → ℕ → ℕ
 unfolding spell
 word_at l i =
-    spell (slice_index l i) (slice_index l (i + 1)) (slice_index l (i + 2)) (slice_index l (i + 3)) (slice_index l (i + 4)) (slice_index l (i + 5)) (slice_index l (i + 6))
+    spell (slice_index l i) (slice_index l (i + 1)) (slice_index l (i + 2)) (slice_index l (i + 3)) (slice_index l (i + 4)) (slice_index l (i + 5))
+    (slice_index l (i + 6))
     (slice_index l (i + 7))
-
--- the number that the four bytes from i on spell
-unfoldable pub half_at : List ℕ → ℕ → ℕ
-half_at l i = ((slice_index l i * 256 + slice_index l (i + 1)) * 256 + slice_index l (i + 2)) * 256 + slice_index l (i + 3)
 
 -- the words of a list of bytes, eight bytes each; fewer than eight at the end are none
 unfoldable pub words : List ℕ → List ℕ

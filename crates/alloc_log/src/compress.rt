@@ -1,4 +1,4 @@
-// Writing a log anew, compressed.
+// Writing a log again, compressed.
 ghost use Rattle.std.specs.Prelude.{◌≡◌, ◌+◌, ◌*◌, ◌<◌, ◌≤◌, length};
 ghost use Rattle.alloc_log.specs.Word.{write_at, bytes_of};
 ghost use Rattle.alloc_log.specs.Compress.{run_words, compressed};
@@ -29,23 +29,19 @@ pub fn compress(log: &mut [u8], marks: &[u8; 2048], arenas: usize, per: usize) -
         × (log.new ≡ write_at log.old 0 (bytes_of (compressed arenas per (held_in marks.now)))) }
 {
     let mut used = 0;
-    let mut b = 0;
-    let mut arena = 0;
-    while arena < arenas {
-        let edge = b + per;
+    for arena in 0..arenas {
+        let start = arena * per;
+        let edge = start + per;
         let mut run = 0;
-        while b < edge {
+        for b in start..edge {
             if marks[b] == 0 {
                 used = put_run(log, used, b - run, run);
                 run = 0;
-                b += 1;
             } else {
                 run += 1;
-                b += 1;
             }
         }
-        used = put_run(log, used, b - run, run);
-        arena += 1;
+        used = put_run(log, used, edge - run, run);
     }
     append(log, used, 3)
 }

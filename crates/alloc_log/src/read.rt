@@ -2,11 +2,10 @@
 ghost use Rattle.std.specs.Prelude.{◌≡◌, ◌+◌, ◌*◌, ◌%◌, ◌<◌, ◌≤◌, true, false, length};
 ghost use Rattle.alloc_log.specs.Word.{words};
 ghost use Rattle.alloc_log.specs.Marks.{Table};
-ghost use Rattle.alloc_log.specs.Read.{first_word, second_word, read_words, read_log, ReadOn, State, Result};
+ghost use Rattle.alloc_log.specs.Read.{first_word, second_word, read_words, read_log, told, ReadOn, State};
 
 use crate::marks::mark_run;
 use crate::word::get_word;
-use std::num::wrapping_sub_u64;
 
 // How far the reading of a log has come.
 #[derive(Clone, Copy)]
@@ -15,52 +14,35 @@ pub enum Progress {
     Ready,
     // The next word is the length of a run that starts at the block, and is to be held or free.
     Run(bool, usize),
-    // No log.
-    Bad,
 }
 
-fn progress_of(ok: bool) -> Progress
-    ensures { result ≡ Rattle.alloc_log.specs.Read.progress_of ok }
-{
-    if ok { Progress::Ready } else { Progress::Bad }
-}
-
-// The first word of an entry.
-fn first_word(marks: &mut [u8; 2048], word: u64, blocks: usize) -> Progress
+// The first word of an entry: none where it is bad.
+fn first_word(marks: &mut [u8; 2048], word: u64, blocks: usize) -> Option<Progress>
     requires { blocks ≤ 2048 }
     ensures { ◌≡◌ {A = State} (result, marks.new) (first_word blocks marks.old word) }
 {
     let low = word % 256;
     let rest = word - low;
     if low == 3 {
-        if rest == 0 {
-            return Progress::Ready;
-        }
-        return Progress::Bad;
+        return (rest == 0).then_some(Progress::Ready);
     }
     if rest % 16384 != 0 {
-        return Progress::Bad;
+        return None;
     }
     let block = (rest / 16384) as usize;
     if blocks <= block {
-        return Progress::Bad;
+        return None;
     }
-    if low == 1 {
-        return progress_of(mark_run(marks, block, 1, true));
+    match low {
+        1 => mark_run(marks, block, 1, true).then_some(Progress::Ready),
+        2 => mark_run(marks, block, 1, false).then_some(Progress::Ready),
+        4 => Some(Progress::Run(true, block)),
+        5 => Some(Progress::Run(false, block)),
+        _ => None,
     }
-    if low == 2 {
-        return progress_of(mark_run(marks, block, 1, false));
-    }
-    if low == 4 {
-        return Progress::Run(true, block);
-    }
-    if low == 5 {
-        return Progress::Run(false, block);
-    }
-    Progress::Bad
 }
 
-// The second word of a run's entry.
+// The second word of a run's entry: none where it is bad.
 fn second_word(
     marks: &mut [u8; 2048],
     held: bool,
@@ -68,22 +50,22 @@ fn second_word(
     word: u64,
     arenas: usize,
     per: usize,
-) -> Progress
+) -> Option<Progress>
     requires { (0 < per) × (arenas * per ≤ 2048) × (block < arenas * per) }
     ensures { ◌≡◌ {A = State} (result, marks.new) (second_word per marks.old held block word) }
 {
     if word == 0 {
-        return Progress::Bad;
+        return None;
     }
     if word % 16384 != 0 {
-        return Progress::Bad;
+        return None;
     }
     let count = (word / 16384) as usize;
     let within = block % per;
     if per < within + count {
-        return Progress::Bad;
+        return None;
     }
-    progress_of(mark_run(marks, block, count, held))
+    mark_run(marks, block, count, held).then_some(Progress::Ready)
 }
 
 // Reads a word that allocates or frees one block, where the block is in the other state. Less 1, such a word is the block and the mark that it has:
@@ -91,17 +73,17 @@ fn second_word(
 fn read_single(marks: &mut [u8; 2048], word: u64, blocks: usize) -> bool
     requires { (blocks ≤ 2048) × Table blocks marks.old }
     ensures table { Table blocks marks.new }
-    ensures yes { result ≡ true → first_word blocks marks.old word ≡ (Progress.Ready, marks.new) }
+    ensures yes { result ≡ true → first_word blocks marks.old word ≡ (Some Progress.Ready, marks.new) }
     ensures no { result ≡ false → marks.new ≡ marks.old }
 {
-    let entry = wrapping_sub_u64(word, 1);
+    let entry = word.wrapping_sub(1);
     let block = entry / 16384;
     if blocks as u64 <= block {
         return false;
     }
     let b = block as usize;
     let mark = entry % 16384;
-    if mark == marks[b] as u64 {
+    if mark == u64::from(marks[b]) {
         marks[b] = (mark ^ 1) as u8;
         return true;
     }
@@ -115,6 +97,7 @@ fn read_pairs(marks: &mut [u8; 2048], log: &[u8], from: usize, arenas: usize, pe
     ensures { ReadOn arenas per log.now marks.old from marks.new result }
 {
     let mut at = from;
+    // Kept: a turn reads one word or two, which no range tells.
     while at + 16 <= log.len() {
         let first = get_word(log, at);
         if first == 3 {
@@ -132,62 +115,43 @@ fn read_pairs(marks: &mut [u8; 2048], log: &[u8], from: usize, arenas: usize, pe
     at
 }
 
-// Reads a log.
-fn read_all(marks: &mut [u8; 2048], log: &[u8], arenas: usize, per: usize) -> Progress
+// Reads a log: none where a word is bad.
+fn read_all(marks: &mut [u8; 2048], log: &[u8], arenas: usize, per: usize) -> Option<Progress>
     requires { (0 < per) × (arenas * per ≤ 2048) × (length log.now % 8 ≡ 0) × Table (arenas * per) marks.old }
-    ensures { ◌≡◌ {A = State} (result, marks.new) (read_words arenas per (Progress.Ready, marks.old) (words log.now)) }
+    ensures { ◌≡◌ {A = State} (result, marks.new) (read_words arenas per (Some Progress.Ready, marks.old) (words log.now)) }
 {
     let mut p = Progress::Ready;
     let mut at: usize = 0;
+    // Kept: how far a turn reads is known only after it, which no range tells.
     while at < log.len() {
         match p {
             Progress::Ready => {
                 at = read_pairs(marks, log, at, arenas, per);
                 if at < log.len() {
-                    p = first_word(marks, get_word(log, at), arenas * per);
+                    p = first_word(marks, get_word(log, at), arenas * per)?;
                     at += 8;
                 }
             }
             Progress::Run(held, block) => {
-                p = second_word(marks, held, block, get_word(log, at), arenas, per);
+                p = second_word(marks, held, block, get_word(log, at), arenas, per)?;
                 at += 8;
-            }
-            Progress::Bad => {
-                return Progress::Bad;
             }
         }
     }
-    p
+    Some(p)
 }
 
-// What a log holds: 1 for each held block; ok is false, and all are free, where it is no log.
-#[derive(Drop)]
-pub struct Held {
-    pub ok: bool,
-    pub marks: [u8; 2048],
-}
-
-pub fn read_log(log: &[u8], arenas: usize, per: usize) -> Held
+// What a log holds: 1 for each held block; none where it is no log.
+pub fn read_log(log: &[u8], arenas: usize, per: usize) -> Option<[u8; 2048]>
     requires { (0 < per) × (arenas * per ≤ 2048) }
-    ensures { ◌≡◌ {A = Result} (result.ok, result.marks) (read_log arenas per log.now) }
+    ensures { told result ≡ read_log arenas per log.now }
 {
     if log.len() % 8 != 0 {
-        return Held {
-            ok: false,
-            marks: [0u8; 2048],
-        };
+        return None;
     }
     let mut marks = [0u8; 2048];
-    let p = read_all(&mut marks, log, arenas, per);
-    match p {
-        Progress::Ready => Held { ok: true, marks },
-        Progress::Run(_, _) => Held {
-            ok: false,
-            marks: [0u8; 2048],
-        },
-        Progress::Bad => Held {
-            ok: false,
-            marks: [0u8; 2048],
-        },
+    match read_all(&mut marks, log, arenas, per)? {
+        Progress::Ready => Some(marks),
+        Progress::Run(_, _) => None,
     }
 }

@@ -6,43 +6,24 @@ ghost use Rattle.geometry.specs.Limits.{geometry_of};
 ghost use Rattle.alloc_log.specs.Word.{words};
 ghost use Rattle.alloc_log.specs.Marks.{held_blocks};
 ghost use Rattle.alloc_log.specs.Settled.{up_to_barrier};
-ghost use Rattle.alloc_log.specs.Tool.{read_reply, read_out, agree_from, verdict_of, compare_verdict, compact_reply_of, compact_reply, compact_out};
+ghost use Rattle.alloc_log.specs.Tool.{read_reply, read_out, verdict_of, compare_verdict, compact_reply_of, compact_reply, compact_out};
 
 use crate::compress::compress;
 use crate::read::read_log;
 use crate::word::get_word;
-use answer::Answer;
-use geometry::{Geometry, Making};
-
-// How two logs compare, or the number of the refusal.
-#[derive(Clone, Copy)]
-pub enum Comparison {
-    Alike,
-    Different,
-    Refused(u8),
-}
-
-// How many words a compressed log has, or the number of the refusal.
-#[derive(Clone, Copy)]
-pub enum Compaction {
-    Words(usize),
-    Refused(u8),
-}
+use answer::{Answer, Refusal};
+use geometry::Geometry;
 
 // Writes the held ones of the first n blocks to `out`, rising, and returns how many there are.
 fn list_held(marks: &[u8; 2048], n: usize, out: &mut [u32]) -> usize
     requires { (n ≤ 2048) × (n ≤ length out.old) }
     ensures { (result ≡ length (held_blocks marks.now n)) × (out.new ≡ sets out.old 0 (held_blocks marks.now n)) }
 {
-    let mut count: usize = 0;
-    let mut b: usize = 0;
-    while b < n {
-        if marks[b] == 0 {
-            b += 1;
-        } else {
+    let mut count = 0;
+    for b in 0..n {
+        if marks[b] != 0 {
             out[count] = b as u32;
             count += 1;
-            b += 1;
         }
     }
     count
@@ -52,17 +33,15 @@ fn list_held(marks: &[u8; 2048], n: usize, out: &mut [u32]) -> usize
 fn settled_end(log: &[u8]) -> usize
     ensures { (result ≡ 8 * up_to_barrier (words log.now)) × (result ≤ length log.now) }
 {
-    let mut end = log.len() - log.len() % 8;
-    while 0 < end {
-        if get_word(log, end - 8) == 3 {
-            return end;
+    for i in (0..log.len() / 8).rev() {
+        if get_word(log, 8 * i) == 3 {
+            return 8 * i + 8;
         }
-        end -= 8;
     }
     0
 }
 
-// Reads what is settled of a log of any length. Done(n): the first n numbers of `out` are the held blocks, rising. Refusals 2, 3, 7.
+// Reads what is settled of a log of any length. `Ok(n)`: the first n numbers of `out` are the held blocks, rising. Refusals 2, 3, 7.
 pub fn read_held(
     arenas: usize,
     per: usize,
@@ -76,39 +55,19 @@ pub fn read_held(
     ensures reply { reply_of result out.new ≡ read_reply (geometry_of arenas per pages records turn words) log.now out.old }
     ensures out { out.new ≡ read_out (geometry_of arenas per pages records turn words) log.now out.old }
 {
-    let made = Geometry::new(arenas, per, pages, records, turn, words);
-    let Making::Made(g) = made else {
-        return Answer::Refused(2);
-    };
+    let g = Geometry::new(arenas, per, pages, records, turn, words)?;
     let blocks = g.arenas * g.per;
     if out.len() < 2 * blocks + 64 {
-        return Answer::Refused(3);
+        return Err(Refusal::TooShort);
     }
     let end = settled_end(log);
-    let held = read_log(&log[..end], g.arenas, g.per);
-    if !held.ok {
-        return Answer::Refused(7);
-    }
-    let marks = held.marks;
-    Answer::Done(list_held(&marks, blocks, out))
+    let Some(marks) = read_log(&log[..end], g.arenas, g.per) else {
+        return Err(Refusal::NoLog);
+    };
+    Ok(list_held(&marks, blocks, out))
 }
 
-// Whether the first n marks of two tables agree.
-fn agree(a: &[u8; 2048], b: &[u8; 2048], n: usize) -> bool
-    requires { n ≤ 2048 }
-    ensures { result ≡ agree_from a.now b.now 0 n }
-{
-    let mut i: usize = 0;
-    while i < n {
-        if a[i] != b[i] {
-            return false;
-        }
-        i += 1;
-    }
-    true
-}
-
-// Compares two logs of any length by the blocks that they hold at their end. Refusals 2, 7.
+// Whether two logs of any length are alike, by the blocks that they hold at their end. Refusals 2, 7.
 pub fn compare(
     arenas: usize,
     per: usize,
@@ -118,30 +77,21 @@ pub fn compare(
     words: usize,
     first: &[u8],
     second: &[u8],
-) -> Comparison
+) -> Result<bool, Refusal>
     ensures { verdict_of result ≡ compare_verdict (geometry_of arenas per pages records turn words) first.now second.now }
 {
-    let made = Geometry::new(arenas, per, pages, records, turn, words);
-    let Making::Made(g) = made else {
-        return Comparison::Refused(2);
+    let g = Geometry::new(arenas, per, pages, records, turn, words)?;
+    let Some(one) = read_log(first, g.arenas, g.per) else {
+        return Err(Refusal::NoLog);
     };
-    let one = read_log(first, g.arenas, g.per);
-    if !one.ok {
-        return Comparison::Refused(7);
-    }
-    let two = read_log(second, g.arenas, g.per);
-    if !two.ok {
-        return Comparison::Refused(7);
-    }
-    let a = one.marks;
-    let b = two.marks;
-    if agree(&a, &b, g.arenas * g.per) {
-        return Comparison::Alike;
-    }
-    Comparison::Different
+    let Some(two) = read_log(second, g.arenas, g.per) else {
+        return Err(Refusal::NoLog);
+    };
+    let blocks = g.arenas * g.per;
+    Ok(one[..blocks] == two[..blocks])
 }
 
-// Writes a log of any length anew, compressed, at the start of `out`. Refusals 2, 3 (`out` shorter than the log words), 7.
+// Writes a log of any length again, compressed, at the start of `out`, and returns how many words it has. Refusals 2, 3 (`out` shorter than the log words), 7.
 pub fn compact(
     arenas: usize,
     per: usize,
@@ -151,22 +101,17 @@ pub fn compact(
     words: usize,
     log: &[u8],
     out: &mut [u8],
-) -> Compaction
+) -> Result<usize, Refusal>
     ensures reply { compact_reply_of result ≡ compact_reply (geometry_of arenas per pages records turn words) log.now out.old }
     ensures out { out.new ≡ compact_out (geometry_of arenas per pages records turn words) log.now out.old }
 {
-    let made = Geometry::new(arenas, per, pages, records, turn, words);
-    let Making::Made(g) = made else {
-        return Compaction::Refused(2);
-    };
+    let g = Geometry::new(arenas, per, pages, records, turn, words)?;
     if out.len() < 8 * g.words {
-        return Compaction::Refused(3);
+        return Err(Refusal::TooShort);
     }
-    let held = read_log(log, g.arenas, g.per);
-    if !held.ok {
-        return Compaction::Refused(7);
-    }
-    let marks = held.marks;
+    let Some(marks) = read_log(log, g.arenas, g.per) else {
+        return Err(Refusal::NoLog);
+    };
     let bytes = compress(out, &marks, g.arenas, g.per);
-    Compaction::Words(bytes / 8)
+    Ok(bytes / 8)
 }

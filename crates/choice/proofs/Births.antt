@@ -1,5 +1,5 @@
 -- The word of a test: its bits are what the test says, and a free word that is the word of a test says the same of its blocks.
-use mathlib.Core.Path.{◌≡◌, sym, ap, ◌∙◌}
+use mathlib.Core.Path.{◌≡◌, refl, sym, ap, ◌∙◌}
 use mathlib.Core.List.{List}
 use Prim.Native.Nat.{ℕ, zero, suc, ◌+◌, ◌*◌, ◌/◌, ◌%◌, ◌^◌, ◌≤◌, ◌<◌}
 use native.Mathlib.Nat.{add_comm, one-mul, pow-suc, lt_of_lt_of_le}
@@ -11,7 +11,8 @@ use lib.ListN.{get_or}
 use lib.Pow.{pow_mono}
 use borrow.Author.Tests.{eq-eqb, ne_eqb}
 use Rattle.answer.proofs.Cases.{cases, same?, lt?, either}
-use Rattle.choice.specs.Words.{bit, free_in, born_free, word_of}
+use lib.Dec.{eqb}
+use Rattle.choice.specs.Words.{bit, free_in, word_of}
 use Rattle.choice.proofs.Bit.{bit_or_lem, bit_one, bit_high, bit_ext, one_shl}
 
 -- a 1 above all digits of a number
@@ -51,15 +52,30 @@ module _ (p : ℕ → Bool) (i : ℕ) where
       (λ e. bit_high n (word_of p i n) k (word_lt n) (omega arith) ∙ sym (ap (λ (x : ℕ). p (i + x)) e ∙ t))
       (λ d. word_bit n k (omega arith)))
 
--- one birth more, as the code gathers them
-module _ (births : List ℕ) (at k word : ℕ) (e : word ≡ word_of (born_free births) at k) where
-  pub one_free : k < 32 → get_or births (at + k) 0 ≡ 0 → bit_or word (1 * 2 ^ k % 2 ^ 32) ≡ word_of (born_free births) at (k + 1)
-  unfolding born_free
-  one_free h t = rw (one_shl k h, e, add-one k) (word_step (born_free births) at k (eq-eqb (get_or births (at + k) 0) 0 t))
+pub no_word : (p : ℕ → Bool) (i : ℕ) → 0 ≡ word_of p i 0
+unfolding word_of
+no_word p i = refl
 
-  pub one_held : (get_or births (at + k) 0 ≡ 0 → ⊥) → word ≡ word_of (born_free births) at (k + 1)
-  unfolding born_free
-  one_held d = rw (e, add-one k) (sym (word_no (born_free births) at k (ne_eqb (get_or births (at + k) 0) 0 d)))
+-- one place more, as the code gathers them: P says which bit a place may have
+module _ (P : ℕ → Bool → Type 0) (k word : ℕ) (fits : word < 2 ^ k) (bits : (i : ℕ) → i < k → P i (bit word i)) where
+  pub place_yes : k < 32 → P k true → (bit_or word (1 * 2 ^ k % 2 ^ 32) < 2 ^ (k + 1)) × ((i : ℕ) → i < k + 1 → P i (bit (bit_or word (1 * 2 ^ k % 2 ^ 32)) i))
+  place_yes h t = rw (one_shl k h) (
+    rw (above word k fits, add-one k, pow-suc 2 k) (omega arith),
+    λ i l. let e : bit (bit_or word (2 ^ k)) i ≡ (bit word i || eqb i k) = bit_or_lem i word (2 ^ k) ∙ ap (λ (u : Bool). bit word i || u) (bit_one k i) in
+        cases (same? i k)
+        (λ s. rw (e, eq-eqb i k s, or-true (bit word i), s) t)
+        (λ d. rw (e, ne_eqb i k d, or-false (bit word i)) (bits i (omega arith))),
+  )
+
+  pub place_no : P k false → (word < 2 ^ (k + 1)) × ((i : ℕ) → i < k + 1 → P i (bit word i))
+  place_no t = (
+    rw (add-one k, pow-suc 2 k) (omega arith),
+    λ i l. cases (same? i k) (λ s. rw (bit_high k word i fits (omega arith), s) t) (λ d. bits i (omega arith)),
+  )
+
+-- a number of n bits that says what a test says is the word of the test
+pub word_from : (p : ℕ → Bool) (i n : ℕ) {word : ℕ} → word < 2 ^ n → ((k : ℕ) → k < n → bit word k ≡ p (i + k)) → word ≡ word_of p i n
+word_from p i n {word} f e = bit_ext n word (word_of p i n) f (word_lt p i n) (λ k l. e k l ∙ sym (word_bit p i n k l))
 
 -- bit i of word k is that of block 32 k + i
 block_word : (k i : ℕ) → i < 32 → (32 * k + i) / 32 ≡ k

@@ -9,7 +9,7 @@ use lib.Count.{count_trailing_zeros}
 use lib.ListN.{get_or}
 use lib.Pow.{pow_mono, shr_lt}
 use Rattle.answer.proofs.Cases.{cases, lt?}
-use Rattle.choice.specs.Words.{bit, free_in}
+use Rattle.choice.specs.Words.{bit, free_in, seen_as, is_seen}
 use Rattle.choice.proofs.Finds.{true_false}
 use Rattle.choice.proofs.Bit.{bit_shift, bit_not, bit_high, no_bit, tz_below, tz_at}
 
@@ -59,6 +59,24 @@ module _ (words : List ℕ) (b : ℕ) {q : ℕ} where
   told_held f e j h =
       rw (e, same_word b j h, same_bit b j h)
       (sym (bit_shift (2 ^ 32 - 1 - get_or words (b / 32) 0) (b % 32) j ∙ bit_not 32 (get_or words (b / 32) 0) (b % 32 + j) f h))
+
+  pub told_seen : (given : Bool) → get_or words (b / 32) 0 < 2 ^ 32 → q ≡ seen_as given (get_or words (b / 32) 0) / 2 ^ (b % 32)
+      → Told (is_seen given words) b q
+  told_seen true f e = told_free e
+  told_seen false f e = told_held f e
+
+-- a word as it is seen: of 32 bits, and 0 exactly where the word is what 0 is seen as
+pub seen_fits : (given : Bool) {w : ℕ} → w < 2 ^ 32 → seen_as given w < 2 ^ 32
+seen_fits true h = h
+seen_fits false h = omega arith
+
+pub seen_none : (given : Bool) {w : ℕ} → w ≡ seen_as given 0 → seen_as given w ≡ 0
+seen_none true e = e
+seen_none false e = omega arith
+
+pub seen_some : (given : Bool) {w : ℕ} → w < 2 ^ 32 → (w ≡ seen_as given 0 → ⊥) → 0 < seen_as given w
+seen_some true h d = omega arith
+seen_some false h d = omega arith
 
 -- no block of a word that is 0 may be given
 pub word_none : (words : List ℕ) (b : ℕ) → get_or words (b / 32) 0 ≡ 0 → free_in words b ≡ false

@@ -5,25 +5,25 @@ use native.Mathlib.Nat.{add-zero, zero-add, sub-zero, add-suc, suc-add}
 use native.Mathlib.Numerals.{add-one}
 use native.Mathlib.Omega.{arith}
 use mathlib.Core.Bool.{Bool, true, false}
-use Rattle.choice.specs.declared.Found.{Found}
-use Rattle.choice.specs.declared.Found.TheVariants.{At, Nothing}
-use Rattle.choice.specs.Search.{or_else, first_free, in_arena, in_arenas, chosen}
+use Rattle.std.specs.Prelude.{Option, Some, None}
+use Rattle.choice.specs.declared.Place.{Place}
+use Rattle.choice.specs.Search.{place_at, or_else, first_free, in_arena, in_arenas, chosen}
 use Rattle.choice.specs.First.{Full}
 
 -- when `tried` arenas are tried
-unfoldable pub left_arenas : (ℕ → Bool) → (ℕ → ℕ) → ℕ → ℕ → ℕ → ℕ → Found
+unfoldable pub left_arenas : (ℕ → Bool) → (ℕ → ℕ) → ℕ → ℕ → ℕ → ℕ → Option Place
 left_arenas free mark arenas per first tried = in_arenas free mark arenas per (first + tried) (arenas - tried)
 
 -- when in the next arena, a, the blocks from offset `at` up to `end` are left, and after them its first `more` blocks
-unfoldable pub left_blocks : (ℕ → Bool) → (ℕ → ℕ) → ℕ → ℕ → ℕ → ℕ → ℕ → ℕ → ℕ → ℕ → Found
+unfoldable pub left_blocks : (ℕ → Bool) → (ℕ → ℕ) → ℕ → ℕ → ℕ → ℕ → ℕ → ℕ → ℕ → ℕ → Option Place
 left_blocks free mark arenas per first tried a at end more =
     or_else (first_free free per a at (end - at)) (or_else (first_free free per a 0 more) (left_arenas free mark arenas per first (tried + 1)))
 
 -- three searches one after the other
-else_else : (f g h : Found) → or_else (or_else f g) h ≡ or_else f (or_else g h)
+else_else : (f g h : Option Place) → or_else (or_else f g) h ≡ or_else f (or_else g h)
 unfolding or_else
-else_else (At a o) g h = refl
-else_else Nothing g h = refl
+else_else (Some p) g h = refl
+else_else None g h = refl
 
 -- ---- blocks of one arena
 
@@ -42,7 +42,7 @@ module _ (free : ℕ → Bool) (per a : ℕ) where
 
   -- a free block after t that are not
   stretch_hit : (t n o : ℕ) → ((j : ℕ) → j < t → free (a * per + o + j) ≡ false) → free (a * per + o + t) ≡ true
-      → first_free free per a o (t + suc n) ≡ At a (o + t)
+      → first_free free per a o (t + suc n) ≡ place_at a (o + t)
   unfolding first_free
   stretch_hit t n o f u =
       let s : a * per + (o + t) ≡ a * per + o + t = omega arith in
@@ -50,14 +50,14 @@ module _ (free : ℕ → Bool) (per a : ℕ) where
       stretch_past t (suc n) o f ∙ rw e
 
   -- none that is free
-  stretch_full : (n o : ℕ) → ((j : ℕ) → j < n → free (a * per + o + j) ≡ false) → first_free free per a o n ≡ Nothing
+  stretch_full : (n o : ℕ) → ((j : ℕ) → j < n → free (a * per + o + j) ≡ false) → first_free free per a o n ≡ None
   unfolding first_free
   stretch_full n o f = rw (add-zero n) at (stretch_past n 0 o f)
 
-  arena_full : (mark : ℕ → ℕ) → mark a < per → Full free per a → in_arena free mark per a ≡ Nothing
+  arena_full : (mark : ℕ → ℕ) → mark a < per → Full free per a → in_arena free mark per a ≡ None
   unfolding in_arena or_else
   arena_full mark l f =
-      let there : (o n : ℕ) → o + n ≤ per → first_free free per a o n ≡ Nothing = λ o n h. stretch_full n o (λ j u.
+      let there : (o n : ℕ) → o + n ≤ per → first_free free per a o n ≡ None = λ o n h. stretch_full n o (λ j u.
       let s : a * per + o + j ≡ a * per + (o + j) = omega arith in rw s (f (o + j) (omega arith))) in
       rw (there (mark a) (per - mark a) (omega arith), there 0 (mark a) (omega arith))
 
@@ -68,7 +68,7 @@ module _ (free : ℕ → Bool) (mark : ℕ → ℕ) (arenas per first : ℕ) whe
   unfolding left_arenas chosen
   arenas_all = rw (add-zero first, sub-zero arenas)
 
-  pub arenas_end : {tried : ℕ} → arenas ≤ tried → left_arenas free mark arenas per first tried ≡ Nothing
+  pub arenas_end : {tried : ℕ} → arenas ≤ tried → left_arenas free mark arenas per first tried ≡ None
   unfolding left_arenas in_arenas
   arenas_end {tried} h = let e : arenas - tried ≡ 0 = omega arith in rw e
 
@@ -91,7 +91,7 @@ module _ (free : ℕ → Bool) (mark : ℕ → ℕ) (arenas per first : ℕ) whe
       rw (n, ← e, arena_full free per a mark l f, add-one, add-suc)
 
   module _ (tried a : ℕ) where
-    abbrev left : ℕ → ℕ → ℕ → Found
+    abbrev left : ℕ → ℕ → ℕ → Option Place
     left at end more = left_blocks free mark arenas per first tried a at end more
 
     pub blocks_end : {at end more : ℕ} → end ≤ at → more ≡ 0 → left at end more ≡ left_arenas free mark arenas per first (tried + 1)
@@ -105,7 +105,7 @@ module _ (free : ℕ → Bool) (mark : ℕ → ℕ) (arenas per first : ℕ) whe
 
     -- a free block after t that are not
     pub blocks_hit : (at end more t : ℕ) → t < end - at → ((j : ℕ) → j < t → free (a * per + at + j) ≡ false) → free (a * per + at + t) ≡ true
-        → left at end more ≡ At a (at + t)
+        → left at end more ≡ place_at a (at + t)
     unfolding left_blocks or_else
     blocks_hit at end more t h f u =
         let e : end - at ≡ t + suc (end - at - suc t) = omega arith in

@@ -6,9 +6,12 @@ use native.Mathlib.Nat.{add-zero, add_assoc, mod-lt, mod-eq_of_lt, mod-add-mod, 
 use native.Mathlib.Numerals.{add-one}
 use native.Mathlib.Omega.{arith}
 use Rattle.answer.proofs.Cases.{cases, lt?}
-use Rattle.choice.specs.declared.Found.TheVariants.{Nothing}
+use Rattle.std.specs.Prelude.{None}
 use Rattle.choice.specs.First.{Full}
 use Rattle.choice.specs.Search.{chosen}
+use Rattle.choice.specs.Words.{first_from}
+use Rattle.choice.proofs.Firsts.{Leads, first_leads}
+use Rattle.choice.proofs.Skips.{few}
 use Rattle.choice.proofs.Ranges.{block_inside}
 use Rattle.choice.proofs.Left.{left_arenas, arenas_all, arenas_end, arenas_pass}
 
@@ -22,6 +25,11 @@ arena_most arenas per a z l =
     cases (lt? arenas a)
     (λ h. absurd (let m : suc arenas * per ≤ a * per = mul-le-mul_right per h in let n : ⊥ = omega (arith, suc-mul arenas per) in n))
     (λ h. h)
+
+-- the first free block after arena a
+pub free_after : (free : ℕ → Bool) (arenas per a : ℕ) {r : ℕ} → arenas ≤ 16 → per ≤ 1024 → a < arenas
+    → r ≡ first_from free (arenas * per) (a * per + per) (arenas * per - (a * per + per)) → Leads free (a * per + per) (arenas * per) r
+free_after free arenas per a h l u e = first_leads free (arenas * per) (a * per + per) e (few arenas per a h l u).0
 
 -- the arena that stands k after the one of a round
 pub arena_on : (first tried arenas a k : ℕ) → a ≡ (first + tried) % arenas → (a + k) % arenas ≡ (first + (tried + k)) % arenas
@@ -63,7 +71,7 @@ module _ (free : ℕ → Bool) (mark : ℕ → ℕ) (arenas per : ℕ) (some : 0
       ∙ ap (left_arenas free mark arenas per first) s
 
   -- where no block is free
-  pub chosen_nothing : ((b : ℕ) → b < arenas * per → free b ≡ false) → Nothing ≡ chosen free mark arenas per first
+  pub chosen_nothing : ((b : ℕ) → b < arenas * per → free b ≡ false) → None ≡ chosen free mark arenas per first
   chosen_nothing f =
       sym (sym (arenas_all free mark arenas per first)
       ∙ arenas_on 0 arenas (λ i h o l. let a = (first + (0 + i)) % arenas in f (a * per + o) (block_inside a arenas per o (mod-lt (first + (0 + i)) some) l))

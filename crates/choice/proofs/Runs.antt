@@ -4,20 +4,19 @@ use Prim.Native.Nat.{ℕ, ◌+◌, ◌-◌, ◌*◌, ◌/◌, ◌%◌, ◌^◌, 
 use native.Mathlib.Nat.{add-zero, zero-div, div-one}
 use native.Mathlib.Omega.{arith}
 use mathlib.Core.Bool.{Bool, false}
+use mathlib.Core.List.{List}
+use lib.ListN.{get_or}
 use lib.Count.{count_trailing_zeros, trailing_le}
 use mir.Val.{Fits}
 use mir.Syntax.{w64}
 use Rattle.answer.proofs.Cases.{cases, lt?}
-use Rattle.choice.specs.Words.{first_from}
-use Rattle.choice.proofs.Gap.{Told, gap_none, gap_below, gap_at}
+use Rattle.choice.specs.Words.{first_from, is_seen, seen_as}
+use Rattle.choice.proofs.Gap.{Told, gap_none, gap_below, gap_at, told_seen, seen_fits, seen_none, seen_some}
 use Rattle.choice.proofs.Firsts.{first_past, first_hit, first_end}
 
--- a count of zeros, and the block behind them, fit
+-- a count of zeros fits
 pub zeros_fit : (q : ℕ) → Fits w64 (count_trailing_zeros 32 q)
 zeros_fit q = omega (arith, trailing_le 32 q)
-
-pub behind_fits : (at q : ℕ) → at ≤ 16384 → Fits w64 (at + count_trailing_zeros 32 q)
-behind_fits at q h = omega (arith, trailing_le 32 q)
 
 module _ (p : ℕ → Bool) (word : ℕ → ℕ) (tells : (b q : ℕ) → q ≡ word (b / 32) / 2 ^ (b % 32) → Told p b q) (hi : ℕ) where
   -- what is left of the word of block b has a block, which hi may cut off
@@ -47,3 +46,30 @@ module _ (p : ℕ → Bool) (word : ℕ → ℕ) (tells : (b q : ℕ) → q ≡ 
       let s : b + (32 * k - b) ≡ 32 * k = omega arith in
       sym (rw s at (first_past p hi b (32 * k - b) (λ j h.
       cases (lt? j (32 - b % 32)) (λ u. gap_none p b q (tells b q e) z j u) (λ u. nothing (b + j) (f ((b + j) / 32) (omega arith) (omega arith))))))
+
+-- the same of the words of a search, as it sees them
+module _ (given : Bool) (words : List ℕ) (fits : (k : ℕ) → get_or words k 0 < 2 ^ 32) (hi lo : ℕ) where
+  tells_seen : (b q : ℕ) → q ≡ seen_as given (get_or words (b / 32) 0) / 2 ^ (b % 32) → Told (is_seen given words) b q
+  tells_seen b q e = told_seen words b given (fits (b / 32)) e
+
+  pub seen_hit : {x q r : ℕ} → x ≡ seen_as given (get_or words (lo / 32) 0) → q ≡ x / 2 ^ (lo % 32) → q < 2 ^ (32 - lo % 32) → 0 < q
+      → r ≡ min (lo + count_trailing_zeros 32 q) hi → r ≡ first_from (is_seen given words) hi lo (hi - lo)
+  seen_hit {x} {q} e f l some m =
+      run_hit (is_seen given words) (λ k. seen_as given (get_or words k 0)) tells_seen hi lo (rw e at f) l some m
+
+  module _ (k : ℕ) {x q skip : ℕ} (e : x ≡ seen_as given (get_or words (lo / 32) 0)) (f : q ≡ x / 2 ^ (lo % 32)) (z : q ≡ 0) (l : lo / 32 < k)
+      (s : skip ≡ seen_as given 0) (passed : (i : ℕ) → lo / 32 + 1 ≤ i → i < k → get_or words i 0 ≡ skip) where
+    past_words : first_from (is_seen given words) hi (32 * k) (hi - 32 * k) ≡ first_from (is_seen given words) hi lo (hi - lo)
+    past_words =
+        run_past (is_seen given words) (λ i. seen_as given (get_or words i 0)) tells_seen hi lo k (rw e at f) z l
+        (λ i h u. seen_none given (passed i h u ∙ s))
+
+    pub seen_end : hi ≤ 32 * k → hi ≡ first_from (is_seen given words) hi lo (hi - lo)
+    seen_end h = sym (first_end (is_seen given words) hi h) ∙ past_words
+
+    pub seen_word : {y r : ℕ} → (get_or words k 0 ≡ skip → ⊥) → y ≡ seen_as given (get_or words k 0)
+        → r ≡ min (32 * k + count_trailing_zeros 32 y) hi → r ≡ first_from (is_seen given words) hi lo (hi - lo)
+    seen_word {y} d g m =
+        word_hit (is_seen given words) (λ i. seen_as given (get_or words i 0)) tells_seen hi k (seen_fits given (fits k))
+        (seen_some given (fits k) (λ e. d (e ∙ sym s))) (rw g at m)
+        ∙ past_words

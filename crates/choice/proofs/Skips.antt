@@ -1,46 +1,12 @@
--- Words passed four at a time, and ranges of the blocks of an arena.
-use mathlib.Core.Path.{◌≡◌, refl, sym, ap, ◌∙◌}
-use mathlib.Core.Bool.{Bool, true, false, ◌&&◌, false≢true}
-use mathlib.Core.List.{List}
-use Prim.Native.Nat.{ℕ, suc, ◌+◌, ◌-◌, ◌*◌, ◌≤◌, ◌<◌}
+-- Words that have no 1, and ranges of the blocks of an arena.
+use mathlib.Core.Path.{◌≡◌}
+use Prim.Native.Nat.{ℕ, suc, ◌+◌, ◌*◌, ◌≤◌, ◌<◌}
 use native.Mathlib.Nat.{mul-le-mul_right, suc-mul}
 use native.Mathlib.Omega.{arith}
-use lib.Dec.{eqb}
 use lib.Bits.{bit_or, or_add_and, and_le_r, or_comm}
-use lib.ListN.{get_or}
 use mir.Val.{Fits}
 use mir.Syntax.{w32, w64}
-use borrow.Author.Tests.{eqb-true}
 use Rattle.answer.proofs.Cases.{cases, lt?}
-
--- four tests, all true
-and_l : (p q : Bool) → (p && q) ≡ true → p ≡ true
-and_l true q e = refl
-and_l false q e = e
-
-and_r : (p q : Bool) → (p && q) ≡ true → q ≡ true
-and_r true q e = e
-and_r false q e = absurd (false≢true e)
-
-pub four : (w : List ℕ) (a x : ℕ) →
-    (((eqb (get_or w a 0) x && eqb (get_or w (a + 1) 0) x) && eqb (get_or w (a + 2) 0) x) && eqb (get_or w (a + 3) 0) x) ≡ true → (y : ℕ) → y < 4 → get_or w (a + y) 0 ≡ x
-four w a x q y h =
-    let e : ℕ → Bool = λ i. eqb (get_or w i 0) x in
-    let q₂ = and_l ((e a && e (a + 1)) && e (a + 2)) (e (a + 3)) q in
-    let q₁ = and_l (e a && e (a + 1)) (e (a + 2)) q₂ in
-    cases (lt? y 1) (λ l. is a (omega arith) (and_l (e a) (e (a + 1)) q₁)) (λ l₁.
-    cases (lt? y 2) (λ l. is (a + 1) (omega arith) (and_r (e a) (e (a + 1)) q₁)) (λ l₂.
-    cases (lt? y 3) (λ l. is (a + 2) (omega arith) (and_r (e a && e (a + 1)) (e (a + 2)) q₂))
-    (λ l₃. is (a + 3) (omega arith) (and_r ((e a && e (a + 1)) && e (a + 2)) (e (a + 3)) q))))
-  where
-    is : (i : ℕ) → a + y ≡ i → eqb (get_or w i 0) x ≡ true → get_or w (a + y) 0 ≡ x
-    is i d g = ap (λ k. get_or w k 0) d ∙ eqb-true (get_or w i 0) x g
-
--- four more
-pub four_more : (f : ℕ → ℕ) (k n : ℕ) {x : ℕ} → ((i : ℕ) → k ≤ i → i < n → f i ≡ x) → ((y : ℕ) → y < 4 → f (n + y) ≡ x) → (i : ℕ) → k ≤ i → i < n + 4 → f i ≡ x
-four_more f k n h e i l u =
-    cases (lt? i n) (λ b. h i l b)
-    (λ b. let s : n + (i - n) ≡ i = omega arith in ap f (sym s) ∙ e (i - n) (omega arith))
 
 -- two numbers that have no 1 together are both 0
 or_none : (a b : ℕ) → bit_or a b ≡ 0 → (a ≡ 0) × (b ≡ 0)

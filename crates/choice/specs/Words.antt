@@ -1,5 +1,5 @@
 -- The parts of the lent tables that the search reads: the free words, a bit a block, and the arenas' marks.
-use Rattle.std.specs.Prelude.{Bool, true, cond, ◌&&◌, List, ℕ, zero, suc, ◌+◌, ◌-◌, ◌*◌, ◌/◌, ◌%◌, ◌^◌, ◌<◌, ◌≤◌, min, eqb, length, get_or}
+use Rattle.std.specs.Prelude.{Bool, true, cond, not, ◌&&◌, List, ℕ, zero, suc, ◌+◌, ◌-◌, ◌*◌, ◌/◌, ◌%◌, ◌^◌, ◌<◌, ◌≤◌, min, eqb, length, get_or}
 use Rattle.geometry.specs.Limits.{max_arenas, max_per}
 
 -- bit i of a number, the lowest is bit 0
@@ -9,6 +9,13 @@ bit w i = eqb (w / 2 ^ i % 2) 1
 -- a block may be given where its bit is 1: bit i of word k is that of block 32 k + i
 unfoldable pub free_in : List ℕ → ℕ → Bool
 free_in words b = bit (get_or words (b / 32) 0) (b % 32)
+
+-- a word as the search for what may be given (true) or may not (false) sees it, and of which blocks its bits are then 1
+abbrev pub seen_as : Bool → ℕ → ℕ
+seen_as given word = cond given word (2 ^ 32 - 1 - word)
+
+abbrev pub is_seen : Bool → List ℕ → ℕ → Bool
+is_seen given words b = cond given (free_in words b) (not (free_in words b))
 
 unfoldable pub mark_in : List ℕ → ℕ → ℕ
 mark_in marks a = get_or marks a 0

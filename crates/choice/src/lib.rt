@@ -2,15 +2,15 @@
 #![tactic(auto)]
 
 ghost use Rattle.std.specs.Prelude.{◌≡◌, ℕ, ◌+◌, ◌-◌, ◌*◌, ◌/◌, ◌%◌, ◌^◌, ◌<◌, ◌≤◌, min, true, false, not, length, get_or};
-ghost use Rattle.choice.specs.Words.{free_in, mark_in, first_from, born_free, word_of, words_agree, Searchable};
+ghost use Rattle.choice.specs.Words.{bit, free_in, is_seen, seen_as, mark_in, first_from, born_free, word_of, words_agree, Searchable};
 ghost use Rattle.choice.specs.Search.{chosen};
 ghost use Rattle.choice.specs.Turn.{next, turned};
 
-// A free block, by its arena and how far after the arena's first block it stands; or none.
-#[derive(Clone, Copy)]
-pub enum Found {
-    At(usize, usize),
-    Nothing,
+// A block, by its arena and how far after the arena's first block it stands.
+#[derive(Clone, Copy, Debug, PartialEq, Eq)]
+pub struct Place {
+    pub arena: usize,
+    pub offset: usize,
 }
 
 // The number after i among the n numbers from 0 on, round to 0. Compares and does not divide.
@@ -22,19 +22,11 @@ pub fn next_of(n: usize, i: usize) -> usize
     if i + 1 == n { 0 } else { i + 1 }
 }
 
-// The smaller of two numbers.
-fn least(a: usize, b: usize) -> usize
-    ensures is { result ≡ min a b }
-    ensures below { (result ≤ a) × (result ≤ b) }
-{
-    if a < b { a } else { b }
-}
-
-// The bit of block b, alone in its word.
+// The bit of block b, alone in its word. Masks and shifts: a write divides nowhere (`tests/division`).
 pub fn bit_of(b: usize) -> u32
     ensures { result ≡ 2 ^ (b % 32) }
 {
-    1u32 << ((b & 31) as u32)
+    1u32 << (b & 31)
 }
 
 // What is left of the word of block b from b on: bit 0 is that of b.
@@ -42,7 +34,7 @@ fn rest_of(word: u32, b: usize) -> u32
     ensures is { result ≡ word / 2 ^ (b % 32) }
     ensures fits { result < 2 ^ (32 - b % 32) }
 {
-    word >> ((b & 31) as u32)
+    word >> (b & 31)
 }
 
 // Whether four words from `at` on are all `skip`.
@@ -50,6 +42,7 @@ fn are_four(words: &[u32], at: usize, skip: u32) -> bool
     requires { at + 4 ≤ length words.now }
     ensures { result ≡ true → (y : ℕ) → y < 4 → get_or words.now (at + y) 0 ≡ skip }
 {
+    // Kept: `all` is no plainer, it would branch after each of the four.
     (words[at] == skip)
         & (words[at + 1] == skip)
         & (words[at + 2] == skip)
@@ -63,12 +56,8 @@ fn pass_fours(words: &[u32], k: usize, end: usize, skip: u32) -> usize
     ensures passed { (i : ℕ) → k ≤ i → i < result → get_or words.now i 0 ≡ skip }
 {
     let mut at = k;
-    while at + 4 <= end {
-        if are_four(words, at, skip) {
-            at += 4;
-        } else {
-            return at;
-        }
+    while at + 4 <= end && are_four(words, at, skip) {
+        at += 4;
     }
     at
 }
@@ -80,56 +69,56 @@ fn next_word(words: &[u32], k: usize, end: usize, skip: u32) -> usize
     ensures passed { (i : ℕ) → k ≤ i → i < result → get_or words.now i 0 ≡ skip }
     ensures other { result < end → get_or words.now result 0 ≡ skip → ⊥ }
 {
-    let mut at = pass_fours(words, k, end, skip);
-    while at < end {
+    for at in pass_fours(words, k, end, skip)..end {
         if words[at] != skip {
             return at;
         }
-        at += 1;
     }
-    at
+    end
 }
 
-// The first block from lo on and below hi that may be given; hi where there is none. It looks at what is left of the word
-// of lo, then for a word that is not 0.
+// A word as it stands, where blocks are sought that may be given; else turned over, so that a bit is 1 where a block may not.
+fn seen<const GIVEN: bool>(word: u32) -> u32
+    ensures { result ≡ seen_as GIVEN word }
+{
+    if GIVEN { word } else { !word }
+}
+
+// The first block from lo on and below hi that may be given, or with GIVEN false the first that may not; hi where there is none. It looks
+// at what is left of the word of lo, then for a word that has one.
+fn first_seen<const GIVEN: bool>(words: &[u32], lo: usize, hi: usize) -> usize
+    requires { (hi ≤ 16384) × (hi ≤ 32 * length words.now) }
+    ensures { result ≡ first_from (is_seen GIVEN words.now) hi lo (hi - lo) }
+{
+    if hi <= lo {
+        return hi;
+    }
+    let rest = rest_of(seen::<GIVEN>(words[lo >> 5]), lo);
+    if rest != 0 {
+        return (lo + rest.trailing_zeros() as usize).min(hi);
+    }
+    let end = (hi + 31) >> 5;
+    let k = next_word(words, (lo >> 5) + 1, end, seen::<GIVEN>(0));
+    if end <= k {
+        return hi;
+    }
+    (32 * k + seen::<GIVEN>(words[k]).trailing_zeros() as usize).min(hi)
+}
+
+// The first block from lo on and below hi that may be given; hi where there is none.
 pub fn first_given(words: &[u32], lo: usize, hi: usize) -> usize
     requires { (hi ≤ 16384) × (hi ≤ 32 * length words.now) }
     ensures { result ≡ first_from (free_in words.now) hi lo (hi - lo) }
 {
-    if hi <= lo {
-        return hi;
-    }
-    let rest = rest_of(words[lo >> 5], lo);
-    if rest != 0 {
-        return least(lo + (u32::trailing_zeros(rest) as usize), hi);
-    }
-    let end = (hi + 31) >> 5;
-    let k = next_word(words, (lo >> 5) + 1, end, 0);
-    if end <= k {
-        return hi;
-    }
-    least(32 * k + (u32::trailing_zeros(words[k]) as usize), hi)
+    first_seen::<true>(words, lo, hi)
 }
 
-// The first block from lo on and below hi that may not be given; hi where there is none. The same, with each word turned
-// over.
+// The first block from lo on and below hi that may not be given; hi where there is none.
 pub fn first_kept(words: &[u32], lo: usize, hi: usize) -> usize
     requires { (hi ≤ 2048) × (hi ≤ 32 * length words.now) }
     ensures { result ≡ first_from (λ b. not (free_in words.now b)) hi lo (hi - lo) }
 {
-    if hi <= lo {
-        return hi;
-    }
-    let rest = rest_of(!words[lo >> 5], lo);
-    if rest != 0 {
-        return least(lo + (u32::trailing_zeros(rest) as usize), hi);
-    }
-    let end = (hi + 31) >> 5;
-    let k = next_word(words, (lo >> 5) + 1, end, 0xffff_ffff);
-    if end <= k {
-        return hi;
-    }
-    least(32 * k + (u32::trailing_zeros(!words[k]) as usize), hi)
+    first_seen::<false>(words, lo, hi)
 }
 
 // A number below two times n, round to 0 from n on.
@@ -162,7 +151,7 @@ fn look(words: &[u32], b: usize, most: usize) -> usize
 {
     let rest = rest_of(words[b >> 5], b);
     if rest != 0 {
-        return least(u32::trailing_zeros(rest) as usize, most);
+        return (rest.trailing_zeros() as usize).min(most);
     }
     most
 }
@@ -174,7 +163,7 @@ fn jump(words: &[u32], b: usize, most: usize) -> usize
     ensures none { (j : ℕ) → j < result → 32 ≤ b % 32 + j → free_in words.now (b + j) ≡ false }
 {
     let k = next_word(words, (b >> 5) + 1, (b + most + 31) >> 5, 0);
-    least(32 * k - b, most)
+    (32 * k - b).min(most)
 }
 
 // Is none of the blocks below `all` free? One pass over the words, compiled to wide steps.
@@ -183,17 +172,16 @@ fn none_free(words: &[u32], all: usize) -> bool
     ensures { result ≡ true → (b : ℕ) → b < all → free_in words.now b ≡ false }
 {
     let n = (all + 31) >> 5;
-    let mut bits: u32 = 0;
-    let mut k: usize = 0;
-    while k < n {
-        bits = bits | words[k];
-        k += 1;
+    let mut bits = 0u32;
+    for word in &words[..n] {
+        bits |= *word;
     }
     bits == 0
 }
 
 // The first arena after `arena` that has a free block; `arenas` where none of those after it has one. It adds up the arenas' ends and
 // does not divide.
+#[tactic(auto, using(crate::proofs::Skips::few))]
 fn arena_after(words: &[u32], arenas: usize, per: usize, arena: usize) -> usize
     requires { (arena < arenas) × (arenas ≤ 16) × (0 < per) × (per ≤ 1024) × (arenas * per ≤ 32 * length words.now) }
     ensures range { (arena < result) × (result ≤ arenas) }
@@ -203,6 +191,7 @@ fn arena_after(words: &[u32], arenas: usize, per: usize, arena: usize) -> usize
     let free = first_given(words, first, arenas * per);
     let mut next = arena + 1;
     let mut end = first + per;
+    // Kept: a `for` is no plainer, it would add up the ends beside its own counter.
     while end <= free {
         next += 1;
         end += per;
@@ -221,7 +210,7 @@ pub fn choose(
     per: usize,
     counter: usize,
     kind: usize,
-) -> Found
+) -> Option<Place>
     requires { Searchable words.now marks.now arenas per counter kind }
     ensures { result ≡ chosen (free_in words.now) (mark_in marks.now) arenas per (counter + kind) }
 {
@@ -229,7 +218,7 @@ pub fn choose(
     let mut tried: usize = 0;
     let found = 'search: loop {
         if arenas <= tried {
-            break 'search Found::Nothing;
+            break 'search None;
         }
         let mark = marks[arena] as usize;
         let mut at = mark;
@@ -239,10 +228,11 @@ pub fn choose(
             let block = arena * per + at;
             let near = look(words, block, end - at);
             if near < end - at {
-                break 'search Found::At(arena, at + near);
+                let offset = at + near;
+                break 'search Some(Place { arena, offset });
             }
             if none_free(words, arenas * per) {
-                break 'search Found::Nothing;
+                break 'search None;
             }
             at += jump(words, block, end - at);
             if end <= at {
@@ -258,36 +248,44 @@ pub fn choose(
     found
 }
 
-// The free word of the n blocks whose births stand from `at` on: for the last word, where the blocks end within it.
-pub fn bits_of(births: &[u32], at: usize, n: usize) -> u32
-    requires { (n ≤ 32) × (at + n ≤ length births.now) }
-    ensures { result ≡ word_of (born_free births.now) at n }
+// The word of n places: bit k is 1 where `is` says so of place k. With a constant n the loop is compiled to wide steps.
+#[inline(always)]
+pub fn word_where<F: Fn(usize) -> bool>(n: usize, is: F) -> u32
+    requires few { n ≤ 32 }
+    requires callable { (k : ℕ) → k < n → F.pre is k }
+    ensures fits { result < 2 ^ n }
+    ensures bits { (k : ℕ) → k < n → F.post is k (bit result k) }
 {
-    let mut word: u32 = 0;
-    let mut k: usize = 0;
-    while k < n {
-        if births[at + k] == 0 {
-            word = word | (1u32 << (k as u32));
+    let mut word = 0u32;
+    for k in 0..n {
+        if is(k) {
+            word |= 1u32 << k;
         }
-        k += 1;
     }
     word
 }
 
-// The free word of the 32 blocks whose births stand from `at` on.
-pub fn word_of(births: &[u32], at: usize) -> u32
-    requires { at + 32 ≤ length births.now }
-    ensures { result ≡ word_of (born_free births.now) at 32 }
+// The free word of the n blocks whose births stand from `at` on. Callers say 32 for a whole word.
+#[inline(always)]
+pub fn bits_of(births: &[u32], at: usize, n: usize) -> u32
+    requires { (n ≤ 32) × (at + n ≤ length births.now) }
+    ensures { result ≡ word_of (born_free births.now) at n }
 {
-    let mut word: u32 = 0;
-    let mut k: usize = 0;
-    while k < 32 {
-        if births[at + k] == 0 {
-            word = word | (1u32 << (k as u32));
-        }
-        k += 1;
+    word_where(n, |k| births[at + k] == 0)
+}
+
+// The free word of the blocks from 32 k on, of n blocks: of 32 blocks, of those that are left, or of none.
+fn born_word(births: &[u32], n: usize, k: usize) -> u32
+    requires { (k < 64) × (n ≤ 2048) × (n ≤ length births.now) }
+    ensures { result ≡ word_of (born_free births.now) (32 * k) (min 32 (n - 32 * k)) }
+{
+    if 32 * k + 32 <= n {
+        bits_of(births, 32 * k, 32)
+    } else if 32 * k < n {
+        bits_of(births, 32 * k, n - 32 * k)
+    } else {
+        0
     }
-    word
 }
 
 // Do the 64 words agree with the births of n blocks: a bit is 1 where the birth is 0, and 0 after the last block?
@@ -295,26 +293,7 @@ pub fn words_agree(words: &[u32], births: &[u32], n: usize) -> bool
     requires { (64 ≤ length words.now) × (n ≤ 2048) × (n ≤ length births.now) }
     ensures { result ≡ words_agree words.now (born_free births.now) n 64 }
 {
-    let mut k: usize = 0;
-    while k < 64 {
-        if 32 * k + 32 <= n {
-            if words[k] != word_of(births, 32 * k) {
-                return false;
-            }
-            k += 1;
-        } else if 32 * k < n {
-            if words[k] != bits_of(births, 32 * k, n - 32 * k) {
-                return false;
-            }
-            k += 1;
-        } else {
-            if words[k] != 0 {
-                return false;
-            }
-            k += 1;
-        }
-    }
-    true
+    (0..64).all(|k| words[k] == born_word(births, n, k))
 }
 
 // The arena counter, and the accepted writes since it last went up.

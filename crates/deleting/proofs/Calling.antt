@@ -3,16 +3,19 @@ use mathlib.Core.Path.{◌≡◌, refl, sym, ap, ◌∙◌, subst}
 use mathlib.Core.List.{List, [], ◌∷◌}
 use Prim.Native.Nat.{ℕ, zero, suc, ◌-◌, ◌≤◌}
 use native.Mathlib.Omega.{arith}
-use lib.Dec.{ltb}
+use mathlib.Core.Bool.{◌&&◌}
+use lib.Dec.{eqb, ltb}
 use lib.ListN.{length, length-append}
 use Rattle.answer.specs.Reply.{accepted, refused, reply_of}
-use Rattle.answer.specs.declared.Answer.TheVariants.{Done, Refused}
+use Rattle.std.specs.Prelude.{Ok, Err}
+use Rattle.answer.specs.declared.Refusal.{Refusal}
+use Rattle.answer.specs.Number.{number_of}
 use Rattle.answer.proofs.Cases.{cases, either}
 use Rattle.answer.proofs.Decided.{decide_accepts}
 use Rattle.geometry.specs.declared.Geometry.{Geometry}
 use Rattle.model.specs.View.{View, pred_num}
 use Rattle.model.specs.Effects.{unlinked, young_at, pruned}
-use Rattle.model.specs.Actions.{follower, do_d, Asks}
+use Rattle.model.specs.Actions.{follower, live, do_d, Asks}
 use Rattle.model.specs.Held.{deleted}
 use Rattle.model.specs.State.{State}
 use Rattle.model.specs.Window.{queueing}
@@ -20,12 +23,12 @@ use Rattle.model.specs.Calls.{conditions}
 use Rattle.model.specs.Layout.{view_of, state_of, stored}
 use Rattle.model.specs.Command.{Delete}
 use Rattle.model.proofs.Fine.{asks_D}
+use Rattle.model.proofs.TabFacts.{seek_found}
 use Rattle.tables.specs.Ready.{Ready}
 use Rattle.tables.specs.Outcome.{replied, tables_left}
+use Rattle.tables.proofs.Fields
 use Rattle.deleting.specs.Stages.{bypassed, unhooked, removed}
 use Rattle.deleting.specs.Verdict.{verdict_of}
-use Rattle.deleting.specs.declared.delete.Verdict.{Verdict}
-use Rattle.deleting.specs.declared.delete.Verdict.TheVariants.{Accept}
 use Rattle.deleting.proofs.Parting.{unlinked_short}
 use Rattle.deleting.proofs.Leaving.{removed_is}
 use Rattle.deleting.proofs.Verdicts.{ready_fine, Told, acceptance}
@@ -77,8 +80,8 @@ module _ (g : Geometry) (t : List ℕ) (s : ℕ) where
 
 -- ── a refusal leaves everything ──
 
-module _ (g : Geometry) (t : List ℕ) (r k : ℕ) (e : replied g t (Delete r) ≡ refused k) where
-  pub refuse_reply : (out : List ℕ) → reply_of (Refused k) out ≡ replied g t (Delete r)
+module _ (g : Geometry) (t : List ℕ) (r : ℕ) (k : Refusal) (e : replied g t (Delete r) ≡ refused (number_of k)) where
+  pub refuse_reply : (out : List ℕ) → reply_of (Err k) out ≡ replied g t (Delete r)
   unfolding reply_of
   refuse_reply out = sym e
 
@@ -88,12 +91,18 @@ module _ (g : Geometry) (t : List ℕ) (r k : ℕ) (e : replied g t (Delete r) �
 
 -- ── acceptance ──
 
-module _ (g : Geometry) (t : List ℕ) (R : Ready g t) (r : ℕ) (v : Verdict) (ev : v ≡ verdict_of (state_of g t) r) (s f : ℕ) (d : v ≡ Accept s f) where
+-- what follows is a record of the table
+follower_below : (K : View) (s f : ℕ) → follower K s ≡ f → f ≤ K.slots
+unfolding follower
+follower_below K s zero e = omega arith
+follower_below K s (suc n) e = omega (arith, (seek_found (λ m. live K m && eqb (K.prev m) (suc s)) K.slots 0 n e).2)
+
+module _ (g : Geometry) (t : List ℕ) (R : Ready g t) (r s f : ℕ) (e : Ok (s, f) ≡ verdict_of (state_of g t) r) where
   abbrev T : State
   T = state_of g t
 
   abbrev told : Told (state_of g t) r s f
-  told = acceptance g t r v ev s f d
+  told = acceptance g t r s f e
 
   pub accept_asks : Asks (view_of g t) (do_d s)
   unfolding state_of
@@ -106,11 +115,14 @@ module _ (g : Geometry) (t : List ℕ) (R : Ready g t) (r : ℕ) (v : Verdict) (
   unfolding state_of
   accept_follows = follows
 
+  pub accept_below : f ≤ g.records
+  accept_below = omega (arith, follower_below (view_of g t) s f accept_follows, Fields.slots_is g t)
+
   accept_reply : replied g t (Delete r) ≡ accepted []
   unfolding replied
   accept_reply = decide_accepts (conditions g T (Delete r)) [] (told.eight, (told.ten, (told.eighteen, tt)))
 
-  pub accept_done : (out : List ℕ) → reply_of (Done 0) out ≡ replied g t (Delete r)
+  pub accept_done : (out : List ℕ) → reply_of (Ok 0) out ≡ replied g t (Delete r)
   unfolding reply_of
   accept_done out = sym accept_reply
 

@@ -1,6 +1,6 @@
 -- Q: the blocks to be queued in a buffer of its own, their stretches counted, and what the call answers.
 use mathlib.Core.Path.{◌≡◌, refl, sym, ap, ap₂, ◌∙◌}
-use mathlib.Core.Bool.{Bool, true, false, cond}
+use mathlib.Core.Bool.{Bool, cond}
 use mathlib.Core.List.{List, [], ◌∷◌}
 use Prim.Native.Nat.{ℕ, zero, suc, ◌+◌, ◌-◌, ◌≤◌, ◌<◌}
 use native.Mathlib.Omega.{arith}
@@ -8,21 +8,22 @@ use native.Mathlib.Numerals.{add-one}
 use lib.Dec.{eqb, ltb}
 use lib.ListN.{length, get_or, set, take, drop, drop_of_length-le}
 use lib.Seq.{sets, length-sets, get_or-take, length-take-le, drop-cons}
-use borrow.Author.Tests.{eq-eqb, ne_eqb, lt-ltb, le-ltb}
-use Rattle.answer.specs.declared.Answer.TheVariants.{Done, Refused}
-use Rattle.answer.specs.Reply.{Reply, accepted, refused, reply_of}
+use borrow.Author.Tests.{eq-eqb, ne_eqb}
+use Rattle.std.specs.Prelude.{Ok, Err}
+use Rattle.answer.specs.declared.Refusal.{Refusal}
+use Rattle.answer.specs.Reply.{Reply, accepted, reply_of}
 use Rattle.answer.specs.Refusal.{leaves}
 use Rattle.answer.proofs.Cases.{cases}
+use Rattle.answer.proofs.Decided.{decide_accepts}
 use Rattle.geometry.specs.declared.Geometry.{Geometry}
 use Rattle.geometry.specs.Limits.{blocks}
 use Rattle.model.specs.Lists.{In}
 use Rattle.model.specs.View.{View, pred_num}
-use Rattle.model.specs.Actions.{slot_of, follower, forked}
 use Rattle.model.specs.Held.{deleted, shards_above, shards_freed}
 use Rattle.model.specs.Sorted.{sorted_onto, stretches}
 use Rattle.model.specs.State.{State}
-use Rattle.model.specs.Calls.{slot, result}
-use Rattle.model.specs.Layout.{name_cell, view_of, state_of}
+use Rattle.model.specs.Calls.{result, conditions}
+use Rattle.model.specs.Layout.{view_of, state_of}
 use Rattle.model.specs.Command.{Estimate}
 use Rattle.model.proofs.ListFacts.{of_keep}
 use Rattle.model.proofs.ShardFacts.{shards_stretch}
@@ -33,7 +34,8 @@ use Rattle.deleting.specs.Stages.{younger}
 use Rattle.tables.proofs.Sets.{take_sets}
 use Rattle.deleting.proofs.Sifting.{length_sorted, of_sorted}
 use Rattle.deleting.proofs.Parting.{parts, freed_is}
-use Rattle.deleting.proofs.Verdicts.{slot_is, has_slot, names_are}
+use Rattle.deleting.specs.Verdict.{verdict_of}
+use Rattle.deleting.proofs.Verdicts.{Told, acceptance, estimate_refusal}
 
 -- ── the stretches of one birth ──
 
@@ -149,65 +151,36 @@ module _ (K : View) (s : ℕ) where
 -- ── the call ──
 
 -- a refusal leaves the buffer
-pub refuse : (g : Geometry) (t : List ℕ) (r k : ℕ) (out : List ℕ) → replied g t (Estimate r) ≡ refused k →
-    (reply_of (Refused k) out ≡ replied g t (Estimate r)) × (out ≡ out_left g t out (Estimate r))
+pub refuse : (g : Geometry) (t : List ℕ) (r : ℕ) (k : Refusal) (out : List ℕ) → Err k ≡ verdict_of (state_of g t) r →
+    (reply_of (Err k) out ≡ replied g t (Estimate r)) × (out ≡ out_left g t out (Estimate r))
 unfolding reply_of out_left
-refuse g t r k out e = (sym e, rw e refl)
+refuse g t r k out e = let a = estimate_refusal g t r k e in (sym a, rw a refl)
 
--- the slot is l - 1, and l is 0 where there is none
-module _ (g : Geometry) (t out : List ℕ) (r l : ℕ) (el : l ≡ slot_of (view_of g t) r) where
+-- the slots of the verdict are s and that of the link o
+module _ (g : Geometry) (t out : List ℕ) (r s o : ℕ) (e : Ok (s, o) ≡ verdict_of (state_of g t) r) where
   abbrev T : State
   T = state_of g t
 
-  pub not_there : l ≡ 0 → (reply_of (Refused 8) out ≡ replied g t (Estimate r)) × (out ≡ out_left g t out (Estimate r))
-  unfolding replied state_of
-  not_there z = refuse g t r 8 out (rw (eq-eqb (slot_of (view_of g t) r) 0 (sym el ∙ z)))
+  abbrev told : Told (state_of g t) r s o
+  told = acceptance g t r s o e
 
-  module _ (n : l ≡ 0 → ⊥) (f : Bool) (ef : f ≡ ltb 0 (forked (view_of g t) (l - 1))) where
-    fork_is : ltb 0 (forked T.view (slot T r)) ≡ f
+  -- a blocks would be queued, of v shards
+  module _ (a v : ℕ) (ea : a ≡ length (deleted (view_of g t) s o)) (ev : v ≡ shards_freed (view_of g t) s o) where
+    numbers : result g T (Estimate r) ≡ a ∷ 0 ∷ v ∷ []
     unfolding state_of
-    fork_is = ap (λ s. ltb 0 (forked (view_of g t) s)) (slot_is g t r l el n) ∙ sym ef
+    numbers =
+        ap₂ (λ (m k : ℕ). length (deleted (view_of g t) m k) ∷ 0 ∷ shards_freed (view_of g t) m k ∷ []) told.at told.next ∙
+        ap₂ (λ (m k : ℕ). m ∷ 0 ∷ k ∷ []) (sym ea) (sym ev)
 
-    pub has_a_fork : f ≡ true → (reply_of (Refused 10) out ≡ replied g t (Estimate r)) × (out ≡ out_left g t out (Estimate r))
+    accepts : replied g t (Estimate r) ≡ accepted (result g T (Estimate r))
     unfolding replied
-    has_a_fork y = refuse g t r 10 out (rw (has_slot g t r l el n, fork_is ∙ y))
+    accepts = decide_accepts (conditions g T (Estimate r)) (result g T (Estimate r)) (told.eight, (told.ten, (told.eighteen, tt)))
 
-    module _ (none : f ≡ false) (below : l ≤ g.records) where
-      pub has_a_name : 0 < get_or t (name_cell (l - 1)) 0 → (reply_of (Refused 18) out ≡ replied g t (Estimate r)) × (out ≡ out_left g t out (Estimate r))
-      unfolding replied
-      has_a_name h =
-          let y = lt-ltb 0 (T.notes.names (slot T r)) (omega (arith, names_are g t r l el n below)) in
-          refuse g t r 18 out (rw (has_slot g t r l el n, fork_is ∙ none, y))
-
-    -- o is the link of what follows; a blocks would be queued, of v shards
-    module _ (none : f ≡ false) (below : l ≤ g.records) (nameless : get_or t (name_cell (l - 1)) 0 ≤ 0) (o : ℕ) (eo : o ≡ follower (view_of g t) (l - 1))
-        (a v : ℕ) (ea : a ≡ length (deleted (view_of g t) (l - 1) o)) (ev : v ≡ shards_freed (view_of g t) (l - 1) o) where
-      queued : length (deleted (view_of g t) (slot T r) (follower (view_of g t) (slot T r))) ≡ a
-      queued =
-          ap (λ s. length (deleted (view_of g t) s (follower (view_of g t) s))) (slot_is g t r l el n) ∙
-          ap (λ m. length (deleted (view_of g t) (l - 1) m)) (sym eo) ∙ sym ea
-
-      shards : shards_freed T.view (slot T r) (follower T.view (slot T r)) ≡ v
-      unfolding state_of
-      shards =
-          ap (λ s. shards_freed (view_of g t) s (follower (view_of g t) s)) (slot_is g t r l el n) ∙
-          ap (shards_freed (view_of g t) (l - 1)) (sym eo) ∙ sym ev
-
-      numbers : result g T (Estimate r) ≡ a ∷ 0 ∷ v ∷ []
-      unfolding state_of
-      numbers = ap₂ (λ (m k : ℕ). m ∷ 0 ∷ k ∷ []) queued shards
-
-      told : replied g t (Estimate r) ≡ accepted (result g T (Estimate r))
-      unfolding replied
-      told =
-          let y = le-ltb 0 (T.notes.names (slot T r)) (omega (arith, names_are g t r l el n below)) in
-          rw (has_slot g t r l el n, fork_is ∙ none, y) refl
-
-      pub answered : OutLong g out →
-          (reply_of (Done 3) (set (set (set out 0 a) 1 0) 2 v) ≡ replied g t (Estimate r)) ×
-          (set (set (set out 0 a) 1 0) 2 v ≡ out_left g t out (Estimate r))
-      unfolding reply_of out_left
-      answered long = (
-        ap accepted (take_sets out (a ∷ 0 ∷ v ∷ []) 3 refl (omega arith)) ∙ ap accepted (sym numbers) ∙ sym told,
-        ap (sets out 0) (sym numbers) ∙ ap (λ (k : Reply). leaves k out (sets out 0 (result g T (Estimate r)))) (sym told),
-      )
+    pub answered : OutLong g out →
+        (reply_of (Ok 3) (set (set (set out 0 a) 1 0) 2 v) ≡ replied g t (Estimate r)) ×
+        (set (set (set out 0 a) 1 0) 2 v ≡ out_left g t out (Estimate r))
+    unfolding reply_of out_left
+    answered long = (
+      ap accepted (take_sets out (a ∷ 0 ∷ v ∷ []) 3 refl (omega arith)) ∙ ap accepted (sym numbers) ∙ sym accepts,
+      ap (sets out 0) (sym numbers) ∙ ap (λ (k : Reply). leaves k out (sets out 0 (result g T (Estimate r)))) (sym accepts),
+    )

@@ -6,7 +6,7 @@ use Prim.Native.Nat.{ℕ, zero, suc, ◌+◌, ◌≤◌, ◌<◌}
 use native.Mathlib.Omega.{arith}
 use native.Mathlib.Numerals.{add-one}
 use lib.ListN.{length, get_or, set, take, length-append}
-use lib.Seq.{sets, length-sets, take-suc}
+use lib.Seq.{sets, length-sets, get_or-take, length-take-le, take-suc}
 use Rattle.geometry.specs.declared.Geometry.{Geometry}
 use Rattle.geometry.specs.Limits.{blocks}
 use Rattle.model.specs.Lists.{In, Once}
@@ -165,14 +165,19 @@ module _ {g : Geometry} {t₀ : List ℕ} (R : Ready g t₀) (s : ℕ) (asks : A
       pub leave_room : count ≤ length o₁
       leave_room = omega (arith, ap length eo, length-sets o₀ 0 F)
 
-      pub leave_below : (k : ℕ) → k < count → get_or o₁ k 0 < blocks g
+      pub leave_long : count ≡ length (take count o₁)
+      leave_long = sym (length-take-le count o₁ leave_room)
+
+      pub leave_below : (k : ℕ) → k < length (take count o₁) → get_or (take count o₁) k 0 < blocks g
       leave_below k h =
-          let e : get_or o₁ k 0 ≡ get_or F k 0 = ap (λ (u : List ℕ). get_or u k 0) eo ∙ get_first F o₀ k (omega arith) (omega arith) in
+          let i : k < count = omega (arith, leave_long) in
+          let e : get_or (take count o₁) k 0 ≡ get_or F k 0 =
+          get_or-take count o₁ k 0 i ∙ ap (λ (u : List ℕ). get_or u k 0) eo ∙ get_first F o₀ k (omega arith) (omega arith) in
           rw e (blocks_in_lem (get_or F k 0) (Ranges.in_get_d F k (omega arith)))
 
-      pub leave_fit : get_or t₁ 10 0 + count ≤ blocks g
+      pub leave_fit : get_or t₁ 10 0 + length (take count o₁) ≤ blocks g
       leave_fit =
-          omega (arith, fit, Fields.queue_length_lem g t₁, ap (λ (U : State). length U.queue.list) (holds_says g t₀ R.roomy first))
+          omega (arith, fit, leave_long, Fields.queue_length_lem g t₁, ap (λ (U : State). length U.queue.list) (holds_says g t₀ R.roomy first))
 
       module _ (t₂ : List ℕ) (e₂ : t₂ ≡ queued_all g.records (blocks g) t₁ (take count o₁)) where
         U : State

@@ -3,7 +3,6 @@ use mathlib.Core.Path.{◌≡◌, refl, sym, ap, ap₂, ◌∙◌}
 use mathlib.Core.Bool.{true, false}
 use mathlib.Core.List.{List, [], ◌∷◌, ◌++◌, append-nil}
 use Prim.Native.Nat.{ℕ, zero, suc, ◌+◌, ◌-◌, ◌/◌, ◌^◌, ◌≤◌, ◌<◌}
-use native.Mathlib.Nat.{div-one}
 use native.Mathlib.Omega.{arith}
 use lib.Count.{count_trailing_zeros}
 use lib.Dec.{eqb}
@@ -23,14 +22,15 @@ use Rattle.model.proofs.CheckFacts.{pruned_own}
 use Rattle.tables.specs.Ready.{Ready}
 use Rattle.tables.specs.Rows.{differs}
 use Rattle.tables.proofs.Fields
-use Rattle.tables.proofs.PagesWord.{bits_none, bits_inside, bits_few, bits_below, bits_at}
+use Rattle.tables.proofs.PagesWord.{bits_none, bits_inside, bits_below, bits_at}
 use Rattle.tables.proofs.Ranges
 use Rattle.tables.proofs.Sets.{sets_append, sets_last}
 
 -- ── the pred ──
 
 module _ {g : Geometry} {t : List ℕ} (R : Ready g t) (s : ℕ) (hs : s < g.records) (live : 0 < (view_of g t).num s) where
-  pub link_base : (prev : ℕ) → prev ≡ get_or t (prev_cell s) 0 → prev ≡ 0 → (base : ℕ) → base ≡ get_or t (base_cell s) 0 → (base ≡ parent (view_of g t) s) × (base ≤ g.records)
+  pub link_base : (prev : ℕ) → prev ≡ get_or t (prev_cell s) 0 → prev ≡ 0 → (base : ℕ) → base ≡ get_or t (base_cell s) 0
+      → (base ≡ parent (view_of g t) s) × (base ≤ g.records)
   unfolding first_link
   link_base prev e z base d =
       let b : base ≡ (view_of g t).base s = d ∙ sym (Fields.base_is g t s hs) in
@@ -91,56 +91,55 @@ module _ (K : View) (s link : ℕ) (el : link ≡ parent K s) where
       rw (ne_eqb (K.page s y) (page_of K (parent K s) y)
       (λ d. eqb-false (K.page s y) (page_of K link y) (not-true (eqb (K.page s y) (page_of K link y)) e) (d ∙ ap (λ l. page_of K l y) (sym el))))
 
-  pub listed_start : (x n : ℕ) {word : ℕ} → word ≡ word_of (differs K s link) x n →
-      (word ≡ word_of (differs K s link) x n / 2 ^ (x - x)) × (rows (own_at K s) x (x - x) ≡ [])
-  unfolding rows
-  listed_start x n e = let z : x - x ≡ 0 = omega arith in (rw z (e ∙ sym (div-one (word_of (differs K s link) x n))), rw z)
+  abbrev own : ℕ → List ℕ
+  own = own_at K s
 
-  -- `rest` is what is left of the word of n pages from x on, from page y on
-  module _ (x n y : ℕ) {rest : ℕ} (few : n ≤ 32) (from : x ≤ y) (to : y ≤ x + n) (e : rest ≡ word_of (differs K s link) x n / 2 ^ (y - x)) where
-    at_y : (j : ℕ) → x + (y - x) + j ≡ y + j
-    at_y j = omega arith
+  -- `rest` is what is left of the word of n pages from x on, after the first i
+  module _ (x n i : ℕ) {rest : ℕ} (few : n ≤ 32) (to : i ≤ n) (e : rest ≡ word_of (differs K s link) x n / 2 ^ i) where
+    here : rest ≡ word_of (differs K s link) x n / 2 ^ (x + i - x)
+    here = let z : x + i - x ≡ i = omega arith in rw z e
 
-    pub listed_end : rest ≡ 0 → rows (own_at K s) x (y - x) ≡ rows (own_at K s) x n
+    pub listed_end : rest ≡ 0 → rows (own_at K s) x i ≡ rows (own_at K s) x n
     listed_end z =
-        sym (rows_skip (own_at K s) x (y - x) (x + n - y)
-        (λ j h. ap (own_at K s) (at_y j) ∙ same_none (y + j) (bits_none (differs K s link) x n y few from e z j (omega arith)))) ∙
-        ap (rows (own_at K s) x) (let w : y - x + (x + n - y) ≡ n = omega arith in w)
+        sym (rows_skip own x i (n - i) (λ j h. same_none (x + i + j) (bits_none (differs K s link) x n (x + i) few (omega arith) here z j (omega arith)))) ∙
+        ap (rows own x) (let w : i + (n - i) ≡ n = omega arith in w)
 
-    -- the next page that differs; v is its link
-    module _ (some : rest ≡ 0 → ⊥) (v : ℕ) (hv : v ≡ K.page s (y + count_trailing_zeros 32 rest)) where
-      abbrev k : ℕ
-      k = count_trailing_zeros 32 rest
+    -- k is the next page that differs
+    module _ (some : rest ≡ 0 → ⊥) (k : ℕ) (ek : k ≡ i + count_trailing_zeros 32 rest) where
+      pub listed_inside : k < n
+      listed_inside = omega (arith, bits_inside (differs K s link) x n (x + i) few (omega arith) here some)
 
-      pub listed_inside : (y + count_trailing_zeros 32 rest < x + n) × (count_trailing_zeros 32 rest < 32)
-      listed_inside = (bits_inside (differs K s link) x n y few from e some, bits_few (differs K s link) x n y few from e some)
+      -- v is its link
+      module _ (v : ℕ) (hv : v ≡ K.page s (x + k)) where
+        next_page : rows own x (k + 1) ≡ rows own x i ++ on_page v
+        next_page =
+            let z : ℕ = count_trailing_zeros 32 rest in
+            let at : x + i + z ≡ x + k = omega arith in
+            ap (rows own x) (let w : k + 1 ≡ i + z + 1 = omega arith in w) ∙
+            rows_behind own x i z (λ j h. same_none (x + i + j) (bits_below (differs K s link) x n (x + i) few (omega arith) here some j h)) ∙
+            ap (λ (m : List ℕ). rows own x i ++ m)
+            (apart_is (x + i + z) (bits_at (differs K s link) x n (x + i) few (omega arith) here some) ∙ ap (λ y. on_page (K.page s y)) at
+            ∙ ap on_page (sym hv))
 
-      next_page : rows (own_at K s) x (y + k + 1 - x) ≡ rows (own_at K s) x (y - x) ++ on_page v
-      next_page =
-          ap (rows (own_at K s) x) (let w : y + k + 1 - x ≡ y - x + k + 1 = omega arith in w) ∙
-          rows_behind (own_at K s) x (y - x) k (λ j h. ap (own_at K s) (at_y j) ∙ same_none (y + j) (bits_below (differs K s link) x n y few from e some j h)) ∙
-          ap (λ (m : List ℕ). rows (own_at K s) x (y - x) ++ m)
-          (ap (own_at K s) (at_y k) ∙ apart_is (y + k) (bits_at (differs K s link) x n y few from e some) ∙ ap on_page (sym hv))
-
-      pub listed_none : v ≡ 0 → rows (own_at K s) x (y + count_trailing_zeros 32 rest + 1 - x) ≡ rows (own_at K s) x (y - x)
-      unfolding on_page
-      listed_none z = next_page ∙ ap (λ w. rows (own_at K s) x (y - x) ++ on_page w) z ∙ append-nil (rows (own_at K s) x (y - x))
-
-      module _ (full : v ≡ 0 → ⊥) where
-        listed_one : rows (own_at K s) x (y + k + 1 - x) ≡ rows (own_at K s) x (y - x) ++ ((v - 1) ∷ [])
+        pub listed_none : v ≡ 0 → rows (own_at K s) x (k + 1) ≡ rows (own_at K s) x i
         unfolding on_page
-        listed_one = next_page ∙ ap (λ w. rows (own_at K s) x (y - x) ++ on_page w) (let z : v ≡ suc (v - 1) = (let w : 0 < v = omega arith in omega arith) in z)
+        listed_none z = next_page ∙ ap (λ w. rows own x i ++ on_page w) z ∙ append-nil (rows own x i)
 
-        pub listed_count : length (rows (own_at K s) x (y + count_trailing_zeros 32 rest + 1 - x)) ≡ length (rows (own_at K s) x (y - x)) + 1
-        listed_count = ap length listed_one ∙ length-append (rows (own_at K s) x (y - x)) ((v - 1) ∷ [])
+        module _ (full : v ≡ 0 → ⊥) where
+          listed_one : rows own x (k + 1) ≡ rows own x i ++ ((v - 1) ∷ [])
+          unfolding on_page
+          listed_one = next_page ∙ ap (λ w. rows own x i ++ on_page w) (let z : v ≡ suc (v - 1) = (let w : 0 < v = omega arith in omega arith) in z)
 
-        pub listed_room : length (rows (own_at K s) x (y - x)) < length (rows (own_at K s) x n)
-        listed_room = omega (arith, listed_count, rows_part (own_at K s) x (y + k + 1 - x) n (omega (arith, listed_inside.0)))
+          pub listed_count : length (rows (own_at K s) x (k + 1)) ≡ length (rows (own_at K s) x i) + 1
+          listed_count = ap length listed_one ∙ length-append (rows own x i) ((v - 1) ∷ [])
 
-        pub listed_out : (o₀ o : List ℕ) (c d : ℕ) → d ≡ c + length (rows (own_at K s) x (y - x)) → o ≡ sets o₀ c (rows (own_at K s) x (y - x)) →
-            set o d (v - 1) ≡ sets o₀ c (rows (own_at K s) x (y + count_trailing_zeros 32 rest + 1 - x))
-        listed_out o₀ o c d ed eo =
-            ap (λ (u : List ℕ). set u d (v - 1)) eo ∙ sets_last o₀ c (rows (own_at K s) x (y - x)) (v - 1) d ed ∙ ap (sets o₀ c) (sym listed_one)
+          pub listed_room : length (rows (own_at K s) x i) < length (rows (own_at K s) x n)
+          listed_room = omega (arith, listed_count, rows_part own x (k + 1) n (omega (arith, listed_inside)))
+
+          pub listed_out : (o₀ o : List ℕ) (c d : ℕ) → d ≡ c + length (rows (own_at K s) x i) → o ≡ sets o₀ c (rows (own_at K s) x i) →
+              set o d (v - 1) ≡ sets o₀ c (rows (own_at K s) x (k + 1))
+          listed_out o₀ o c d ed eo =
+              ap (λ (u : List ℕ). set u d (v - 1)) eo ∙ sets_last o₀ c (rows own x i) (v - 1) d ed ∙ ap (sets o₀ c) (sym listed_one)
 
 -- a word's blocks behind those of the pages before
 module _ (K : View) (s x n : ℕ) where

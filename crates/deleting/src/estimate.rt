@@ -12,12 +12,12 @@ ghost use Rattle.tables.specs.Ready.{Roomy, Ready, OutLong, LinkOf};
 ghost use Rattle.tables.specs.Outcome.{replied, out_left};
 ghost use Rattle.deleting.specs.Stages.{younger};
 
-use crate::delete::count_frees;
+use crate::delete::{count_frees, delete_verdict};
 use crate::sort::sort_by_birth;
 use answer::Answer;
 use geometry::Geometry;
-use tables::cells::{LENGTH, NAMES, PAGES, ROW, ROWS};
-use tables::find::{follower_of, is_forked, wide};
+use tables::cells::{LENGTH, PAGES, ROW, ROWS};
+use tables::find::wide;
 use tables::links::pred_number;
 
 // The blocks on the deadlist of slot n that were born above p, written to `young`. Returns how many they are.
@@ -28,38 +28,31 @@ fn list_gone(t: &[u32], g: Geometry, young: &mut [u32], n: usize, p: u32) -> usi
     ensures young { young.new ≡ sets young.old 0 (younger (view_of g t.now) p ((view_of g t.now).list n)) }
 {
     let len = wide(t[LENGTH + n]);
-    let mut count: usize = 0;
-    let mut i: usize = 0;
-    while i < len {
+    let mut count = 0;
+    // Kept: `count_gone` walks the same blocks; one iterator for both would be longer than the two loops.
+    for i in 0..len {
         let b = wide(t[PAGES + ROW * g.records + ROW * n + i]);
         if p < t[PAGES + ROWS * g.records + b] {
             young[count] = b as u32;
             count += 1;
-            i += 1;
-        } else {
-            i += 1;
         }
     }
     count
 }
 
-// How many stretches of one birth the first n blocks of `young` have, behind a block born in p.
+// How many stretches of one birth the first n blocks of `young` have, after a block born in p.
 fn count_stretches(t: &[u32], g: Geometry, young: &[u32], n: usize, p: u32) -> usize
     requires { Roomy g t.now × (n ≤ 256) × (n ≤ length young.now) × ((k : ℕ) → k < n → get_or young.now k 0 < blocks g) }
     ensures is { result ≡ stretches (view_of g t.now).birth p (take n young.now) }
     ensures range { result ≤ 256 }
 {
-    let mut count: usize = 0;
+    let mut count = 0;
     let mut last = p;
-    let mut i: usize = 0;
-    while i < n {
+    for i in 0..n {
         let birth = t[PAGES + ROWS * g.records + wide(young[i])];
         if birth != last {
             count += 1;
             last = birth;
-            i += 1;
-        } else {
-            i += 1;
         }
     }
     count
@@ -98,19 +91,9 @@ pub fn estimate(g: Geometry, t: &[u32], out: &mut [u32], number: u32, link: usiz
     ensures reply { reply_of result out.new ≡ replied g t.now (Estimate number) }
     ensures out { out.new ≡ out_left g t.now out.old (Estimate number) }
 {
-    if link == 0 {
-        return Answer::Refused(8);
-    }
-    let s = link - 1;
-    if is_forked(t, g, s) {
-        return Answer::Refused(10);
-    }
-    if 0 < t[NAMES + s] {
-        return Answer::Refused(18);
-    }
-    let follower = follower_of(t, g, s);
+    let (s, follower) = delete_verdict(t, g, number, link)?;
     out[0] = count_frees(t, g, s, follower) as u32;
     out[1] = 0;
     out[2] = shards_of(t, g, s, follower) as u32;
-    Answer::Done(3)
+    Ok(3)
 }

@@ -9,9 +9,10 @@ ghost use Rattle.model.specs.Effects.{pruned};
 ghost use Rattle.model.specs.Layout.{view_of};
 ghost use Rattle.tables.specs.Ready.{Roomy, Ready};
 
+use crate::bits::Bits;
 use geometry::Geometry;
 use tables::cells::{BASE, PAGES, PREV, ROW};
-use tables::differ::{differing, stretch};
+use tables::differ::differing;
 use tables::find::wide;
 
 // The pred of the record in slot s.
@@ -35,27 +36,17 @@ fn page_at(t: &[u32], g: Geometry, s: usize, x: usize) -> u32
     t[PAGES + ROW * s + x]
 }
 
-// Of the n pages of slot s from x on, how many have a block that its pred has not on the same page. They are found by the bits of a word: from page
-// y on `rest` is what is left of it.
+// Of the n pages of slot s from x on, how many have a block that its pred has not on the same page.
 fn count_word(t: &[u32], g: Geometry, s: usize, pred: usize, x: usize, n: usize) -> usize
     requires { Roomy g t.now × (s < g.records) × (pred ≡ parent (view_of g t.now) s) × (pred ≤ g.records) × (n ≤ 32) × (x + n ≤ g.pages) }
     ensures is { result ≡ length (rows (own_at (view_of g t.now) s) x n) }
     ensures range { result ≤ n }
 {
-    let mut rest = differing(g, t, s, pred, x, n);
-    let mut y = x;
-    let mut found: usize = 0;
-    while rest != 0 {
-        let step = u32::trailing_zeros(rest);
-        let z = y + step as usize;
-        let link = page_at(t, g, s, z);
-        if link != 0 {
+    let word = differing(g, t, s, pred, x, n);
+    let mut found = 0;
+    for k in Bits::of(word) {
+        if page_at(t, g, s, x + k) != 0 {
             found += 1;
-            rest = (rest >> step) >> 1;
-            y = z + 1;
-        } else {
-            rest = (rest >> step) >> 1;
-            y = z + 1;
         }
     }
     found
@@ -67,18 +58,15 @@ pub fn count_young(t: &[u32], g: Geometry, s: usize) -> usize
     ensures { result ≡ length (pruned (view_of g t.now) s g.pages) }
 {
     let pred = pred_link(t, g, s);
-    let mut count: usize = 0;
-    let mut x: usize = 0;
-    while x < g.pages {
-        let n = stretch(g.pages - x);
-        let more = count_word(t, g, s, pred, x, n);
-        count += more;
-        x += n;
+    let mut count = 0;
+    for x in (0..g.pages).step_by(32) {
+        count += count_word(t, g, s, pred, x, (g.pages - x).min(32));
     }
     count
 }
 
-// Of the n pages of slot s from x on, the blocks that its pred has not on the same page, written to `out` from `count` on. Returns how many there are with the `count` before them.
+// Of the n pages of slot s from x on, the blocks that its pred has not on the same page, written to `out` from `count` on. Returns how many there are
+// with the `count` before them.
 fn list_word(
     t: &[u32],
     g: Geometry,
@@ -89,26 +77,19 @@ fn list_word(
     n: usize,
     count: usize,
 ) -> usize
-    requires { Ready g t.now × (count + length (rows (own_at (view_of g t.now) s) x n) ≤ length out.old) × (s < g.records) × (pred ≡ parent (view_of g t.now) s) × (pred ≤ g.records) × (n ≤ 32) × (x + n ≤ g.pages) × (count ≤ x) }
+    requires { Ready g t.now × (count + length (rows (own_at (view_of g t.now) s) x n) ≤ length out.old) × (s < g.records) ×
+        (pred ≡ parent (view_of g t.now) s) × (pred ≤ g.records) × (n ≤ 32) × (x + n ≤ g.pages) × (count ≤ x) }
     ensures count { result ≡ count + length (rows (own_at (view_of g t.now) s) x n) }
     ensures range { result ≤ x + n }
     ensures out { out.new ≡ sets out.old count (rows (own_at (view_of g t.now) s) x n) }
 {
-    let mut rest = differing(g, t, s, pred, x, n);
-    let mut y = x;
+    let word = differing(g, t, s, pred, x, n);
     let mut found = count;
-    while rest != 0 {
-        let step = u32::trailing_zeros(rest);
-        let z = y + step as usize;
-        let link = page_at(t, g, s, z);
+    for k in Bits::of(word) {
+        let link = page_at(t, g, s, x + k);
         if link != 0 {
             out[found] = link - 1;
             found += 1;
-            rest = (rest >> step) >> 1;
-            y = z + 1;
-        } else {
-            rest = (rest >> step) >> 1;
-            y = z + 1;
         }
     }
     found
@@ -121,12 +102,9 @@ pub fn list_young(t: &[u32], g: Geometry, out: &mut [u32], s: usize) -> usize
     ensures out { out.new ≡ sets out.old 0 (pruned (view_of g t.now) s g.pages) }
 {
     let pred = pred_link(t, g, s);
-    let mut count: usize = 0;
-    let mut x: usize = 0;
-    while x < g.pages {
-        let n = stretch(g.pages - x);
-        count = list_word(t, g, out, s, pred, x, n, count);
-        x += n;
+    let mut count = 0;
+    for x in (0..g.pages).step_by(32) {
+        count = list_word(t, g, out, s, pred, x, (g.pages - x).min(32), count);
     }
     count
 }

@@ -1,6 +1,7 @@
 // D: a record leaves the store. Q: what that would queue.
 #![tactic(auto)]
 
+pub mod bits;
 pub mod delete;
 pub mod estimate;
 pub mod last;

@@ -22,15 +22,11 @@ pub fn count_gone(t: &[u32], g: Geometry, n: usize, p: u32) -> usize
     ensures range { result ≤ 256 }
 {
     let len = wide(t[LENGTH + n]);
-    let mut count: usize = 0;
-    let mut i: usize = 0;
-    while i < len {
+    let mut count = 0;
+    for i in 0..len {
         let b = wide(t[PAGES + ROW * g.records + ROW * n + i]);
         if p < t[PAGES + ROWS * g.records + b] {
             count += 1;
-            i += 1;
-        } else {
-            i += 1;
         }
     }
     count
@@ -45,42 +41,37 @@ fn part_row(t: &mut [u32], g: Geometry, out: &mut [u32], n: usize, p: u32) -> us
     ensures out { out.new ≡ sets out.old 0 (younger (view_of g t.old) p ((view_of g t.old).list n)) }
 {
     let len = wide(t[LENGTH + n]);
-    let mut count: usize = 0;
-    let mut kept: usize = 0;
-    let mut i: usize = 0;
-    while i < len {
+    let mut count = 0;
+    let mut kept = 0;
+    for i in 0..len {
         let b = wide(t[PAGES + ROW * g.records + ROW * n + i]);
         if p < t[PAGES + ROWS * g.records + b] {
             out[count] = b as u32;
             count += 1;
-            i += 1;
         } else {
             t[PAGES + ROW * g.records + ROW * n + kept] = b as u32;
             kept += 1;
-            i += 1;
         }
     }
     count
 }
 
-// The deadlist of slot s joins that of slot n, behind its first `kept` blocks.
+// The deadlist of slot s joins that of slot n, after its first `kept` blocks.
 fn join_rows(t: &mut [u32], g: Geometry, s: usize, n: usize, kept: usize)
     requires { Roomy g t.old × (s < g.records) × (n < g.records) × (kept + get_or t.old (length_cell s) 0 ≤ 256) × (s ≡ n → ⊥) }
     ensures { t.new ≡ set (sets t.old (list_cell g.records n kept) ((view_of g t.old).list s)) (length_cell n) (kept + length ((view_of g t.old).list s)) }
 {
     let more = wide(t[LENGTH + s]);
-    let mut i: usize = 0;
-    while i < more {
-        t[PAGES + ROW * g.records + ROW * n + kept + i] = t[PAGES + ROW * g.records + ROW * s + i];
-        i += 1;
-    }
+    let from = PAGES + ROW * g.records + ROW * s;
+    t.copy_within(from..from + more, PAGES + ROW * g.records + ROW * n + kept);
     t[LENGTH + n] = (kept + more) as u32;
 }
 
 // The record in slot s, which slot n follows, is taken out of its line, with p the number of its pred: the blocks to be queued are written to `out`,
 // by rising birth. Returns how many they are.
 pub fn delete_next(t: &mut [u32], g: Geometry, out: &mut [u32], s: usize, n: usize, p: u32) -> usize
-    requires { Ready g t.old × (length (unlinked (view_of g t.old) s n) ≤ length out.old) × Asks (view_of g t.old) (do_d s) × (follower (view_of g t.old) s ≡ suc n) × (p ≡ pred_num (view_of g t.old) s) }
+    requires { Ready g t.old × (length (unlinked (view_of g t.old) s n) ≤ length out.old) × Asks (view_of g t.old) (do_d s) ×
+        (follower (view_of g t.old) s ≡ suc n) × (p ≡ pred_num (view_of g t.old) s) }
     ensures count { result ≡ length (unlinked (view_of g t.old) s n) }
     ensures tables { t.new ≡ stored g (bypassed (state_of g t.old) s n) t.old }
     ensures out { out.new ≡ sets out.old 0 (unlinked (view_of g t.old) s n) }

@@ -6,7 +6,7 @@ use types.Run.{miss}
 use borrow.Enum.Refused.{Among, opened}
 use denote.Enum.Declared.{tag_of}
 use Prim.Native.Nat.{ℕ}
-use Rattle.answer.specs.declared.Answer.{Answer}
+use Rattle.answer.specs.declared.Refusal.{Refusal}
 use Rattle.answer.specs.Reply.{reply_of}
 use Rattle.geometry.specs.declared.Geometry.{Geometry}
 use Rattle.model.specs.declared.Call.{Call}
@@ -20,15 +20,16 @@ use Rattle.tables.specs.Ready.{Ready, LinkOf, record_of}
 use Rattle.tables.specs.Outcome.{replied, out_left}
 use Rattle.engine.specs.declared.looks.Look.{Look}
 use Rattle.engine.specs.declared.looks.Look.TheVariants as look
-use Rattle.engine.specs.declared.looks.Seen.TheVariants as seen
+use Rattle.std.specs.Prelude.{Result}
+use Rattle.std.specs.Prelude as prelude
 use Rattle.engine.specs.Looks.{look_call, only_looks, seen_call}
 use Rattle.engine.proofs.Untouched.{Performed, call_link, result_alone}
 
-abbrev pub Looked : Answer → Geometry → List ℕ → List ℕ → List ℕ → Command → Type 0
+abbrev pub Looked : Result ℕ Refusal → Geometry → List ℕ → List ℕ → List ℕ → Command → Type 0
 Looked r g t out left c = (reply_of r left ≡ replied g t c) × (left ≡ out_left g t out c)
 
 -- of the look that the code has taken apart
-pub of_look : (r : Answer) (g : Geometry) (t out left : List ℕ) {l m : Look} → l ≡ m →
+pub of_look : (r : Result ℕ Refusal) (g : Geometry) (t out left : List ℕ) {l m : Look} → l ≡ m →
     Looked r g t out left (command (look_call m)) → Looked r g t out left (command (look_call l))
 of_look r g t out left e p = subst (λ k. Looked r g t out left (command (look_call k))) (sym e) p
 
@@ -53,7 +54,7 @@ stores_once g t look.FreeList = refl
 stores_once g t (look.Estimate n) = refl
 
 -- tables and log are those that were lent
-pub look_performed : (r : Answer) (g : Geometry) (t log out left : List ℕ) (l : Look) → Ready g t → Looked r g t out left (command (look_call l)) →
+pub look_performed : (r : Result ℕ Refusal) (g : Geometry) (t log out left : List ℕ) (l : Look) → Ready g t → Looked r g t out left (command (look_call l)) →
     Performed r t log left g t log out (command (look_call l))
 look_performed r g t log out left l R p =
     result_alone r g t log out left (command (look_call l)) R (writes_none g t l) (keeps_state g t l) (stores_once g t l) p
@@ -61,7 +62,7 @@ look_performed r g t log out left l R p =
 -- ── the look that a call is ──
 
 -- of the call that the code has taken apart
-pub seen_as : (c : Call) (l : Look) → c ≡ look_call l → seen_call (seen.For l) ≡ only_looks (some c)
+pub seen_as : (c : Call) (l : Look) → c ≡ look_call l → seen_call (prelude.Some l) ≡ only_looks (some c)
 seen_as c (look.Read n x) e = rw e
 seen_as c look.FreeList e = rw e
 seen_as c (look.Estimate n) e = rw e
@@ -70,7 +71,7 @@ seen_as c (look.Estimate n) e = rw e
 abbrev acting : List ℕ
 acting = 0 ∷ 1 ∷ 2 ∷ 3 ∷ 4 ∷ 5 ∷ 7 ∷ 8 ∷ 11 ∷ 12 ∷ []
 
-pub not_seen : (c : Call) → Among acting (tag_of the_type c) → seen_call seen.Nothing ≡ only_looks (some c)
+pub not_seen : (c : Call) → Among acting (tag_of the_type c) → seen_call prelude.None ≡ only_looks (some c)
 not_seen Begin h = refl
 not_seen (Write r x k) h = refl
 not_seen (Erase r x) h = refl

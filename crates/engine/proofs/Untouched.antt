@@ -4,7 +4,8 @@ use mathlib.Core.Path.{◌≡◌, refl, sym, ap, ap₂, ◌∙◌, subst}
 use mathlib.Core.List.{List, []}
 use Prim.Native.Nat.{ℕ}
 use lib.Seq.{sets}
-use Rattle.answer.specs.declared.Answer.{Answer}
+use Rattle.std.specs.Prelude.{Result}
+use Rattle.answer.specs.declared.Refusal.{Refusal}
 use Rattle.answer.specs.Reply.{Reply, accepted, refused, reply_of}
 use Rattle.answer.specs.Refusal.{leaves}
 use Rattle.geometry.specs.declared.Geometry.{Geometry}
@@ -46,7 +47,7 @@ module _ (g : Geometry) (t : List ℕ) (c : Command) where
       (ap₂ (λ (U : State) (u : List ℕ). stored g U u) e way ∙ stored_state g t R.made R.free R.roomy.room)
 
 -- the four promises of a call
-abbrev pub Performed : Answer → List ℕ → List ℕ → List ℕ → Geometry → List ℕ → List ℕ → List ℕ → Command → Type 0
+abbrev pub Performed : Result ℕ Refusal → List ℕ → List ℕ → List ℕ → Geometry → List ℕ → List ℕ → List ℕ → Command → Type 0
 Performed r t' log' out' g t log out c =
     (reply_of r out' ≡ replied g t c) × ((t' ≡ tables_left g t c) × ((log' ≡ log_left g t log c) × (out' ≡ out_left g t out c)))
 
@@ -67,25 +68,25 @@ pub name_link : (g : Geometry) (t l : List ℕ) {c d : Naming} → c ≡ d → (
 name_link g t l e link = its_link g t (ap (λ k. command_on k l) e) link
 
 -- the promises of the call that the code has taken apart
-pub of_call : (g : Geometry) (t log out : List ℕ) {c d : Call} → c ≡ d → (r : Answer) (t' log' out' : List ℕ) →
+pub of_call : (g : Geometry) (t log out : List ℕ) {c d : Call} → c ≡ d → (r : Result ℕ Refusal) (t' log' out' : List ℕ) →
     Performed r t' log' out' g t log out (command d) → Performed r t' log' out' g t log out (command c)
 of_call g t log out e r t' log' out' p = subst (λ c. Performed r t' log' out' g t log out (command c)) (sym e) p
 
 -- what a call promises that is lent the tables alone, and one that is lent the result buffer alone
-pub tables_alone : (r : Answer) (g : Geometry) (t log out t' : List ℕ) (c : Command) → written g (state_of g t) c ≡ [] → result g (state_of g t) c ≡ [] →
+pub tables_alone : (r : Result ℕ Refusal) (g : Geometry) (t log out t' : List ℕ) (c : Command) → written g (state_of g t) c ≡ [] → result g (state_of g t) c ≡ [] →
     (reply_of r out ≡ replied g t c) × (t' ≡ tables_left g t c) → Performed r t' log out g t log out c
 tables_alone r g t log out t' c w n p = (p.0, (p.1, (log_stays g t c log w, out_stays g t c out n)))
 
-pub result_alone : (r : Answer) (g : Geometry) (t log out out' : List ℕ) (c : Command) → Ready g t → written g (state_of g t) c ≡ [] →
+pub result_alone : (r : Result ℕ Refusal) (g : Geometry) (t log out out' : List ℕ) (c : Command) → Ready g t → written g (state_of g t) c ≡ [] →
     effect g (state_of g t) c ≡ state_of g t → midway g (state_of g t) (account c) t ≡ t →
     (reply_of r out' ≡ replied g t c) × (out' ≡ out_left g t out c) → Performed r t log out' g t log out c
 result_alone r g t log out out' c R w e m p = (p.0, (tables_stay g t c R e m, (log_stays g t c log w, p.1)))
 
 -- the promises of a call of a name, which writes no log word
-abbrev pub Named : Answer → List ℕ → List ℕ → Geometry → List ℕ → List ℕ → Command → Type 0
+abbrev pub Named : Result ℕ Refusal → List ℕ → List ℕ → Geometry → List ℕ → List ℕ → Command → Type 0
 Named r t' out' g t out c = (reply_of r out' ≡ replied g t c) × ((t' ≡ tables_left g t c) × (out' ≡ out_left g t out c))
 
-pub of_name : (g : Geometry) (t out l : List ℕ) {c d : Naming} → c ≡ d → (r : Answer) (t' out' : List ℕ) →
+pub of_name : (g : Geometry) (t out l : List ℕ) {c d : Naming} → c ≡ d → (r : Result ℕ Refusal) (t' out' : List ℕ) →
     Named r t' out' g t out (command_on d l) → Named r t' out' g t out (command_on c l)
 of_name g t out l e r t' out' p = subst (λ c. Named r t' out' g t out (command_on c l)) (sym e) p
 
@@ -95,7 +96,7 @@ writes_none g t l naming.Detach = refl
 writes_none g t l naming.Resolve = refl
 
 -- so it leaves the log
-pub name_performed : (r : Answer) (g : Geometry) (t log out t' out' l : List ℕ) (c : Naming) → Named r t' out' g t out (command_on c l) →
+pub name_performed : (r : Result ℕ Refusal) (g : Geometry) (t log out t' out' l : List ℕ) (c : Naming) → Named r t' out' g t out (command_on c l) →
     Performed r t' log out' g t log out (command_on c l)
 name_performed r g t log out t' out' l c p = (p.0, (p.1.0, (log_stays g t (command_on c l) log (writes_none g t l c), p.1.1)))
 
@@ -113,17 +114,17 @@ AskedAlone t n link g = Ready g t × LinkOf g t n link
 pub copy_alone : {h g : Geometry} → h ≡ g → (t : List ℕ) (n link : ℕ) → AskedAlone t n link g → AskedAlone t n link h
 copy_alone e t n link = subst (AskedAlone t n link) (sym e)
 
-abbrev pub AloneLeft : Answer → List ℕ → List ℕ → Command → Geometry → Type 0
+abbrev pub AloneLeft : Result ℕ Refusal → List ℕ → List ℕ → Command → Geometry → Type 0
 AloneLeft r t' t c g = ((out : List ℕ) → reply_of r out ≡ replied g t c) × (t' ≡ tables_left g t c)
 
-pub copy_left : {h g : Geometry} → h ≡ g → (r : Answer) (t' t : List ℕ) (c : Command) → AloneLeft r t' t c h → AloneLeft r t' t c g
+pub copy_left : {h g : Geometry} → h ≡ g → (r : Result ℕ Refusal) (t' t : List ℕ) (c : Command) → AloneLeft r t' t c h → AloneLeft r t' t c g
 copy_left e r t' t c = subst (AloneLeft r t' t c) e
 
-abbrev pub Answers : Answer → List ℕ → List ℕ → List ℕ → Command → Geometry → Type 0
+abbrev pub Answers : Result ℕ Refusal → List ℕ → List ℕ → List ℕ → Command → Geometry → Type 0
 Answers r out' t out c g = (reply_of r out' ≡ replied g t c) × (out' ≡ out_left g t out c)
 
-pub copy_answers : {h g : Geometry} → h ≡ g → (r : Answer) (out' t out : List ℕ) (c : Command) → Answers r out' t out c h → Answers r out' t out c g
+pub copy_answers : {h g : Geometry} → h ≡ g → (r : Result ℕ Refusal) (out' t out : List ℕ) (c : Command) → Answers r out' t out c h → Answers r out' t out c g
 copy_answers e r out' t out c = subst (Answers r out' t out c) e
 
-pub copy_named : {h g : Geometry} → h ≡ g → (r : Answer) (t' out' t out : List ℕ) (c : Command) → Named r t' out' h t out c → Named r t' out' g t out c
+pub copy_named : {h g : Geometry} → h ≡ g → (r : Result ℕ Refusal) (t' out' t out : List ℕ) (c : Command) → Named r t' out' h t out c → Named r t' out' g t out c
 copy_named e r t' out' t out c = subst (λ k. Named r t' out' k t out c) e

@@ -1,12 +1,11 @@
 -- The calls of a letter and numbers that only look: R, L and Q. (K looks too, and notes a window; M comes with a name.)
 use Rattle.std.specs.Prelude.{Bool, true, false, cond}
+use Rattle.std.specs.Prelude as prelude
 use Rattle.std.proofs.Math.Option.{Option, none, some}
 use Rattle.model.specs.declared.Call.{Call}
 use Rattle.model.specs.declared.Call.TheVariants.{Begin, Write, Erase, Seal, Fork, Delete, Read, Barrier, Compress, FreeList, Estimate, Retain, Reclaim}
 use Rattle.engine.specs.declared.looks.Look.{Look}
 use Rattle.engine.specs.declared.looks.Look.TheVariants as look
-use Rattle.engine.specs.declared.looks.Seen.{Seen}
-use Rattle.engine.specs.declared.looks.Seen.TheVariants as seen
 
 -- the call that a look is
 abbrev pub look_call : Look → Call
@@ -35,6 +34,6 @@ only_looks (some c) = cond (looks c) (some c) none
 only_looks none = none
 
 -- the call that an answer stands for
-abbrev pub seen_call : Seen → Option Call
-seen_call (seen.For l) = some (look_call l)
-seen_call seen.Nothing = none
+abbrev pub seen_call : prelude.Option Look → Option Call
+seen_call (prelude.Some l) = some (look_call l)
+seen_call prelude.None = none

@@ -15,13 +15,6 @@ pub enum Look {
     Estimate(u32),
 }
 
-// The look that a call is, or that it is none.
-#[derive(Clone, Copy)]
-pub enum Seen {
-    For(Look),
-    Nothing,
-}
-
 // The number of the record that a look is on, 0 for none.
 pub fn record_seen(c: Look) -> u32
     ensures { result ≡ record_of (command (look_call c)) }
@@ -34,13 +27,13 @@ pub fn record_seen(c: Look) -> u32
 }
 
 // The look that a call is: those that change something are none.
-pub fn look_of(c: Call) -> Seen
+pub fn look_of(c: Call) -> Option<Look>
     ensures { seen_call result ≡ only_looks (some c) }
 {
     match c {
-        Call::Read(n, page) => Seen::For(Look::Read(n, page)),
-        Call::FreeList => Seen::For(Look::FreeList),
-        Call::Estimate(n) => Seen::For(Look::Estimate(n)),
-        _ => Seen::Nothing,
+        Call::Read(n, page) => Some(Look::Read(n, page)),
+        Call::FreeList => Some(Look::FreeList),
+        Call::Estimate(n) => Some(Look::Estimate(n)),
+        _ => None,
     }
 }

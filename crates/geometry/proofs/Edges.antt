@@ -4,16 +4,17 @@ use mathlib.Core.Path.{◌≡◌, refl}
 use mathlib.Core.List.{[]}
 use Prim.Native.Nat.{ℕ}
 use Rattle.answer.specs.Reply.{accepted, refused}
-use Rattle.geometry.specs.declared.Making.TheVariants.{Made, Refused}
+use Rattle.std.specs.Prelude.{Ok, Err}
+use Rattle.answer.specs.declared.Refusal.TheVariants.{OutsideLimits}
 use Rattle.geometry.specs.Limits.{geometry_of, within, fits, making_of}
 use Rattle.geometry.specs.Making.{making}
 
 -- six numbers are a geometry; or they are refused, with 2
 abbrev Taken : ℕ → ℕ → ℕ → ℕ → ℕ → ℕ → Type 0
-Taken a b p r t w = (making_of a b p r t w ≡ Made (geometry_of a b p r t w)) × (making a b p r t w ≡ accepted [])
+Taken a b p r t w = (making_of a b p r t w ≡ Ok (geometry_of a b p r t w)) × (making a b p r t w ≡ accepted [])
 
 abbrev TurnedAway : ℕ → ℕ → ℕ → ℕ → ℕ → ℕ → Type 0
-TurnedAway a b p r t w = (making_of a b p r t w ≡ Refused 2) × (making a b p r t w ≡ refused 2)
+TurnedAway a b p r t w = (making_of a b p r t w ≡ Err OutsideLimits) × (making a b p r t w ≡ refused 2)
 
 pub record Edges : Type 0 where
   -- arenas

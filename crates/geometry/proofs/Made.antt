@@ -9,8 +9,9 @@ use lib.Dec.{leb}
 use borrow.Author.Tests.{leb-true, le-leb}
 use Rattle.answer.specs.Refusal.{decide}
 use Rattle.geometry.specs.declared.Geometry.{Geometry}
-use Rattle.geometry.specs.declared.Making.{Making}
-use Rattle.geometry.specs.declared.Making.TheVariants.{Made, Refused}
+use Rattle.std.specs.Prelude.{Result, Ok, Err}
+use Rattle.answer.specs.declared.Refusal.{Refusal}
+use Rattle.answer.specs.declared.Refusal.TheVariants.{OutsideLimits}
 use Rattle.geometry.specs.Limits.{min_arenas, max_arenas, min_per, max_per, max_blocks, min_pages, max_pages, min_records, max_records}
 use Rattle.geometry.specs.Limits.{min_turn, max_turn, min_words, max_words, blocks, geometry_of, Inside, within, fits, making_of}
 use Rattle.geometry.specs.Making.{reply_of, making}
@@ -92,22 +93,22 @@ module _ (arenas per pages records turn words : ℕ) where
   it = geometry_of arenas per pages records turn words
 
   -- a made geometry has the six numbers, and they are inside their limits
-  pub made : (g : Geometry) → making_of arenas per pages records turn words ≡ Made g → (g ≡ geometry_of arenas per pages records turn words) × Inside g
+  pub made : (g : Geometry) → making_of arenas per pages records turn words ≡ Ok g → (g ≡ geometry_of arenas per pages records turn words) × Inside g
   unfolding making_of
   made g e = go (fits it) refl e
     where
-      go : (t : Bool) → fits it ≡ t → cond t (Made it) (Refused 2) ≡ Made g → (g ≡ it) × Inside g
+      go : (t : Bool) → fits it ≡ t → cond t (Ok it) (Err OutsideLimits) ≡ Ok g → (g ≡ it) × Inside g
       go true t f =
           let q : it ≡ g = cc in
           (sym q, subst Inside q (fits_inside it t))
       go false t f = let z : ◌≡◌ {A = ℕ} 0 1 = cc in absurd (omega arith)
 
   -- the refusal is 2, and the six numbers are outside
-  pub not_made : (n : ℕ) → making_of arenas per pages records turn words ≡ Refused n → (n ≡ 2) × (fits (geometry_of arenas per pages records turn words) ≡ false)
+  pub not_made : (r : Refusal) → making_of arenas per pages records turn words ≡ Err r → (r ≡ OutsideLimits) × (fits (geometry_of arenas per pages records turn words) ≡ false)
   unfolding making_of
-  not_made n e = go (fits it) refl e
+  not_made r e = go (fits it) refl e
     where
-      go : (t : Bool) → fits it ≡ t → cond t (Made it) (Refused 2) ≡ Refused n → (n ≡ 2) × (fits it ≡ false)
+      go : (t : Bool) → fits it ≡ t → cond t (Ok it) (Err OutsideLimits) ≡ Err r → (r ≡ OutsideLimits) × (fits it ≡ false)
       go true t f = let z : ◌≡◌ {A = ℕ} 0 1 = cc in absurd (omega arith)
       go false t f = (cc, t)
 
@@ -115,10 +116,10 @@ module _ (arenas per pages records turn words : ℕ) where
   unfolding making_of reply_of making
   replies = go (fits it)
     where
-      go : (t : Bool) → reply_of (cond t (Made it) (Refused 2)) ≡ decide ((2, not t) ∷ []) []
+      go : (t : Bool) → reply_of (cond t (Ok it) (Err OutsideLimits)) ≡ decide ((2, not t) ∷ []) []
       go true = refl
       go false = refl
 
   -- what is replied follows from what is answered
-  pub replied : (r : Making) → r ≡ making_of arenas per pages records turn words → reply_of r ≡ making arenas per pages records turn words
+  pub replied : (r : Result Geometry Refusal) → r ≡ making_of arenas per pages records turn words → reply_of r ≡ making arenas per pages records turn words
   replied r e = ap reply_of e ∙ replies

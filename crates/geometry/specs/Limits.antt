@@ -1,9 +1,9 @@
 -- "A store is made from six decimal numbers: arenas 1 to 16; blocks per arena 1 to 1,024, in all N = product, at most 2,048; pages 1 to 256;
 -- records in the store at one time 1 to 64; turn 1 to 4,096; log words from 2 × N + 2 to 8,192." (2.1)
-use Rattle.std.specs.Prelude.{ℕ, ◌+◌, ◌*◌, ◌≤◌, Bool, cond, ◌&&◌, leb}
+use Rattle.std.specs.Prelude.{ℕ, ◌+◌, ◌*◌, ◌≤◌, Bool, cond, ◌&&◌, leb, Result, Ok, Err}
 use Rattle.geometry.specs.declared.Geometry.{Geometry}
-use Rattle.geometry.specs.declared.Making.{Making}
-use Rattle.geometry.specs.declared.Making.TheVariants.{Made, Refused}
+use Rattle.answer.specs.declared.Refusal.{Refusal}
+use Rattle.answer.specs.declared.Refusal.TheVariants.{OutsideLimits}
 
 -- N, the number of blocks
 abbrev pub blocks : Geometry → ℕ
@@ -107,7 +107,7 @@ fits g =
     (within min_records g.records max_records && (within min_turn g.turn max_turn && within (min_words (blocks g)) g.words max_words)))))
 
 -- the geometry of six numbers inside their limits, and refusal 2 of any other
-unfoldable pub making_of : ℕ → ℕ → ℕ → ℕ → ℕ → ℕ → Making
+unfoldable pub making_of : ℕ → ℕ → ℕ → ℕ → ℕ → ℕ → Result Geometry Refusal
 making_of arenas per pages records turn words =
     let g = geometry_of arenas per pages records turn words in
-    cond (fits g) (Made g) (Refused 2)
+    cond (fits g) (Ok g) (Err OutsideLimits)

@@ -5,7 +5,9 @@ ghost use Rattle.std.specs.Prelude.{◌≡◌};
 ghost use Rattle.geometry.specs.Limits.{within, making_of};
 ghost use Rattle.geometry.specs.Making.{reply_of, making};
 
-#[derive(Clone, Copy)]
+use answer::Refusal;
+
+#[derive(Clone, Copy, Debug, PartialEq, Eq)]
 pub struct Geometry {
     pub arenas: usize,
     // Blocks in each arena.
@@ -18,18 +20,11 @@ pub struct Geometry {
     pub words: usize,
 }
 
-// A geometry, or the number of the refusal.
-#[derive(Clone, Copy)]
-pub enum Making {
-    Made(Geometry),
-    Refused(u8),
-}
-
 // Whether x lies from lo to hi.
 fn inside(lo: usize, x: usize, hi: usize) -> bool
     ensures { result ≡ within lo x hi }
 {
-    if lo <= x { x <= hi } else { false }
+    lo <= x && x <= hi
 }
 
 impl Geometry {
@@ -76,7 +71,7 @@ impl Geometry {
     // Numbers of the result buffer that are enough for every call.
     pub const MOST_OUT: usize = 4160;
 
-    // The geometry of six numbers, or refusal 2 where one lies outside its limits.
+    // The geometry of six numbers, refused where one lies outside its limits.
     pub fn new(
         arenas: usize,
         per: usize,
@@ -84,33 +79,33 @@ impl Geometry {
         records: usize,
         turn: usize,
         words: usize,
-    ) -> Making
+    ) -> Result<Geometry, Refusal>
         ensures is { result ≡ making_of arenas per pages records turn words }
         ensures reply { reply_of result ≡ making arenas per pages records turn words }
     {
         if !inside(Geometry::MIN_ARENAS, arenas, Geometry::MAX_ARENAS) {
-            return Making::Refused(2);
+            return Err(Refusal::OutsideLimits);
         }
         if !inside(Geometry::MIN_PER, per, Geometry::MAX_PER) {
-            return Making::Refused(2);
+            return Err(Refusal::OutsideLimits);
         }
         let blocks = arenas * per;
         if Geometry::MAX_BLOCKS < blocks {
-            return Making::Refused(2);
+            return Err(Refusal::OutsideLimits);
         }
         if !inside(Geometry::MIN_PAGES, pages, Geometry::MAX_PAGES) {
-            return Making::Refused(2);
+            return Err(Refusal::OutsideLimits);
         }
         if !inside(Geometry::MIN_RECORDS, records, Geometry::MAX_RECORDS) {
-            return Making::Refused(2);
+            return Err(Refusal::OutsideLimits);
         }
         if !inside(Geometry::MIN_TURN, turn, Geometry::MAX_TURN) {
-            return Making::Refused(2);
+            return Err(Refusal::OutsideLimits);
         }
         if !inside(2 * blocks + 2, words, Geometry::MAX_WORDS) {
-            return Making::Refused(2);
+            return Err(Refusal::OutsideLimits);
         }
-        Making::Made(Geometry {
+        Ok(Geometry {
             arenas,
             per,
             pages,

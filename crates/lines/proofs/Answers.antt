@@ -8,8 +8,9 @@ use lib.Dec.{eqb, leb}
 use lib.ListN.{length, get_or, set, take}
 use lib.Seq.{sets}
 use borrow.Author.Tests.{leb-false}
-use Rattle.answer.specs.declared.Answer.{Answer}
-use Rattle.answer.specs.declared.Answer.TheVariants as answer
+use Rattle.std.specs.Prelude.{Result, Ok, Err}
+use Rattle.answer.specs.declared.Refusal.{Refusal}
+use Rattle.answer.specs.Number.{number_of}
 use Rattle.answer.specs.Reply.{Reply, reply_of, accepted, refused}
 use Rattle.answer.specs.Refusal.{NoneHolds, leaves}
 use Rattle.answer.proofs.Decided.{decide_accepts}
@@ -31,8 +32,6 @@ use Rattle.model.proofs.StoredFacts.{state_ext}
 use Rattle.tables.specs.Ready.{Ready, OutLong}
 use Rattle.tables.specs.Outcome.{replied, tables_left, out_left}
 use Rattle.tables.proofs.Fields.{num_in}
-use Rattle.lines.specs.declared.verdict.Verdict.{Verdict}
-use Rattle.lines.specs.declared.verdict.Verdict.TheVariants.{Refused, Accept}
 use Rattle.lines.specs.Verdicts.{verdict}
 use Rattle.lines.specs.Growing.{viewed}
 use Rattle.lines.proofs.Verdicts.{refuses, accepts}
@@ -52,15 +51,15 @@ module _ {g : Geometry} {t : List ℕ} (R : Ready g t) where
   T = state_of g t
 
   -- what a call promises
-  abbrev pub Left : Command → List ℕ → Answer → List ℕ → List ℕ → Type 0
+  abbrev pub Left : Command → List ℕ → Result ℕ Refusal → List ℕ → List ℕ → Type 0
   Left c out r u out' = (reply_of r out' ≡ replied g t c) × ((u ≡ tables_left g t c) × (out' ≡ out_left g t out c))
 
   -- ── a refusal ──
 
-  pub refused_left : (c : Command) (s k : ℕ) (v : Verdict) (out : List ℕ) → v ≡ verdict g t c s → v ≡ Refused k → Left c out (answer.Refused k) t out
+  pub refused_left : (c : Command) (s : ℕ) (r : Refusal) (out : List ℕ) → Err (number_of r) ≡ verdict g t c s → Left c out (Err r) t out
   unfolding verdict replied reply_of tables_left out_left
-  refused_left c s k v out e d =
-      let a : replied g t c ≡ refused k = refuses (conditions g T c) s (pred (vacant T.view)) k (result g T c) (sym e ∙ d) in (
+  refused_left c s r out e =
+      let a : replied g t c ≡ refused (number_of r) = refuses (conditions g T c) s (pred (vacant T.view)) (number_of r) (result g T c) (sym e) in (
         sym a,
         (
           sym (ap (λ (r : Reply). leaves r t (stored_by g t c)) a),
@@ -70,10 +69,9 @@ module _ {g : Geometry} {t : List ℕ} (R : Ready g t) where
 
   -- ── what acceptance says of the slots ──
 
-  taken : (c : Command) (s a b : ℕ) (v : Verdict) → v ≡ verdict g t c s → v ≡ Accept a b →
-      NoneHolds (conditions g T c) × (a ≡ s) × (b ≡ pred (vacant T.view))
+  taken : (c : Command) (s a b : ℕ) → Ok (a, b) ≡ verdict g t c s → NoneHolds (conditions g T c) × (a ≡ s) × (b ≡ pred (vacant T.view))
   unfolding verdict
-  taken c s a b v e d = accepts (conditions g T c) s (pred (vacant T.view)) a b (sym e ∙ d)
+  taken c s a b e = accepts (conditions g T c) s (pred (vacant T.view)) a b (sym e)
 
   last_at : get_or t 6 0 ≡ T.view.last
   unfolding state_of view_of
@@ -86,9 +84,9 @@ module _ {g : Geometry} {t : List ℕ} (R : Ready g t) where
       let w = spare T.view (not_zero (vacant T.view) y) in
       (omega (arith, w.0), leb-false 999999 T.view.last n, ap T.view.num e ∙ w.1)
 
-  pub begin_needs : (s f : ℕ) (v : Verdict) → v ≡ verdict g t Begin 0 → v ≡ Accept s f → (f < g.records) × (get_or t 6 0 < 999999)
-  begin_needs s f v e d =
-      let w = taken Begin 0 s f v e d in
+  pub begin_needs : (s f : ℕ) → Ok (s, f) ≡ verdict g t Begin 0 → (f < g.records) × (get_or t 6 0 < 999999)
+  begin_needs s f e =
+      let w = taken Begin 0 s f e in
       let past = none_at (conditions g T Begin) w.0 in
       let r = room f (past 11) (past 12) w.2 in
       (r.0, r.1)
@@ -105,9 +103,9 @@ module _ {g : Geometry} {t : List ℕ} (R : Ready g t) where
       let l : 0 < T.view.num s = omega (arith, w.0, ap T.view.num i) in
       (r.0, r.1, num_in g t s l, λ e. let z : ⊥ = omega (arith, r.2, ap T.view.num e) in z)
 
-  pub fork_needs : (n s f : ℕ) (v : Verdict) → v ≡ verdict g t (Fork n) (slot T n) → v ≡ Accept s f → Needs s f
-  fork_needs n s f v e d =
-      let w = taken (Fork n) (slot T n) s f v e d in
+  pub fork_needs : (n s f : ℕ) → Ok (s, f) ≡ verdict g t (Fork n) (slot T n) → Needs s f
+  fork_needs n s f e =
+      let w = taken (Fork n) (slot T n) s f e in
       let past = none_at (conditions g T (Fork n)) w.0 in
       on_needs n s f (past 8) (past 11) (past 12) w.1 w.2
 
@@ -115,7 +113,7 @@ module _ {g : Geometry} {t : List ℕ} (R : Ready g t) where
 
   module _ (u out : List ℕ) (r : ℕ) (num : r ≡ get_or t 6 0 + 1) (long : OutLong g out) where
     grown : (c : Command) (K : View) (N : Notes) → NoneHolds (conditions g T c) → result g T c ≡ suc T.view.last ∷ [] →
-        with_notes (with_view T K) N ≡ effect g T c → midway g T (account c) t ≡ t → u ≡ viewed g t K N → Left c out (answer.Done 1) u (set out 0 r)
+        with_notes (with_view T K) N ≡ effect g T c → midway g T (account c) t ≡ t → u ≡ viewed g t K N → Left c out (Ok 1) u (set out 0 r)
     unfolding viewed replied reply_of tables_left out_left
     grown c K N n e k way d =
         let a : replied g t c ≡ accepted (result g T c) = decide_accepts (conditions g T c) (result g T c) n in
@@ -132,15 +130,15 @@ module _ {g : Geometry} {t : List ℕ} (R : Ready g t) where
         with_notes (with_view T (done T.view a)) (begun_notes T) ≡ with_notes (acted T a 0) (begun_notes T)
     bare a e = ap (λ U. with_notes U (begun_notes T)) (acted_is T a e)
 
-    pub begin_left : (s f : ℕ) (v : Verdict) → v ≡ verdict g t Begin 0 → v ≡ Accept s f → u ≡ viewed g t (begin T.view f) (bare_notes T.notes f) →
-        Left Begin out (answer.Done 1) u (set out 0 r)
-    begin_left s f v e d b =
-        let w = taken Begin 0 s f v e d in
+    pub begin_left : (s f : ℕ) → Ok (s, f) ≡ verdict g t Begin 0 → u ≡ viewed g t (begin T.view f) (bare_notes T.notes f) →
+        Left Begin out (Ok 1) u (set out 0 r)
+    begin_left s f e b =
+        let w = taken Begin 0 s f e in
         grown Begin _ _ w.0 refl (bare do_b refl) refl (b ∙ ap (λ (f : ℕ). viewed g t (begin T.view f) (bare_notes T.notes f)) w.2)
 
-    pub fork_left : (n s f : ℕ) (v : Verdict) → v ≡ verdict g t (Fork n) (slot T n) → v ≡ Accept s f →
-        u ≡ viewed g t (fork T.view s f) (bare_notes T.notes f) → Left (Fork n) out (answer.Done 1) u (set out 0 r)
-    fork_left n s f v e d b =
-        let w = taken (Fork n) (slot T n) s f v e d in
+    pub fork_left : (n s f : ℕ) → Ok (s, f) ≡ verdict g t (Fork n) (slot T n) →
+        u ≡ viewed g t (fork T.view s f) (bare_notes T.notes f) → Left (Fork n) out (Ok 1) u (set out 0 r)
+    fork_left n s f e b =
+        let w = taken (Fork n) (slot T n) s f e in
         grown (Fork n) _ _ w.0 refl (bare (do_f (slot T n)) refl) refl
         (b ∙ ap₂ (λ (s f : ℕ). viewed g t (fork T.view s f) (bare_notes T.notes f)) w.1 w.2)

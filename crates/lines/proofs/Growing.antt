@@ -1,11 +1,16 @@
--- A new record, store by store: its pages by a loop, the name that goes to it, then the rest of it.
+-- A new record, store by store: its pages, the name that goes to it, then the rest of it.
 use mathlib.Core.Path.{◌≡◌, refl, sym, ap, ap₂, ◌∙◌, fun_ext}
 use mathlib.Core.List.{List, []}
-use Prim.Native.Nat.{ℕ, zero, suc, ◌+◌, ◌-◌, ◌≤◌, ◌<◌}
+use Prim.Native.Nat.{ℕ, zero, suc, ◌+◌, ◌-◌, ◌*◌, ◌≤◌, ◌<◌}
 use native.Mathlib.Numerals.{add-one}
 use native.Mathlib.Omega.{arith}
-use lib.ListN.{length, get_or, set}
+use lib.ListN.{length, get_or, set, drop, replicate}
+use lib.Seq.{paste}
+use borrow.Rule.Slice.PartMut.{put_mid}
 use borrow.Author.Tests.{eq-eqb, ne_eqb}
+use Rattle.std.proofs.lemmas.List.{length-drop, length-replicate, get_or-drop, get_or-replicate}
+use Rattle.std.proofs.lemmas.List.Edits.{paste_none, paste_more}
+use Rattle.std.proofs.lemmas.Slice.{put_mid-paste}
 use Rattle.answer.proofs.Cases.{cases, same?, pos}
 use Rattle.geometry.specs.declared.Geometry.{Geometry}
 use Rattle.model.specs.View.{View, page_of}
@@ -128,33 +133,41 @@ module _ {g : Geometry} {t : List ℕ} (R : Ready g t) where
   unfolding paged
   paged_holds f l u h e = record { is = e; shaped = shaped_row g (state_of g t) first.shaped f _ h (row_ends g (state_of g t) first.shaped l) }
 
-  -- ── the loop: the first x pages of slot f ──
-
-  pub paging_first : (f l : ℕ) → Paging g t f l 0 t
-  paging_first f l = holds_as g t refl (sym (pages_none (state_of g t) f _)) first
+  -- ── the pages of slot f: the first x are written ──
 
   paging_next : (f l x v : ℕ) {u : List ℕ} → Paging g t f l x u → f < g.records → x < g.pages → v ≡ page_of (state_of g t).view l x →
-      Paging g t f l (x + 1) (set u (page_cell f x) v)
-  paging_next f l x v H hf hx e = rw add-one (step_pages g t R.roomy (state_of g t) f x v _ H hf hx e)
+      Paging g t f l (suc x) (set u (page_cell f x) v)
+  paging_next f l x v H hf hx e = step_pages g t R.roomy (state_of g t) f x v _ H hf hx e
 
-  pub copying : (f s x : ℕ) (u : List ℕ) → Paging g t f (suc s) x u → f < g.records → s < g.records → (s ≡ f → ⊥) → x < g.pages →
-      Paging g t f (suc s) (x + 1) (set u (page_cell f x) (get_or u (page_cell s x) 0))
-  copying f s x u H hf hs n hx =
-      paging_next f (suc s) x _ H hf hx
-      (reads_page g t R.roomy H s x hs hx ∙ pages_other (state_of g t) f _ x s x n ∙ sym (via_suc (λ r. (state_of g t).view.page r x) s))
+  -- vs are the pages behind the link l
+  module _ (f l : ℕ) (vs : List ℕ) (hf : f < g.records) (long : g.pages ≤ length vs)
+      (e : (x : ℕ) → x < g.pages → get_or vs x 0 ≡ page_of (state_of g t).view l x) where
+    paging : (x : ℕ) → x ≤ g.pages → Paging g t f l x (paste t (2048 + 256 * f) vs x)
+    paging zero h = holds_as g t (sym (paste_none t (2048 + 256 * f) vs)) (sym (pages_none (state_of g t) f _)) first
+    paging (suc x) h =
+        let p : set (paste t (2048 + 256 * f) vs x) (page_cell f x) (get_or vs x 0) ≡ paste t (2048 + 256 * f) vs (suc x) =
+        paste_more t (2048 + 256 * f) vs x 0 (omega (arith, R.roomy.inside.pages_most)) (omega arith) ∙ ap (paste t (2048 + 256 * f) vs) (add-one x) in
+        rw p at (paging_next f l x _ (paging x (omega arith)) hf (omega arith) (e x (omega arith)))
 
-  pub clearing : (f x : ℕ) (u : List ℕ) → Paging g t f 0 x u → f < g.records → x < g.pages → Paging g t f 0 (x + 1) (set u (page_cell f x) 0)
-  clearing f x u H hf hx = paging_next f 0 x 0 H hf hx (sym (via_zero (λ r. (state_of g t).view.page r x)))
+    -- all are
+    paging_all : (n : ℕ) → n ≡ g.pages → paste t (2048 + 256 * f) vs n ≡ paged g t f l
+    unfolding paged
+    paging_all n i =
+        let d : with_pages (state_of g t) f n (page_of (state_of g t).view l) ≡ with_row (state_of g t) f (page_of (state_of g t).view l) =
+        rw i (pages_all (state_of g t) f _ g first.shaped (row_ends g (state_of g t) first.shaped l)) in
+        (holds_as g t refl d (paging n (omega arith))).is
 
-  pub paging_length : (f l x : ℕ) (u : List ℕ) → Paging g t f l x u → length u ≡ length t
-  paging_length f l x u H = holds_length g t R.roomy H
+  pub copied : (f s n : ℕ) → f < g.records → s < g.records → n ≡ g.pages →
+      paste t (2048 + 256 * f) (drop (2048 + 256 * s) t) n ≡ paged g t f (suc s)
+  copied f s n hf hs i =
+      paging_all f (suc s) (drop (2048 + 256 * s) t) hf (omega (arith, length-drop {A = ℕ}, R.roomy.inside.pages_most))
+      (λ x h. get_or-drop (2048 + 256 * s) t x 0 ∙ reads_page g t R.roomy first s x hs h ∙ sym (via_suc (λ r. (state_of g t).view.page r x) s)) n i
 
-  pub paging_last : (f l x : ℕ) (u : List ℕ) → Paging g t f l x u → x ≡ g.pages → u ≡ paged g t f l
-  unfolding paged
-  paging_last f l x u H e =
-      let d : with_pages (state_of g t) f x (page_of (state_of g t).view l) ≡ with_row (state_of g t) f (page_of (state_of g t).view l) =
-      rw e (pages_all (state_of g t) f _ g first.shaped (row_ends g (state_of g t) first.shaped l)) in
-      (holds_as g t refl d H).is
+  pub cleared : (f k : ℕ) (ys : List ℕ) → f < g.records → k ≡ g.pages → ys ≡ replicate k 0 → put_mid (2048 + 256 * f) k t ys ≡ paged g t f 0
+  cleared f k ys hf i e =
+      put_mid-paste (2048 + 256 * f) k t ys (replicate k 0) k e refl (sym (length-replicate k 0)) ∙
+      paging_all f 0 (replicate k 0) hf (omega (arith, length-replicate {A = ℕ}))
+      (λ x h. get_or-replicate k x 0 0 (omega arith) ∙ sym (via_zero (λ r. (state_of g t).view.page r x))) k i
 
   -- ── the name ──
 

@@ -17,11 +17,8 @@ fn copy_pages(t: &mut [u32], g: Geometry, f: usize, s: usize)
     requires { Ready g t.old × (f < g.records) × (s < g.records) × (s ≡ f → ⊥) }
     ensures is { t.new ≡ paged g t.old f (suc s) }
 {
-    let mut x: usize = 0;
-    while x < g.pages {
-        t[PAGES + ROW * f + x] = t[PAGES + ROW * s + x];
-        x += 1;
-    }
+    let from = PAGES + ROW * s;
+    t.copy_within(from..from + g.pages, PAGES + ROW * f);
 }
 
 // The pages of slot f become empty.
@@ -29,11 +26,8 @@ fn clear_pages(t: &mut [u32], g: Geometry, f: usize)
     requires { Ready g t.old × (f < g.records) }
     ensures is { t.new ≡ paged g t.old f 0 }
 {
-    let mut x: usize = 0;
-    while x < g.pages {
-        t[PAGES + ROW * f + x] = 0;
-        x += 1;
-    }
+    let from = PAGES + ROW * f;
+    t[from..from + g.pages].fill(0);
 }
 
 // The record in slot f is open, of the next number, with these links, an empty deadlist, this window and this count of names. Gives its number.
@@ -101,6 +95,8 @@ pub fn begin_at(t: &mut [u32], g: Geometry, f: usize) -> u32
 }
 
 // The seal of S: the record in slot s is sealed, and the new one follows it, with the window of the line and the name of the record, if it has one.
+// It is compiled into S, with and without a window.
+#[inline(always)]
 pub fn seal_at(t: &mut [u32], g: Geometry, f: usize, s: usize) -> u32
     requires { Ready g t.old × (f < g.records) × (get_or t.old 6 0 < 999999) × (s < g.records) × (s ≡ f → ⊥) ×
         (0 < (view_of g t.old).num s) × (0 < (view_of g t.old).is_open s) }

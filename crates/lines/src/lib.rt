@@ -11,7 +11,7 @@ ghost use Rattle.tables.specs.Ready.{Ready, OutLong, LinkOf};
 ghost use Rattle.tables.specs.Outcome.{replied, tables_left, out_left};
 
 use crate::grow::{begin_at, fork_at};
-use crate::verdict::{Verdict, forking, room};
+use crate::verdict::{forking, room};
 use answer::Answer;
 use geometry::Geometry;
 
@@ -22,15 +22,9 @@ pub fn begin(g: Geometry, t: &mut [u32], out: &mut [u32]) -> Answer
     ensures tables { t.new ≡ tables_left g t.old Begin }
     ensures out { out.new ≡ out_left g t.old out.old Begin }
 {
-    let verdict = room(t, g, 0);
-    match verdict {
-        Verdict::Refused(k) => Answer::Refused(k),
-        Verdict::Accept(_, f) => {
-            let number = begin_at(t, g, f);
-            out[0] = number;
-            Answer::Done(1)
-        }
-    }
+    let (_, f) = room(t, g, 0)?;
+    out[0] = begin_at(t, g, f);
+    Ok(1)
 }
 
 // F: a new line with an open record that has the pages of a sealed one.
@@ -40,13 +34,7 @@ pub fn fork(g: Geometry, t: &mut [u32], out: &mut [u32], n: u32, link: usize) ->
     ensures tables { t.new ≡ tables_left g t.old (Fork n) }
     ensures out { out.new ≡ out_left g t.old out.old (Fork n) }
 {
-    let verdict = forking(t, g, n, link);
-    match verdict {
-        Verdict::Refused(k) => Answer::Refused(k),
-        Verdict::Accept(s, f) => {
-            let number = fork_at(t, g, f, s);
-            out[0] = number;
-            Answer::Done(1)
-        }
-    }
+    let (s, f) = forking(t, g, n, link)?;
+    out[0] = fork_at(t, g, f, s);
+    Ok(1)
 }

@@ -4,44 +4,40 @@ ghost use Rattle.model.specs.Command.{Begin, Fork};
 ghost use Rattle.model.specs.Layout.{state_of};
 ghost use Rattle.model.specs.Calls.{slot};
 ghost use Rattle.tables.specs.Ready.{Roomy, Ready, LinkOf};
-ghost use Rattle.lines.specs.Verdicts.{verdict};
+ghost use Rattle.lines.specs.Verdicts.{numbered, verdict};
 
+use answer::Refusal;
 use geometry::Geometry;
 use tables::cells::{LAST, OPEN};
 use tables::find::vacant_slot;
 
-// What such a call meets: a refusal, or the slot of its record and the empty slot.
-#[derive(Clone, Copy)]
-pub enum Verdict {
-    Refused(u8),
-    Accept(usize, usize),
-}
-
-// The refusals 11 and 12, of a call on the record in slot s; those of B are no others.
-pub fn room(t: &[u32], g: Geometry, s: usize) -> Verdict
+// The slot of the record that a call is on and the empty slot, or the refusals of a full table and of spent numbers; B meets no others.
+// B, S and F ask it; it is compiled into each.
+#[inline(always)]
+pub fn room(t: &[u32], g: Geometry, s: usize) -> Result<(usize, usize), Refusal>
     requires { Roomy g t.now }
-    ensures { result ≡ verdict g t.now Begin s }
+    ensures { numbered result ≡ verdict g t.now Begin s }
 {
     let empty = vacant_slot(t, g);
     if empty == 0 {
-        return Verdict::Refused(11);
+        return Err(Refusal::TableFull);
     }
     if 999999 <= t[LAST] {
-        return Verdict::Refused(12);
+        return Err(Refusal::NumbersSpent);
     }
-    Verdict::Accept(s, empty - 1)
+    Ok((s, empty - 1))
 }
 
-// The verdict on F of the record of number n, with its link: 9 if it is open.
-pub fn forking(t: &[u32], g: Geometry, n: u32, link: usize) -> Verdict
+// The verdict on F of the record of number n, with its link: it may not be open.
+pub fn forking(t: &[u32], g: Geometry, n: u32, link: usize) -> Result<(usize, usize), Refusal>
     requires { Ready g t.now × LinkOf g t.now n link }
-    ensures { result ≡ verdict g t.now (Fork n) (slot (state_of g t.now) n) }
+    ensures { numbered result ≡ verdict g t.now (Fork n) (slot (state_of g t.now) n) }
 {
     if link == 0 {
-        return Verdict::Refused(8);
+        return Err(Refusal::NoSuchRecord);
     }
     if 0 < t[OPEN + (link - 1)] {
-        return Verdict::Refused(9);
+        return Err(Refusal::WrongState);
     }
     room(t, g, link - 1)
 }

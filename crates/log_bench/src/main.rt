@@ -5,28 +5,17 @@ use alloc_log::read::read_log;
 use std::io;
 
 // How often, of `times`, the bytes are a log of 16 arenas of 128 blocks.
-fn read_often(log: &[u8], times: u64) -> u64 {
-    let mut good: u64 = 0;
-    let mut n: u64 = 0;
-    while n < times {
-        let held = read_log(log, 16, 128);
-        if held.ok {
-            good += 1;
-            n += 1;
-        } else {
-            n += 1;
-        }
-    }
-    good
+fn read_often(log: &[u8], times: usize) -> usize {
+    (0..times)
+        .filter(|_| read_log(log, 16, 128).is_some())
+        .count()
 }
 
 // Each even word allocates block 0, each odd one frees it.
 fn main(rt: HostRuntime) -> io::Result<()> {
     let mut log = [0u8; 65536];
-    let mut i: usize = 0;
-    while i < 8192 {
+    for i in 0..8192 {
         log[8 * i + 7] = (1 + i % 2) as u8;
-        i += 1;
     }
     let good = read_often(&log, 2000);
     println!(rt; "{good}")

@@ -6,8 +6,9 @@ use native.Mathlib.Omega.{arith}
 use lib.ListN.{length, get_or, set}
 use lib.Seq.{sets}
 use borrow.Author.Tests.{lt-ltb, le-ltb}
-use Rattle.answer.specs.declared.Answer.{Answer}
-use Rattle.answer.specs.declared.Answer.TheVariants.{Done, Refused}
+use Rattle.std.specs.Prelude.{Result, Ok, Err}
+use Rattle.answer.specs.declared.Refusal.{Refusal}
+use Rattle.answer.specs.declared.Refusal.TheVariants.{LogFull}
 use Rattle.answer.specs.Reply.{Reply, reply_of, accepted, refused}
 use Rattle.answer.specs.Refusal.{leaves}
 use Rattle.geometry.specs.declared.Geometry.{Geometry}
@@ -37,7 +38,7 @@ module _ (g : Geometry) (t : List ℕ) (c : Command) where
   -- what an accepted call leaves
   module _ (a : replied g t c ≡ accepted (result g (state_of g t) c)) where
     pub reply_done : (out : List ℕ) → length (result g (state_of g t) c) ≤ length out
-        → reply_of (Done (length (result g (state_of g t) c))) (sets out 0 (result g (state_of g t) c)) ≡ replied g t c
+        → reply_of (Ok (length (result g (state_of g t) c))) (sets out 0 (result g (state_of g t) c)) ≡ replied g t c
     unfolding reply_of
     reply_done out h = ap accepted (take_sets (result g (state_of g t) c) out h) ∙ sym a
 
@@ -75,7 +76,7 @@ module _ {g : Geometry} {t : List ℕ} (R : Ready g t) where
   told_is = ap pairs (runs_same g.per _ _ 0 0 (blocks g) (λ i l h. free_is R.roomy R.free i (omega arith)))
 
   pub listed : (out out' : List ℕ) (n : ℕ) → OutLong g out → n ≡ length (told g t) → out' ≡ sets out 0 (told g t) → n ≤ 2 * blocks g →
-      (reply_of (Done n) out' ≡ replied g t FreeList) × (out' ≡ out_left g t out FreeList)
+      (reply_of (Ok n) out' ≡ replied g t FreeList) × (out' ≡ out_left g t out FreeList)
   unfolding replied
   listed out out' n long e eo s =
       let is : n ≡ length (free_list g (state_of g t)) = e ∙ ap length told_is in
@@ -110,17 +111,17 @@ module _ (g : Geometry) (t log : List ℕ) (used : ℕ) (eu : used ≡ get_or t 
   used_is = sym eu
 
   -- what Y promises
-  abbrev pub Left : Answer → List ℕ → List ℕ → Type 0
+  abbrev pub Left : Result ℕ Refusal → List ℕ → List ℕ → Type 0
   Left r t' log' = ((out : List ℕ) → reply_of r out ≡ replied g t Barrier) × ((t' ≡ tables_left g t Barrier) × (log' ≡ log_left g t log Barrier))
 
-  pub barrier_refused : g.words - used < 1 → Left (Refused 14) t log
+  pub barrier_refused : g.words - used < 1 → Left (Err LogFull) t log
   unfolding replied reply_of
   barrier_refused h =
       let e : replied g t Barrier ≡ refused 14 = rw (used_is, lt-ltb (g.words - used) 1 h) in
       (λ out. sym e, (tables_refused g t Barrier 14 e, log_refused g t Barrier 14 e log))
 
   pub barrier_done : (log' u : List ℕ) → Ready g t → 1 ≤ g.words - used → log' ≡ write_at log (8 * used) (word_bytes 3) →
-      u ≡ stored g (synced (state_of g t)) t → Left (Done 0) (set u 9 (used + 1)) log'
+      u ≡ stored g (synced (state_of g t)) t → Left (Ok 0) (set u 9 (used + 1)) log'
   unfolding replied reply_of logged
   barrier_done log' u R h el es =
       let a : replied g t Barrier ≡ accepted [] = rw (used_is, le-ltb (g.words - used) 1 h) in (
@@ -154,7 +155,7 @@ module _ (g : Geometry) (t u : List ℕ) (R : Ready g t) (es : u ≡ stored g (s
   words_few = omega (arith, words_are, compressed_short g (state_of g t), R.roomy.inside.blocks_most)
 
   pub compressed_done : (log₀ log' out : List ℕ) → OutLong g out → log' ≡ write_at log₀ 0 (bytes_of (log.compressed g.arenas g.per (kept (words u))))
-      → (reply_of (Done 1) (set out 0 (n / 8)) ≡ replied g t Compress) × ((set u 9 (n / 8) ≡ tables_left g t Compress)
+      → (reply_of (Ok 1) (set out 0 (n / 8)) ≡ replied g t Compress) × ((set u 9 (n / 8) ≡ tables_left g t Compress)
       × ((log' ≡ log_left g t log₀ Compress) × (set out 0 (n / 8) ≡ out_left g t out Compress)))
   unfolding logged
   compressed_done log₀ log' out long el =

@@ -15,14 +15,14 @@ ghost use Rattle.tables.specs.Outcome.{replied, tables_left, log_left, out_left}
 
 use alloc_log::compress::put_run;
 use alloc_log::word::append;
-use answer::Answer;
+use answer::{Answer, Refusal};
 use choice::{first_given, first_kept};
 use geometry::Geometry;
 use tables::births::release;
 use tables::cells::{FREE, USED};
 use tables::find::wide;
 
-// Y: a barrier behind the last word; no block waits from now on. It gives no numbers, whatever a result buffer holds.
+// Y: a barrier after the last word; no block waits from now on. It gives no numbers, whatever a result buffer holds.
 pub fn barrier(g: Geometry, t: &mut [u32], log: &mut [u8]) -> Answer
     requires { Ready g t.old × LogLong g log.old }
     ensures reply { (out : List ℕ) → reply_of result out ≡ replied g t.old Barrier }
@@ -31,12 +31,12 @@ pub fn barrier(g: Geometry, t: &mut [u32], log: &mut [u8]) -> Answer
 {
     let used = wide(t[USED]);
     if g.words - used < 1 {
-        return Answer::Refused(14);
+        return Err(Refusal::LogFull);
     }
     append(log, 8 * used, 3);
     release(t, g);
     t[USED] = (used + 1) as u32;
-    Answer::Done(0)
+    Ok(0)
 }
 
 // Writes the compressed log of the blocks that may not be given at the start of a log, and returns how many bytes it has. It
@@ -47,22 +47,20 @@ fn put_kept(log: &mut [u8], words: &[u32], arenas: usize, per: usize) -> usize
     ensures count { result ≡ 8 * length (compressed arenas per (λ b. not (free_in words.now b))) }
     ensures bytes { log.new ≡ write_at log.old 0 (bytes_of (compressed arenas per (λ b. not (free_in words.now b)))) }
 {
-    let mut used: usize = 0;
-    let mut b: usize = 0;
-    let mut arena: usize = 0;
-    while arena < arenas {
+    let mut used = 0;
+    for arena in 0..arenas {
+        let mut b = arena * per;
         let edge = b + per;
         while b < edge {
             let from = first_kept(words, b, edge);
             b = first_given(words, from, edge);
             used = put_run(log, used, from, b - from);
         }
-        arena += 1;
     }
     append(log, used, 3)
 }
 
-// C: the log anew, compressed. No block waits from now on: what may not be given is then what is held.
+// C: the log written again, compressed. No block waits from now on: what may not be given is then what is held.
 pub fn compress_log(g: Geometry, t: &mut [u32], log: &mut [u8], out: &mut [u32]) -> Answer
     requires { Ready g t.old × LogLong g log.old × OutLong g out.old }
     ensures reply { reply_of result out.new ≡ replied g t.old Compress }
@@ -74,7 +72,7 @@ pub fn compress_log(g: Geometry, t: &mut [u32], log: &mut [u8], out: &mut [u32])
     let bytes = put_kept(log, &t[FREE..FREE + 64], g.arenas, g.per);
     t[USED] = (bytes / 8) as u32;
     out[0] = (bytes / 8) as u32;
-    Answer::Done(1)
+    Ok(1)
 }
 
 // Writes the run of the blocks from lo on and below hi, where there are any, behind the first `at` numbers.
@@ -99,17 +97,15 @@ pub fn free_list(g: Geometry, t: &[u32], out: &mut [u32]) -> Answer
     ensures out { out.new ≡ out_left g t.now out.old FreeList }
 {
     let words = &t[FREE..FREE + 64];
-    let mut at: usize = 0;
-    let mut b: usize = 0;
-    let mut arena: usize = 0;
-    while arena < g.arenas {
+    let mut at = 0;
+    for arena in 0..g.arenas {
+        let mut b = arena * g.per;
         let edge = b + g.per;
         while b < edge {
             let from = first_given(words, b, edge);
             b = first_kept(words, from, edge);
             at = put_pair(out, at, from, b);
         }
-        arena += 1;
     }
-    Answer::Done(at)
+    Ok(at)
 }

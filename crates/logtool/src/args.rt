@@ -1,7 +1,5 @@
 // The arguments: a command, arenas and blocks per arena, files.
-ghost use Rattle.std.specs.Prelude.{◌≡◌, ◌↔◌, IsTrue};
-
-use crate::number::{Number, read_number};
+use crate::number::read_number;
 use geometry::Geometry;
 use std::env::FillError;
 use std::rt::Env;
@@ -29,8 +27,6 @@ pub enum Command {
     Held,
     Compress,
     Compare,
-    // No command, or one with too few, too many or misspelled arguments.
-    Unclear,
 }
 
 #[derive(Clone, Copy)]
@@ -40,39 +36,21 @@ pub struct Asked {
     pub per: usize,
 }
 
-fn is_word(text: &[u8], word: &[u8]) -> bool
-    ensures { IsTrue result ↔ text.now ≡ word.now }
-{
-    text == word
-}
-
 // The command of a name and a number of arguments, the program's own name among them.
-fn command_of(name: &[u8], count: usize) -> Command {
-    if count == 5 {
-        if is_word(name, b"held") {
-            return Command::Held;
-        }
-        return Command::Unclear;
+fn command_of(name: &[u8], count: usize) -> Option<Command> {
+    match (name, count) {
+        (b"held", 5) => Some(Command::Held),
+        (b"compress", 6) => Some(Command::Compress),
+        (b"compare", 6) => Some(Command::Compare),
+        _ => None,
     }
-    if count != 6 {
-        return Command::Unclear;
-    }
-    if is_word(name, b"compress") {
-        return Command::Compress;
-    }
-    if is_word(name, b"compare") {
-        return Command::Compare;
-    }
-    Command::Unclear
 }
 
 // An argument that is missing or longer than the buffer reads as no number.
-fn number_at(rt: &impl Env, i: usize) -> Number {
+fn number_at(rt: &impl Env, i: usize) -> Option<usize> {
     let mut text = [0u8; 16];
-    match rt.arg(i, &mut text) {
-        Ok(n) => read_number(&text[..n]),
-        Err(_) => Number::No,
-    }
+    let n = rt.arg(i, &mut text).ok()?;
+    read_number(&text[..n])
 }
 
 fn is_given(rt: &impl Env, i: usize) -> bool {
@@ -91,35 +69,20 @@ fn count(rt: &impl Env) -> usize {
 }
 
 // A name that is missing or longer than the buffer is no command's.
-fn read_command(rt: &impl Env) -> Command {
+fn read_command(rt: &impl Env) -> Option<Command> {
     let mut name = [0u8; 16];
-    match rt.arg(1, &mut name) {
-        Ok(n) => command_of(&name[..n], count(rt)),
-        Err(_) => Command::Unclear,
-    }
+    let n = rt.arg(1, &mut name).ok()?;
+    command_of(&name[..n], count(rt))
 }
 
-fn unclear() -> Asked {
-    Asked {
-        command: Command::Unclear,
-        arenas: 0,
-        per: 0,
-    }
-}
-
-pub fn read_args(rt: &impl Env) -> Asked {
-    let command = read_command(rt);
-    let first = number_at(rt, 2);
-    let Number::Is(arenas) = first else {
-        return unclear();
-    };
-    let second = number_at(rt, 3);
-    let Number::Is(per) = second else {
-        return unclear();
-    };
-    Asked {
+// What the arguments ask for; none where there is no command, or one with too few, too many or misspelled arguments.
+pub fn read_args(rt: &impl Env) -> Option<Asked> {
+    let command = read_command(rt)?;
+    let arenas = number_at(rt, 2)?;
+    let per = number_at(rt, 3)?;
+    Some(Asked {
         command,
         arenas,
         per,
-    }
+    })
 }

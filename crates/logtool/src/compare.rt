@@ -3,7 +3,7 @@ use crate::args::{FILE, OTHER, PAGES, RECORDS, TURN, WORDS};
 use crate::file::{MOST, read_file};
 use crate::reply::{print_line, print_refusal};
 use crate::sentence::refused;
-use alloc_log::tool::{Comparison, compare};
+use alloc_log::tool::compare;
 use std::rt::{Env, Files};
 
 // Compares two logs; where one is no log, the sentence is about the first that is none.
@@ -17,11 +17,11 @@ fn judge(
 ) {
     let verdict = compare(arenas, per, PAGES, RECORDS, TURN, WORDS, first, second);
     match verdict {
-        Comparison::Alike => print_line(rt, err, b"+ alike"),
-        Comparison::Different => print_line(rt, err, b"+ different"),
-        Comparison::Refused(k) => {
-            print_refusal(rt, err, k);
-            refused(rt, err, k, first_bad(arenas, per, first));
+        Ok(true) => print_line(rt, err, b"+ alike"),
+        Ok(false) => print_line(rt, err, b"+ different"),
+        Err(refusal) => {
+            print_refusal(rt, err, refusal);
+            refused(rt, err, refusal, first_bad(arenas, per, first));
         }
     }
 }
@@ -29,11 +29,7 @@ fn judge(
 // Which argument names the first file that is no log, where one is none: a log compared with itself is refused if it is none.
 fn first_bad(arenas: usize, per: usize, first: &[u8]) -> usize {
     let verdict = compare(arenas, per, PAGES, RECORDS, TURN, WORDS, first, first);
-    match verdict {
-        Comparison::Alike => OTHER,
-        Comparison::Different => OTHER,
-        Comparison::Refused(_) => FILE,
-    }
+    if verdict.is_ok() { OTHER } else { FILE }
 }
 
 pub fn print_comparison(
@@ -43,16 +39,12 @@ pub fn print_comparison(
     per: usize,
 ) {
     let mut space = [0u8; MOST];
-    let first = read_file(rt, err, FILE, &mut space);
-    if !first.ok {
+    let Some(n) = read_file(rt, err, FILE, &mut space) else {
         return;
-    }
+    };
     let mut more = [0u8; MOST];
-    let second = read_file(rt, err, OTHER, &mut more);
-    if !second.ok {
+    let Some(m) = read_file(rt, err, OTHER, &mut more) else {
         return;
-    }
-    let n = first.length;
-    let m = second.length;
+    };
     judge(rt, err, arenas, per, &space[..n], &more[..m]);
 }

@@ -1,11 +1,11 @@
-// The command `compress`: a log written anew, compressed, as a new file.
+// The command `compress`: a log written again, compressed, as a new file.
 ghost use Rattle.std.specs.Prelude.{◌*◌, ◌≤◌, length};
 
 use crate::args::{FILE, OTHER, PAGES, RECORDS, TURN, WORDS};
 use crate::file::{MOST, read_file, write_file};
 use crate::reply::{print_count, print_refusal};
 use crate::sentence::refused;
-use alloc_log::tool::{Compaction, compact};
+use alloc_log::tool::compact;
 use std::rt::{Env, Files};
 
 // The bytes that a compressed log has room for.
@@ -31,10 +31,10 @@ fn write_words(
 ) {
     let compaction = compact(arenas, per, PAGES, RECORDS, TURN, WORDS, log, out);
     match compaction {
-        Compaction::Words(words) => keep(rt, err, out, words),
-        Compaction::Refused(k) => {
-            print_refusal(rt, err, k);
-            refused(rt, err, k, FILE);
+        Ok(words) => keep(rt, err, out, words),
+        Err(refusal) => {
+            print_refusal(rt, err, refusal);
+            refused(rt, err, refusal, FILE);
         }
     }
 }
@@ -46,11 +46,9 @@ pub fn write_compressed(
     per: usize,
 ) {
     let mut space = [0u8; MOST];
-    let content = read_file(rt, err, FILE, &mut space);
-    if !content.ok {
+    let Some(n) = read_file(rt, err, FILE, &mut space) else {
         return;
-    }
-    let n = content.length;
+    };
     let mut out = [0u8; ROOM];
     write_words(rt, err, arenas, per, &space[..n], &mut out);
 }

@@ -1,5 +1,5 @@
 // Files that arguments name: reading one whole, making a new one.
-ghost use Rattle.std.specs.Prelude.{◌+◌, ◌≤◌, length};
+ghost use Rattle.std.specs.Prelude.{◌+◌, ◌≤◌, length, IfSome};
 
 use crate::args::PATH;
 use crate::sentence::{fail, say};
@@ -11,13 +11,6 @@ use std::{fs, io};
 
 // The longest file that is read, in bytes: three times the longest log of a store. Two of them stand on the stack.
 pub const MOST: usize = 196608;
-
-// Whether a file was read, and how many bytes it has.
-#[derive(Clone, Copy)]
-pub struct Content {
-    pub ok: bool,
-    pub length: usize,
-}
 
 // The system's numbers of two errors.
 const EINVAL: i32 = 22;
@@ -34,10 +27,10 @@ fn argument_error(error: FillError) -> Error {
 
 // A path as text, which is what the calls of the library take.
 fn text_of(path: &[u8]) -> io::Result<&str> {
-    match str::from_utf8(path) {
-        Ok(text) => Ok(text),
-        Err(_) => Err(Error::new(ErrorKind::InvalidFilename, "the name is not UTF-8")),
-    }
+    str::from_utf8(path).map_err(|_| Error::new(
+        ErrorKind::InvalidFilename,
+        "the name is not UTF-8",
+    ))
 }
 
 fn open_read<R: Files>(rt: &R, path: &[u8]) -> io::Result<R::File> {
@@ -75,7 +68,7 @@ fn read_full(file: &mut impl Read, space: &mut [u8]) -> usize
     done
 }
 
-// Whether the input ends behind the bytes that were read; a sentence where it does not.
+// Whether the input ends after the bytes that were read; a sentence where it does not.
 fn is_whole(
     file: &mut impl Read,
     err: &impl Print,
@@ -101,44 +94,37 @@ fn is_whole(
     }
 }
 
-// Reads the file of a path into `space`.
-fn read_path(rt: &impl Files, err: &impl Print, path: &[u8], space: &mut [u8]) -> Content
-    ensures { result.length ≤ length space.new }
+// Reads the file of a path into `space`; how many bytes it has, or none where it could not be read whole.
+fn read_path(rt: &impl Files, err: &impl Print, path: &[u8], space: &mut [u8]) -> Option<usize>
+    ensures { IfSome result (λ n. n ≤ length space.new) }
 {
     match open_read(rt, path) {
         Ok(mut file) => {
-            let length = read_full(&mut file, space);
-            let ok = is_whole(&mut file, err, path, length, space.len());
-            Content { ok, length }
+            let n = read_full(&mut file, space);
+            is_whole(&mut file, err, path, n, space.len()).then_some(n)
         }
         Err(e) => {
             fail(err, path, &e);
-            Content {
-                ok: false,
-                length: 0,
-            }
+            None
         }
     }
 }
 
-// Reads the file that argument i names into `space`.
+// Reads the file that argument i names into `space`; how many bytes it has, or none where it could not be read whole.
 pub fn read_file(
     rt: &(impl Env + Files),
     err: &impl Print,
     i: usize,
     space: &mut [u8; MOST],
-) -> Content
-    ensures { result.length ≤ length space.new }
+) -> Option<usize>
+    ensures { IfSome result (λ n. n ≤ length space.new) }
 {
     let mut path = [0u8; PATH];
     match rt.arg(i, &mut path) {
         Ok(n) => read_path(rt, err, &path[..n], space),
         Err(e) => {
             fail(err, b"a file's name", &argument_error(e));
-            Content {
-                ok: false,
-                length: 0,
-            }
+            None
         }
     }
 }
@@ -198,14 +184,7 @@ fn is_free(rt: &impl Files, path: &[u8]) -> bool {
 fn folder_length(path: &[u8]) -> usize
     ensures { result ≤ length path.now }
 {
-    let mut end = path.len();
-    while end > 0 {
-        if path[end - 1] == b'/' {
-            break;
-        }
-        end -= 1;
-    }
-    end
+    path.iter().rposition(|b| *b == b'/').map_or(0, |i| i + 1)
 }
 
 fn sync_names(rt: &impl Files, folder: &[u8]) -> io::Result<()> {
@@ -250,16 +229,12 @@ fn give_name(rt: &impl Files, err: &impl Print, part: &[u8], path: &[u8]) -> boo
     false
 }
 
-// Puts `.part` behind the first n bytes; returns how many bytes there are then.
+// Puts `.part` after the first n bytes; returns how many bytes there are then.
 fn add_part(path: &mut [u8], n: usize) -> usize
     requires { n + 5 ≤ length path.old }
     ensures { result ≤ length path.new }
 {
-    path[n] = b'.';
-    path[n + 1] = b'p';
-    path[n + 2] = b'a';
-    path[n + 3] = b'r';
-    path[n + 4] = b't';
+    path[n..n + 5].copy_from_slice(b".part");
     n + 5
 }
 

@@ -4,7 +4,6 @@ use crate::file::{MOST, read_file};
 use crate::reply::{print_numbers, print_refusal};
 use crate::sentence::refused;
 use alloc_log::tool::read_held;
-use answer::Answer;
 use geometry::Geometry;
 use std::rt::{Env, Files};
 
@@ -19,21 +18,19 @@ fn print_blocks(
 ) {
     let answer = read_held(arenas, per, PAGES, RECORDS, TURN, WORDS, log, out);
     match answer {
-        Answer::Done(count) => print_numbers(rt, err, &out[..count]),
-        Answer::Refused(k) => {
-            print_refusal(rt, err, k);
-            refused(rt, err, k, FILE);
+        Ok(count) => print_numbers(rt, err, &out[..count]),
+        Err(refusal) => {
+            print_refusal(rt, err, refusal);
+            refused(rt, err, refusal, FILE);
         }
     }
 }
 
 pub fn print_held(rt: &(impl Env + Files + Print), err: &impl Print, arenas: usize, per: usize) {
     let mut space = [0u8; MOST];
-    let content = read_file(rt, err, FILE, &mut space);
-    if !content.ok {
+    let Some(n) = read_file(rt, err, FILE, &mut space) else {
         return;
-    }
-    let n = content.length;
+    };
     let mut out = [0u32; Geometry::MOST_OUT];
     print_blocks(rt, err, arenas, per, &space[..n], &mut out);
 }

@@ -14,12 +14,13 @@ use args::Command;
 
 fn main(rt: HostRuntime) {
     let err = rt.stderr();
-    let asked = args::read_args(&rt);
-    let command = asked.command;
-    match command {
+    let Some(asked) = args::read_args(&rt) else {
+        sentence::usage(&err);
+        return;
+    };
+    match asked.command {
         Command::Held => held::print_held(&rt, &err, asked.arenas, asked.per),
         Command::Compress => compress::write_compressed(&rt, &err, asked.arenas, asked.per),
         Command::Compare => compare::print_comparison(&rt, &err, asked.arenas, asked.per),
-        Command::Unclear => sentence::usage(&err),
     }
 }

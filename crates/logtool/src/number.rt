@@ -2,47 +2,30 @@
 ghost use Rattle.std.specs.Prelude.{◌≡◌, ◌≤◌, length};
 ghost use Rattle.logtool.specs.Spelled.{digits_of, number_of};
 
-#[derive(Clone, Copy)]
-pub enum Number {
-    Is(usize),
-    No,
-}
-
 // The number of some digits.
-fn digits(text: &[u8]) -> Number
+fn digits(text: &[u8]) -> Option<usize>
     requires { length text.now ≤ 7 }
     ensures { result ≡ digits_of text.now 0 }
 {
-    let mut value: usize = 0;
-    let mut i: usize = 0;
-    while i < text.len() {
-        if text[i] < 48 {
-            return Number::No;
+    let mut value = 0;
+    for b in text {
+        if !b.is_ascii_digit() {
+            return None;
         }
-        if 57 < text[i] {
-            return Number::No;
-        }
-        value = value * 10 + (text[i] as usize - 48);
-        i += 1;
+        value = value * 10 + usize::from(*b - b'0');
     }
-    Number::Is(value)
+    Some(value)
 }
 
 // The number that a text spells.
-pub fn read_number(text: &[u8]) -> Number
+pub fn read_number(text: &[u8]) -> Option<usize>
     ensures { result ≡ number_of text.now }
 {
-    if text.len() == 0 {
-        return Number::No;
+    if text.is_empty() || 7 < text.len() {
+        return None;
     }
-    if 7 < text.len() {
-        return Number::No;
-    }
-    if text[0] != 48 {
-        return digits(text);
-    }
-    if 1 < text.len() {
-        return Number::No;
+    if text[0] == b'0' && 1 < text.len() {
+        return None;
     }
     digits(text)
 }

@@ -2,6 +2,7 @@
 ghost use Rattle.std.specs.Prelude.{◌≤◌, length};
 
 use crate::args::PATH;
+use answer::Refusal;
 use std::io;
 use std::io::Write;
 use std::rt::Env;
@@ -61,9 +62,9 @@ pub fn fail(err: &impl Print, what: &[u8], error: &io::Error) {
     say(err, what, &text[..k]);
 }
 
-// The reason of a refusal: the geometry (2), or the bytes of the file that argument i names (7).
-pub fn refused(rt: &impl Env, err: &impl Print, number: u8, i: usize) {
-    if number == 2 {
+// The reason of a refusal: the geometry, or the bytes of the file that argument i names.
+pub fn refused(rt: &impl Env, err: &impl Print, refusal: Refusal, i: usize) {
+    if refusal == Refusal::OutsideLimits {
         put(
             err,
             b"logtool: arenas 1 to 16, blocks 1 to 1024, at most 2048 in all\n",

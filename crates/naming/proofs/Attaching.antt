@@ -1,12 +1,14 @@
 -- N: refused it leaves everything; accepted, a row of the name is stored, and its record has one name more.
 use mathlib.Core.Path.{◌≡◌, refl, sym, ap, ap₂, ◌∙◌}
-use mathlib.Core.List.{List}
+use mathlib.Core.List.{List, [], ◌∷◌}
 use Prim.Native.Nat.{ℕ, suc, pred, ◌+◌, ◌-◌, ◌≤◌, ◌<◌}
 use native.Mathlib.Omega.{arith}
 use lib.ListN.{length, get_or}
 use Rattle.answer.specs.Reply.{refused, reply_of}
 use Rattle.answer.specs.Refusal.{NoneHolds}
-use Rattle.answer.specs.declared.Answer.TheVariants.{Done}
+use Rattle.std.specs.Prelude.{Ok, Err}
+use Rattle.answer.specs.declared.Refusal.{Refusal}
+use Rattle.answer.specs.Number.{number_of}
 use Rattle.geometry.specs.declared.Geometry.{Geometry}
 use Rattle.model.specs.Actions.{slot_of}
 use Rattle.model.specs.Names.{Titles, empty_row, named, one_more}
@@ -27,21 +29,19 @@ use Rattle.tables.proofs.Reading.{reads_names}
 use Rattle.tables.proofs.Steps.{Holds, holds_as, holds_first, holds_length, step_names}
 use Rattle.tables.proofs.TitleStores.{step_put}
 use Rattle.naming.specs.Rows.{count_up}
-use Rattle.naming.specs.Verdicts.{attach_verdict}
-use Rattle.naming.specs.declared.verdict.Verdict.{Verdict}
-use Rattle.naming.specs.declared.verdict.Verdict.TheVariants as verdict
+use Rattle.naming.specs.Verdicts.{verdict_of, attach_verdict}
 use Rattle.naming.proofs.Verdicts.{verdict_refuses, verdict_accepts}
 use Rattle.naming.proofs.Replies.{accept_replied}
 
-module _ (g : Geometry) (t l : List ℕ) (r : ℕ) {v : Verdict} (e : v ≡ attach_verdict g t l r) where
-  pub attach_refused : (k : ℕ) → v ≡ verdict.Refused k → replied g t (Attach l r) ≡ refused k
-  unfolding replied attach_verdict
-  attach_refused k d =
+module _ (g : Geometry) (t l : List ℕ) (r : ℕ) where
+  pub attach_refused : (k : Refusal) → verdict_of (Err k) ≡ attach_verdict g t l r → replied g t (Attach l r) ≡ refused (number_of k)
+  unfolding replied verdict_of attach_verdict
+  attach_refused k e =
       let c : Command = Attach l r in
-      verdict_refuses (conditions g (state_of g t) c) (pred (empty_row (titles_of t))) k (result g (state_of g t) c) (sym e ∙ d)
+      verdict_refuses (conditions g (state_of g t) c) (pred (empty_row (titles_of t)) ∷ []) (result g (state_of g t) c) (number_of k) (sym e)
 
   -- accepted: row i is given
-  module _ (R : Ready g t) (i : ℕ) (d : v ≡ verdict.Accept i) where
+  module _ (R : Ready g t) (i : ℕ) (e : verdict_of (Ok i) ≡ attach_verdict g t l r) where
     abbrev T : State
     T = state_of g t
 
@@ -49,8 +49,8 @@ module _ (g : Geometry) (t l : List ℕ) (r : ℕ) {v : Verdict} (e : v ≡ atta
     X = (state_of g t).notes.titles
 
     none : NoneHolds (conditions g T (Attach l r)) × (pred (empty_row (titles_of t)) ≡ i)
-    unfolding attach_verdict
-    none = verdict_accepts (conditions g T (Attach l r)) (pred (empty_row (titles_of t))) i (sym e ∙ d)
+    unfolding verdict_of attach_verdict
+    none = verdict_accepts (conditions g T (Attach l r)) (pred (empty_row (titles_of t))) i (sym e)
 
     told : Attaches T l r
     told = attaches T l r R.sound none.0
@@ -65,7 +65,7 @@ module _ (g : Geometry) (t l : List ℕ) (r : ℕ) {v : Verdict} (e : v ≡ atta
     pub attach_short : length l ≤ 32
     attach_short = told.valid.short
 
-    pub attach_replied : (out : List ℕ) → reply_of (Done 0) out ≡ replied g t (Attach l r)
+    pub attach_replied : (out : List ℕ) → reply_of (Ok 0) out ≡ replied g t (Attach l r)
     unfolding reply_of
     attach_replied out = sym (accept_replied g t (Attach l r) none.0)
 

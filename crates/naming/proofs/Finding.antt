@@ -7,7 +7,9 @@ use lib.ListN.{get_or, set}
 use lib.Seq.{sets, take-suc-set}
 use Rattle.answer.specs.Reply.{accepted, refused, reply_of}
 use Rattle.answer.specs.Refusal.{NoneHolds}
-use Rattle.answer.specs.declared.Answer.TheVariants.{Done}
+use Rattle.std.specs.Prelude.{Ok, Err}
+use Rattle.answer.specs.declared.Refusal.{Refusal}
+use Rattle.answer.specs.Number.{number_of}
 use Rattle.geometry.specs.declared.Geometry.{Geometry}
 use Rattle.model.specs.Table.{via}
 use Rattle.model.specs.Names.{Titles, row_of, unnamed, one_less}
@@ -27,28 +29,26 @@ use Rattle.tables.proofs.Steps.{Holds, holds_first, step_names}
 use Rattle.tables.proofs.TitleRows.{link_at}
 use Rattle.tables.proofs.TitleStores.{step_off}
 use Rattle.naming.specs.Rows.{count_down, taken_off}
-use Rattle.naming.specs.Verdicts.{find_verdict}
-use Rattle.naming.specs.declared.verdict.Verdict.{Verdict}
-use Rattle.naming.specs.declared.verdict.Verdict.TheVariants as verdict
+use Rattle.naming.specs.Verdicts.{verdict_of, find_verdict}
 use Rattle.naming.proofs.Verdicts.{verdict_refuses, verdict_accepts}
 use Rattle.naming.proofs.Replies.{accept_replied}
 
-module _ (g : Geometry) (t l : List ℕ) {v : Verdict} (e : v ≡ find_verdict g t l) where
+module _ (g : Geometry) (t l : List ℕ) where
   -- the two have the same refusals
-  pub resolve_refused : (k : ℕ) → v ≡ verdict.Refused k → replied g t (Resolve l) ≡ refused k
-  unfolding replied find_verdict
-  resolve_refused k d =
+  pub resolve_refused : (k : Refusal) → verdict_of (Err k) ≡ find_verdict g t l → replied g t (Resolve l) ≡ refused (number_of k)
+  unfolding replied verdict_of find_verdict
+  resolve_refused k e =
       let c : Command = Resolve l in
-      verdict_refuses (conditions g (state_of g t) c) (pred (row_of (titles_of t) l)) k (result g (state_of g t) c) (sym e ∙ d)
+      verdict_refuses (conditions g (state_of g t) c) (pred (row_of (titles_of t) l) ∷ []) (result g (state_of g t) c) (number_of k) (sym e)
 
-  pub detach_refused : (k : ℕ) → v ≡ verdict.Refused k → replied g t (Detach l) ≡ refused k
-  unfolding replied find_verdict
-  detach_refused k d =
+  pub detach_refused : (k : Refusal) → verdict_of (Err k) ≡ find_verdict g t l → replied g t (Detach l) ≡ refused (number_of k)
+  unfolding replied verdict_of find_verdict
+  detach_refused k e =
       let c : Command = Detach l in
-      verdict_refuses (conditions g (state_of g t) c) (pred (row_of (titles_of t) l)) k (result g (state_of g t) c) (sym e ∙ d)
+      verdict_refuses (conditions g (state_of g t) c) (pred (row_of (titles_of t) l) ∷ []) (result g (state_of g t) c) (number_of k) (sym e)
 
   -- accepted: the name is in row i
-  module _ (R : Ready g t) (i : ℕ) (d : v ≡ verdict.Accept i) where
+  module _ (R : Ready g t) (i : ℕ) (e : verdict_of (Ok i) ≡ find_verdict g t l) where
     abbrev T : State
     T = state_of g t
 
@@ -56,8 +56,8 @@ module _ (g : Geometry) (t l : List ℕ) {v : Verdict} (e : v ≡ find_verdict g
     X = (state_of g t).notes.titles
 
     none : NoneHolds (conditions g T (Resolve l)) × (pred (row_of (titles_of t) l) ≡ i)
-    unfolding find_verdict
-    none = verdict_accepts (conditions g T (Resolve l)) (pred (row_of (titles_of t) l)) i (sym e ∙ d)
+    unfolding verdict_of find_verdict
+    none = verdict_accepts (conditions g T (Resolve l)) (pred (row_of (titles_of t) l)) i (sym e)
 
     row_is : pred (row_of X l) ≡ i
     unfolding state_of notes_of
@@ -105,7 +105,7 @@ module _ (g : Geometry) (t l : List ℕ) {v : Verdict} (e : v ≡ find_verdict g
     find_counted =
         omega (arith, ap (λ k. get_or t (name_cell k) 0) at_slot, Fields.names_is g t s inside, R.names.counted s live, owned_some X s i find_low owner_is)
 
-    pub detach_replied : (out : List ℕ) → reply_of (Done 0) out ≡ replied g t (Detach l)
+    pub detach_replied : (out : List ℕ) → reply_of (Ok 0) out ≡ replied g t (Detach l)
     unfolding reply_of
     detach_replied out = sym (accept_replied g t (Detach l) none.0)
 
@@ -145,7 +145,7 @@ module _ (g : Geometry) (t l : List ℕ) {v : Verdict} (e : v ≡ find_verdict g
           ap (λ (m : ℕ). m ∷ []) (ap (via (view_of g t).num) carrier_is ∙ sym ek)
 
       module _ (out : List ℕ) (long : OutLong g out) where
-        pub resolve_replied : reply_of (Done 1) (set out 0 k) ≡ replied g t (Resolve l)
+        pub resolve_replied : reply_of (Ok 1) (set out 0 k) ≡ replied g t (Resolve l)
         unfolding reply_of
         resolve_replied =
             ap accepted (take-suc-set out 0 k (omega arith) ∙ sym number_is) ∙ sym (accept_replied g t (Resolve l) none.0)

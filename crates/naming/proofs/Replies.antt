@@ -4,7 +4,9 @@ use mathlib.Core.List.{List}
 use Prim.Native.Nat.{ℕ}
 use Rattle.answer.specs.Reply.{accepted, refused, reply_of}
 use Rattle.answer.specs.Refusal.{NoneHolds}
-use Rattle.answer.specs.declared.Answer.TheVariants.{Refused}
+use Rattle.std.specs.Prelude.{Err}
+use Rattle.answer.specs.declared.Refusal.{Refusal}
+use Rattle.answer.specs.Number.{number_of}
 use Rattle.answer.proofs.Decided.{decide_accepts}
 use Rattle.geometry.specs.declared.Geometry.{Geometry}
 use Rattle.model.specs.Calls.{conditions, result}
@@ -13,11 +15,11 @@ use Rattle.model.specs.Layout.{state_of}
 use Rattle.tables.specs.Outcome.{replied, tables_left, out_left}
 
 module _ (g : Geometry) (t : List ℕ) (c : Command) where
-  module _ {k : ℕ} (e : replied g t c ≡ refused k) where
-    pub refuse_reply : (out : List ℕ) → reply_of (Refused k) out ≡ replied g t c
-    unfolding reply_of
-    refuse_reply out = sym e
+  pub refuse_reply : (r : Refusal) → replied g t c ≡ refused (number_of r) → (out : List ℕ) → reply_of (Err r) out ≡ replied g t c
+  unfolding reply_of
+  refuse_reply r e out = sym e
 
+  module _ {n : ℕ} (e : replied g t c ≡ refused n) where
     pub refuse_tables : t ≡ tables_left g t c
     unfolding tables_left
     refuse_tables = rw e

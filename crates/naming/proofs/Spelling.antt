@@ -1,74 +1,50 @@
--- The letters of a name: a loop that tests them, one that compares them with numbers of the tables, and one that stores them.
-use mathlib.Core.Path.{◌≡◌, sym, ap, ◌∙◌}
-use mathlib.Core.Bool.{Bool, true, false, not, ◌&&◌}
+-- The letters of a name: they are tested, compared with numbers of the tables, and stored.
+use mathlib.Core.Path.{◌≡◌, refl, sym, ap, ◌∙◌}
+use mathlib.Core.Bool.{Bool, false, not, ◌&&◌}
 use mathlib.Core.List.{List, [], ◌∷◌}
 use Prim.Native.Nat.{ℕ, zero, suc, ◌+◌, ◌≤◌, ◌<◌}
 use native.Mathlib.Omega.{arith}
 use native.Mathlib.Numerals.{add-one}
 use lib.Dec.{eqb, leb}
-use lib.ListN.{length, get_or, set, take, drop, drop_of_length-le}
-use lib.Seq.{sets, take_all, drop-cons}
-use borrow.Author.Tests.{not-true, not-false, lt-ltb, le-ltb, le-leb, lt-leb}
-use Rattle.answer.proofs.Cases.{cases, either, same?}
+use lib.ListN.{length, get_or, set, take}
+use lib.Seq.{sets, take_all}
+use borrow.Author.Tests.{not-false, lt-ltb, le-ltb, le-leb, lt-leb}
+use Rattle.std.specs.Bool.{Decides}
+use Rattle.std.specs.Char.{is_ascii_lowercase}
+use Rattle.std.specs.List.{list_all, between}
+use Rattle.std.proofs.lemmas.Bool.{cases_lt}
+use Rattle.std.proofs.lemmas.Bool.Decides.{same_from_decides}
+use Rattle.std.proofs.lemmas.List.{ext_get_or}
+use Rattle.std.proofs.lemmas.List.Edits.{length-between, get_or-between}
+use Rattle.answer.proofs.Cases.{cases, either}
 use Rattle.model.specs.Names.{letters, valid_name, same_letters}
 use Rattle.model.proofs.NameBytes.{valid_iff}
 use Rattle.model.proofs.Reflect.{Says, says_eq, says_all, ◌&◌}
 
--- ── whether all are letters: those from i on are just where all are ──
-
-abbrev pub letter? : ℕ → Bool
-letter? b = leb 97 b && leb b 122
-
-abbrev pub Lettered : List ℕ → ℕ → Type 0
-Lettered l i = letters (drop i l) ≡ letters l
-
-letters_at : (l : List ℕ) (i : ℕ) → i < length l → letters (drop i l) ≡ (letter? (get_or l i 0) && letters (drop (i + 1) l))
-unfolding letters
-letters_at l i h = rw (drop-cons l i 0 h, add-one i)
-
-module _ (l : List ℕ) (i : ℕ) (L : Lettered l i) where
-  pub letters_end : length l ≤ i → true ≡ letters l
-  unfolding letters
-  letters_end h = rw (drop_of_length-le l h) at L
-
-  -- r is what `is_letter` says of byte i
-  module _ {r : Bool} (e : r ≡ letter? (get_or l i 0)) (h : i < length l) where
-    pub letters_stop : not r ≡ true → false ≡ letters l
-    letters_stop n = rw (letters_at l i h, sym e ∙ not-true r n) at L
-
-    pub letters_go : not r ≡ false → Lettered l (i + 1)
-    letters_go n = rw (letters_at l i h, sym e ∙ not-false r n) at L
-
 -- ── a name ──
 
+letters_all : (l : List ℕ) → list_all is_ascii_lowercase l ≡ letters l
+unfolding letters
+letters_all [] = refl
+letters_all (b ∷ l) = ap (λ r. (leb 97 b && leb b 122) && r) (letters_all l)
+
 module _ (l : List ℕ) where
-  pub valid_none : length l ≡ 0 → false ≡ valid_name l
+  pub valid_not : (1 ≤ length l → length l ≤ 32 → ⊥) → false ≡ valid_name l
   unfolding valid_name
-  valid_none h = rw (le-ltb 0 (length l) (omega arith))
+  valid_not n =
+      cases (cases_lt 0 (length l))
+      (λ j. cases (cases_lt 32 (length l)) (λ h. rw (lt-ltb 0 (length l) j, lt-leb (length l) 32 h)) (λ h. absurd (n j h)))
+      (λ j. rw (le-ltb 0 (length l) j))
 
-  pub valid_long : (length l ≡ 0 → ⊥) → 32 < length l → false ≡ valid_name l
+  pub valid_is : {r : Bool} → 1 ≤ length l → length l ≤ 32 → r ≡ list_all is_ascii_lowercase l → r ≡ valid_name l
   unfolding valid_name
-  valid_long n h = rw (lt-ltb 0 (length l) (omega arith), lt-leb (length l) 32 h)
-
-  pub valid_is : {r : Bool} → (length l ≡ 0 → ⊥) → length l ≤ 32 → r ≡ letters l → r ≡ valid_name l
-  unfolding valid_name
-  valid_is n h e = rw (lt-ltb 0 (length l) (omega arith), le-leb (length l) 32 h) e
+  valid_is n h e = rw (lt-ltb 0 (length l) n, le-leb (length l) 32 h) (e ∙ letters_all l)
 
   -- r is what `is_valid` says
   pub valid_short : {r : Bool} → r ≡ valid_name l → not r ≡ false → length l ≤ 32
   valid_short {r} e n = ((valid_iff l).0 (sym e ∙ not-false r n)).short
 
 -- ── numbers against bytes ──
-
--- the first i are the same
-pub record Same (t : List ℕ) (at : ℕ) (l : List ℕ) (i : ℕ) : Type 0 where
-  pub each : (k : ℕ) → k < i → get_or t (at + k) 0 ≡ get_or l k 0
-
-pub same_start : (t : List ℕ) (at : ℕ) (l : List ℕ) → Same t at l 0
-same_start t at l = record { each = λ k h. absurd (let z : ⊥ = omega arith in z) }
-
-pub same_next : (t : List ℕ) (at : ℕ) (l : List ℕ) (i : ℕ) {b : ℕ} → Same t at l i → b ≡ get_or l i 0 → get_or t (at + i) 0 ≡ b → Same t at l (i + 1)
-same_next t at l i S e d = record { each = λ k h. cases (same? k i) (λ j. rw j (d ∙ e)) (λ n. S.each k (omega arith)) }
 
 module _ (t : List ℕ) (at n : ℕ) (l : List ℕ) where
   says_same : Says (same_letters t at n l) ((n ≡ length l) × ((k : ℕ) → k < n → get_or t (at + k) 0 ≡ get_or l k 0))
@@ -80,11 +56,17 @@ module _ (t : List ℕ) (at n : ℕ) (l : List ℕ) where
   pub length_differs : (n ≡ length l → ⊥) → false ≡ same_letters t at n l
   length_differs d = cases (either (same_letters t at n l)) (λ y. absurd (d (says_same.holds y).0)) (λ y. sym y)
 
-  pub letter_differs : (i : ℕ) {b : ℕ} → i < n → b ≡ get_or l i 0 → (get_or t (at + i) 0 ≡ b → ⊥) → false ≡ same_letters t at n l
-  letter_differs i h e d = cases (either (same_letters t at n l)) (λ y. absurd (d ((says_same.holds y).1 i h ∙ sym e))) (λ y. sym y)
-
-  pub letters_agree : (i : ℕ) → n ≡ length l → n ≤ i → Same t at l i → true ≡ same_letters t at n l
-  letters_agree i e h S = sym (says_same.passes (e, λ k j. S.each k (omega arith)))
+  -- r is what the comparison of the n numbers with the bytes says
+  pub letters_agree : (r : Bool) → n ≡ length l → at + n ≤ length t → Decides r (between at (at + n) t ≡ l) → r ≡ same_letters t at n l
+  letters_agree r e h d =
+      let long = length-between t at (at + n) h in
+      let each : (k : ℕ) → k < n → get_or (between at (at + n) t) k 0 ≡ get_or t (at + k) 0 = λ k j. get_or-between t at (at + n) k 0 (omega arith) in
+      same_from_decides r (same_letters t at n l) d (
+        (λ y.
+            ext_get_or 0 _ _ (long ∙ omega arith)
+            (λ k j. each k (omega (arith, long)) ∙ (says_same.holds y).1 k (omega (arith, long)))),
+        (λ y. says_same.passes (e, λ k j. sym (each k j) ∙ ap (λ m. get_or m k 0) y)),
+      )
 
 -- ── bytes stored: the first i are ──
 

@@ -7,9 +7,12 @@ use native.Mathlib.Omega.{arith}
 use lib.Dec.{eqb, ltb}
 use lib.ListN.{get_or}
 use borrow.Author.Tests.{not-true, not-false, eq-eqb, ne_eqb, lt-ltb, le-ltb}
-use Rattle.answer.specs.Reply.{refused}
+use Rattle.std.specs.Prelude.{Ok, Err}
+use Rattle.answer.specs.declared.Refusal.TheVariants.{NoSuchRecord, BadName, NameUnfit}
+use Rattle.answer.specs.Reply.{accepted, refused}
 use Rattle.answer.specs.Refusal.{Condition, decide, NoneHolds}
 use Rattle.answer.proofs.Cases.{cases, either}
+use Rattle.answer.proofs.Decided.{accepted_not, decide_accepted}
 use Rattle.geometry.specs.declared.Geometry.{Geometry}
 use Rattle.model.specs.Actions.{slot_of}
 use Rattle.model.specs.Names.{valid_name, row_of, empty_row}
@@ -18,7 +21,6 @@ use Rattle.tables.specs.Titles.{row_with}
 use Rattle.tables.proofs.Fields
 use Rattle.tables.proofs.TitleRows.{row_with_zero}
 use Rattle.naming.specs.Verdicts.{verdict_of, attach_verdict, find_verdict}
-use Rattle.naming.specs.declared.verdict.Verdict.TheVariants.{Refused, Accept}
 
 -- ── a second name on an open record, in slot s ──
 
@@ -33,7 +35,7 @@ module _ (g : Geometry) (t : List ℕ) (s : ℕ) (h : s < g.records) where
 -- ── N: v says that the name is valid ──
 
 module _ (g : Geometry) (t l : List ℕ) (r : ℕ) {v : Bool} (ev : v ≡ valid_name l) where
-  pub attach_bad : not v ≡ true → Refused 16 ≡ attach_verdict g t l r
+  pub attach_bad : not v ≡ true → verdict_of (Err BadName) ≡ attach_verdict g t l r
   unfolding attach_verdict verdict_of
   attach_bad n = rw (sym ev ∙ not-true v n)
 
@@ -42,7 +44,7 @@ module _ (g : Geometry) (t l : List ℕ) (r : ℕ) {v : Bool} (ev : v ≡ valid_
     good : valid_name l ≡ true
     good = sym ev ∙ not-false v y
 
-    pub attach_absent : link ≡ 0 → Refused 8 ≡ attach_verdict g t l r
+    pub attach_absent : link ≡ 0 → verdict_of (Err NoSuchRecord) ≡ attach_verdict g t l r
     unfolding attach_verdict verdict_of state_of
     attach_absent z = rw (good, eq-eqb (slot_of (view_of g t) r) 0 (sym el ∙ z))
 
@@ -54,7 +56,7 @@ module _ (g : Geometry) (t l : List ℕ) (r : ℕ) {v : Bool} (ev : v ≡ valid_
       slot_is : link - 1 ≡ pred (slot_of (view_of g t) r)
       slot_is = omega (arith, el)
 
-      pub attach_used : 0 < row → Refused 17 ≡ attach_verdict g t l r
+      pub attach_used : 0 < row → verdict_of (Err NameUnfit) ≡ attach_verdict g t l r
       unfolding attach_verdict verdict_of state_of notes_of
       attach_used h = rw (good, present, lt-ltb 0 (row_of (titles_of t) l) (omega (arith, er)))
 
@@ -66,7 +68,7 @@ module _ (g : Geometry) (t l : List ℕ) (r : ℕ) {v : Bool} (ev : v ≡ valid_
         is_w_lem : (ltb 0 ((view_of g t).is_open (pred (slot_of (view_of g t) r))) && ltb 0 ((state_of g t).notes.names (pred (slot_of (view_of g t) r)))) ≡ w
         is_w_lem = ap (λ s. ltb 0 ((view_of g t).is_open s) && ltb 0 ((state_of g t).notes.names s)) (sym slot_is) ∙ sym ew
 
-        pub attach_second : w ≡ true → Refused 17 ≡ attach_verdict g t l r
+        pub attach_second : w ≡ true → verdict_of (Err NameUnfit) ≡ attach_verdict g t l r
         unfolding attach_verdict verdict_of state_of notes_of
         attach_second y = rw (good, present, free, is_w_lem ∙ y)
 
@@ -75,56 +77,45 @@ module _ (g : Geometry) (t l : List ℕ) (r : ℕ) {v : Bool} (ev : v ≡ valid_
           row_is : empty_row (titles_of t) ≡ empty
           row_is = sym (row_with_zero (titles_of t)) ∙ sym ee
 
-          pub attach_full : empty ≡ 0 → Refused 17 ≡ attach_verdict g t l r
+          pub attach_full : empty ≡ 0 → verdict_of (Err NameUnfit) ≡ attach_verdict g t l r
           unfolding attach_verdict verdict_of state_of notes_of
           attach_full z = rw (good, present, free, is_w_lem ∙ first, eq-eqb (empty_row (titles_of t)) 0 (row_is ∙ z))
 
-          pub attach_row : (empty ≡ 0 → ⊥) → Accept (empty - 1) ≡ attach_verdict g t l r
+          pub attach_row : (empty ≡ 0 → ⊥) → verdict_of (Ok (empty - 1)) ≡ attach_verdict g t l r
           unfolding attach_verdict verdict_of state_of notes_of
           attach_row n =
               rw (good, present, free, is_w_lem ∙ first, ne_eqb (empty_row (titles_of t)) 0 (λ e. n (sym row_is ∙ e)))
-              (ap Accept (omega (arith, row_is)))
+              (ap (λ i. accepted (i ∷ [])) (omega (arith, row_is)))
 
 -- ── U and M ──
 
 module _ (g : Geometry) (t l : List ℕ) {v : Bool} (ev : v ≡ valid_name l) where
-  pub find_bad : not v ≡ true → Refused 16 ≡ find_verdict g t l
+  pub find_bad : not v ≡ true → verdict_of (Err BadName) ≡ find_verdict g t l
   unfolding find_verdict verdict_of
   find_bad n = rw (sym ev ∙ not-true v n)
 
   module _ (y : not v ≡ false) (row : ℕ) (er : row ≡ row_of (titles_of t) l) where
-    pub find_none : row ≡ 0 → Refused 17 ≡ find_verdict g t l
+    pub find_none : row ≡ 0 → verdict_of (Err NameUnfit) ≡ find_verdict g t l
     unfolding find_verdict verdict_of state_of notes_of
     find_none z = rw (sym ev ∙ not-false v y, eq-eqb (row_of (titles_of t) l) 0 (sym er ∙ z))
 
-    pub find_row : (row ≡ 0 → ⊥) → Accept (row - 1) ≡ find_verdict g t l
+    pub find_row : (row ≡ 0 → ⊥) → verdict_of (Ok (row - 1)) ≡ find_verdict g t l
     unfolding find_verdict verdict_of state_of notes_of
     find_row n =
-        rw (sym ev ∙ not-false v y, ne_eqb (row_of (titles_of t) l) 0 (λ e. n (er ∙ e))) (ap Accept (omega (arith, er)))
+        rw (sym ev ∙ not-false v y, ne_eqb (row_of (titles_of t) l) 0 (λ e. n (er ∙ e))) (ap (λ i. accepted (i ∷ [])) (omega (arith, er)))
 
 -- ── what a verdict says ──
 
-same_refusal : {j k : ℕ} → Refused j ≡ Refused k → j ≡ k
-same_refusal e = cc
+-- a refusal is the same, whatever an accepted call gives
+pub verdict_refuses : (cs : List Condition) (l m : List ℕ) (k : ℕ) → decide cs l ≡ refused k → decide cs m ≡ refused k
+verdict_refuses [] l m k e = absurd (accepted_not e)
+verdict_refuses (c ∷ cs) l m k e =
+    cases (either c.1)
+    (λ y. rw y (rw y at e))
+    (λ n. rw n (verdict_refuses cs l m k (rw n at e)))
 
-same_row : {i j : ℕ} → Accept i ≡ Accept j → i ≡ j
+same_row : {i j : ℕ} → ◌≡◌ {A = List ℕ} (i ∷ []) (j ∷ []) → i ≡ j
 same_row e = cc
 
-neither : {i k : ℕ} → Accept i ≡ Refused k → ⊥
-neither e = let z : ◌≡◌ {A = ℕ} 0 1 = cc in omega arith
-
-pub verdict_refuses : (cs : List Condition) (i k : ℕ) (given : List ℕ) → verdict_of cs i ≡ Refused k → decide cs given ≡ refused k
-unfolding verdict_of
-verdict_refuses [] i k given e = absurd (neither e)
-verdict_refuses (c ∷ cs) i k given e =
-    cases (either c.1)
-    (λ y. rw y (ap refused (same_refusal (rw y at e))))
-    (λ n. rw n (verdict_refuses cs i k given (rw n at e)))
-
-pub verdict_accepts : (cs : List Condition) (i j : ℕ) → verdict_of cs i ≡ Accept j → NoneHolds cs × (i ≡ j)
-unfolding verdict_of
-verdict_accepts [] i j e = (tt, same_row e)
-verdict_accepts (c ∷ cs) i j e =
-    cases (either c.1)
-    (λ y. absurd (neither (sym (rw y at e))))
-    (λ n. let w = verdict_accepts cs i j (rw n at e) in ((n, w.0), w.1))
+pub verdict_accepts : (cs : List Condition) (i j : ℕ) → decide cs (i ∷ []) ≡ accepted (j ∷ []) → NoneHolds cs × (i ≡ j)
+verdict_accepts cs i j e = let w = decide_accepted cs (i ∷ []) (j ∷ []) e in (w.0, same_row w.1)

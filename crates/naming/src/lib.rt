@@ -12,7 +12,7 @@ ghost use Rattle.tables.specs.Ready.{Ready, OutLong, LinkOf};
 ghost use Rattle.tables.specs.Outcome.{replied, tables_left, out_left};
 
 use crate::rows::{count_up, put_title, take_off};
-use crate::verdict::{Verdict, attaching, finding};
+use crate::verdict::{attaching, finding};
 use answer::Answer;
 use geometry::Geometry;
 use tables::cells::{TITLE, TITLES};
@@ -25,15 +25,10 @@ pub fn attach(g: Geometry, t: &mut [u32], name: &[u8], number: u32, link: usize)
     ensures reply { (out : List ℕ) → reply_of result out ≡ replied g t.old (Attach name.now number) }
     ensures tables { t.new ≡ tables_left g t.old (Attach name.now number) }
 {
-    let verdict = attaching(t, g, name, number, link);
-    match verdict {
-        Verdict::Refused(k) => Answer::Refused(k),
-        Verdict::Accept(i) => {
-            put_title(t, i, link, name);
-            count_up(t, link - 1);
-            Answer::Done(0)
-        }
-    }
+    let i = attaching(t, g, name, number, link)?;
+    put_title(t, i, link, name);
+    count_up(t, link - 1);
+    Ok(0)
 }
 
 // U: the name is taken off its record. It gives no numbers either.
@@ -42,14 +37,9 @@ pub fn detach(g: Geometry, t: &mut [u32], name: &[u8]) -> Answer
     ensures reply { (out : List ℕ) → reply_of result out ≡ replied g t.old (Detach name.now) }
     ensures tables { t.new ≡ tables_left g t.old (Detach name.now) }
 {
-    let verdict = finding(t, g, name);
-    match verdict {
-        Verdict::Refused(k) => Answer::Refused(k),
-        Verdict::Accept(i) => {
-            take_off(t, i);
-            Answer::Done(0)
-        }
-    }
+    let i = finding(t, g, name)?;
+    take_off(t, i);
+    Ok(0)
 }
 
 // M: the number of the record that the name is on.
@@ -58,12 +48,7 @@ pub fn resolve(g: Geometry, t: &[u32], out: &mut [u32], name: &[u8]) -> Answer
     ensures reply { reply_of result out.new ≡ replied g t.now (Resolve name.now) }
     ensures out { out.new ≡ out_left g t.now out.old (Resolve name.now) }
 {
-    let verdict = finding(t, g, name);
-    match verdict {
-        Verdict::Refused(k) => Answer::Refused(k),
-        Verdict::Accept(i) => {
-            out[0] = number_behind(t, g, wide(t[TITLES + TITLE * i]));
-            Answer::Done(1)
-        }
-    }
+    let i = finding(t, g, name)?;
+    out[0] = number_behind(t, g, wide(t[TITLES + TITLE * i]));
+    Ok(1)
 }

@@ -14,15 +14,13 @@ fn row_has(t: &[u32], i: usize, name: &[u8]) -> bool
     requires { (2048 ≤ length t.now) × (i < 32) × (length name.now ≤ 32) }
     ensures { result ≡ carries (titles_of t.now) name.now i }
 {
-    if t[TITLES + TITLE * i] == 0 {
-        return false;
-    }
-    same_letters(
-        t,
-        TITLES + LETTERS + TITLE * i,
-        wide(t[TITLES + TITLE * i + 1]),
-        name,
-    )
+    t[TITLES + TITLE * i] != 0
+        && same_letters(
+            t,
+            TITLES + LETTERS + TITLE * i,
+            wide(t[TITLES + TITLE * i + 1]),
+            name,
+        )
 }
 
 // The row of a name, as a link, 0 for none.
@@ -31,12 +29,10 @@ pub fn row_of(t: &[u32], name: &[u8]) -> usize
     ensures is { result ≡ row_of (titles_of t.now) name.now }
     ensures range { result ≤ 32 }
 {
-    let mut i: usize = 0;
-    while i < 32 {
+    for i in 0..32 {
         if row_has(t, i, name) {
             return i + 1;
         }
-        i += 1;
     }
     0
 }
@@ -56,7 +52,7 @@ pub fn count_up(t: &mut [u32], s: usize)
     requires { (2048 ≤ length t.old) × (s < 64) × (get_or t.old (name_cell s) 0 ≤ 32) }
     ensures { t.new ≡ count_up t.old s }
 {
-    t[NAMES + s] = t[NAMES + s] + 1;
+    t[NAMES + s] += 1;
 }
 
 // The record in slot s has one name less.
@@ -64,7 +60,7 @@ fn count_down(t: &mut [u32], s: usize)
     requires { (2048 ≤ length t.old) × (s < 64) × (0 < get_or t.old (name_cell s) 0) }
     ensures { t.new ≡ count_down t.old s }
 {
-    t[NAMES + s] = t[NAMES + s] - 1;
+    t[NAMES + s] -= 1;
 }
 
 // The name of row i, which is in use, is taken off its record: of the row its link alone is stored.

@@ -2,68 +2,65 @@
 ghost use Rattle.std.specs.Prelude.{◌≡◌, ◌&&◌, ◌<◌, ltb};
 ghost use Rattle.model.specs.Layout.{view_of, state_of};
 ghost use Rattle.tables.specs.Ready.{Roomy, Ready, LinkOf};
-ghost use Rattle.naming.specs.Verdicts.{attach_verdict, find_verdict};
+ghost use Rattle.naming.specs.Verdicts.{verdict_of, attach_verdict, find_verdict};
 
 use crate::letters::is_valid;
 use crate::rows::row_of;
+use answer::Refusal;
 use geometry::Geometry;
 use tables::cells::{NAMES, OPEN};
 use tables::titles::row_with;
-
-// What such a call meets: a refusal, or the row that it works on.
-#[derive(Clone, Copy)]
-pub enum Verdict {
-    Refused(u8),
-    Accept(usize),
-}
 
 // Whether a name on the record in slot s would be a second one on an open record.
 fn is_second(t: &[u32], g: Geometry, s: usize) -> bool
     requires { Roomy g t.now × (s < g.records) }
     ensures { result ≡ (ltb 0 ((view_of g t.now).is_open s) && ltb 0 ((state_of g t.now).notes.names s)) }
 {
-    if t[OPEN + s] == 0 {
-        return false;
-    }
-    0 < t[NAMES + s]
+    t[OPEN + s] != 0 && 0 < t[NAMES + s]
 }
 
 // The verdict on N of a name and the record of that number, with its link: 16, 8, then 17 for a name in use, a second one on an open record, or no empty
 // row. It is given the first empty row.
-pub fn attaching(t: &[u32], g: Geometry, name: &[u8], number: u32, link: usize) -> Verdict
+pub fn attaching(
+    t: &[u32],
+    g: Geometry,
+    name: &[u8],
+    number: u32,
+    link: usize,
+) -> Result<usize, Refusal>
     requires { Ready g t.now × LinkOf g t.now number link }
-    ensures { result ≡ attach_verdict g t.now name.now number }
+    ensures { verdict_of result ≡ attach_verdict g t.now name.now number }
 {
     if !is_valid(name) {
-        return Verdict::Refused(16);
+        return Err(Refusal::BadName);
     }
     if link == 0 {
-        return Verdict::Refused(8);
+        return Err(Refusal::NoSuchRecord);
     }
     if 0 < row_of(t, name) {
-        return Verdict::Refused(17);
+        return Err(Refusal::NameUnfit);
     }
     if is_second(t, g, link - 1) {
-        return Verdict::Refused(17);
+        return Err(Refusal::NameUnfit);
     }
     let empty = row_with(t, 0);
     if empty == 0 {
-        return Verdict::Refused(17);
+        return Err(Refusal::NameUnfit);
     }
-    Verdict::Accept(empty - 1)
+    Ok(empty - 1)
 }
 
 // The verdict on U or M of a name: 16, then 17 for one that is unknown. It is given the row of the name.
-pub fn finding(t: &[u32], g: Geometry, name: &[u8]) -> Verdict
+pub fn finding(t: &[u32], g: Geometry, name: &[u8]) -> Result<usize, Refusal>
     requires { Ready g t.now }
-    ensures { result ≡ find_verdict g t.now name.now }
+    ensures { verdict_of result ≡ find_verdict g t.now name.now }
 {
     if !is_valid(name) {
-        return Verdict::Refused(16);
+        return Err(Refusal::BadName);
     }
     let row = row_of(t, name);
     if row == 0 {
-        return Verdict::Refused(17);
+        return Err(Refusal::NameUnfit);
     }
-    Verdict::Accept(row - 1)
+    Ok(row - 1)
 }

@@ -7,7 +7,9 @@ use lib.ListN.{length, take, drop}
 use lib.Seq.{sets, sets-eq, take_at}
 use Rattle.answer.specs.Reply.{accepted, refused, reply_of}
 use Rattle.answer.specs.Refusal.{leaves, NoneHolds}
-use Rattle.answer.specs.declared.Answer.TheVariants.{Done, Refused}
+use Rattle.std.specs.Prelude.{Ok, Err}
+use Rattle.answer.specs.Number.{number_of}
+use Rattle.answer.specs.declared.Refusal.{Refusal}
 use Rattle.answer.proofs.Decided.{decide_accepts}
 use Rattle.geometry.specs.declared.Geometry.{Geometry}
 use Rattle.alloc_log.specs.Word.{write_at, bytes_of}
@@ -25,8 +27,8 @@ take_sets l out n e h =
 module _ (g : Geometry) (t : List ℕ) (c : Command) where
   -- ── a refusal ──
 
-  module _ (k : ℕ) (e : replied g t c ≡ refused k) where
-    pub refused_out : (out : List ℕ) → (reply_of (Refused k) out ≡ replied g t c) × (out ≡ out_left g t out c)
+  module _ (k : Refusal) (e : replied g t c ≡ refused (number_of k)) where
+    pub refused_out : (out : List ℕ) → (reply_of (Err k) out ≡ replied g t c) × (out ≡ out_left g t out c)
     unfolding reply_of out_left
     refused_out out = (sym e, sym (ap (λ r. leaves r out (sets out 0 (result g (state_of g t) c))) e))
 
@@ -46,7 +48,7 @@ module _ (g : Geometry) (t : List ℕ) (c : Command) where
     accepts = decide_accepts (conditions g (state_of g t) c) (result g (state_of g t) c) none
 
     pub done_out : (n : ℕ) (out w : List ℕ) → n ≡ length (result g (state_of g t) c) → n ≤ length out → w ≡ sets out 0 (result g (state_of g t) c) →
-        (reply_of (Done n) w ≡ replied g t c) × (w ≡ out_left g t out c)
+        (reply_of (Ok n) w ≡ replied g t c) × (w ≡ out_left g t out c)
     unfolding reply_of out_left
     done_out n out w e h d = (
       ap accepted (ap (take n) d ∙ take_sets (result g (state_of g t) c) out n (sym e) h) ∙ sym accepts,

@@ -1,5 +1,5 @@
 -- E: its verdict, and what its action leaves.
-use mathlib.Core.Path.{◌≡◌, refl, sym, ap, ◌∙◌, subst}
+use mathlib.Core.Path.{◌≡◌, refl, sym, ap, ◌∙◌}
 use mathlib.Core.List.{List, [], ◌∷◌, map}
 use Prim.Native.Nat.{ℕ, zero, suc, ◌+◌, ◌-◌, ◌*◌, ◌≤◌, ◌<◌}
 use native.Mathlib.Omega.{arith}
@@ -8,7 +8,7 @@ use lib.Seq.{sets}
 use borrow.Author.Tests.{le-leb, lt-leb, lt-ltb, le-ltb, ltb-false}
 use Rattle.answer.specs.Reply.{refused, reply_of}
 use Rattle.answer.specs.Refusal.{NoneHolds}
-use Rattle.answer.specs.declared.Answer.TheVariants.{Done}
+use Rattle.std.specs.Prelude.{Option, None, Ok}
 use Rattle.geometry.specs.declared.Geometry.{Geometry}
 use Rattle.alloc_log.specs.Word.{write_at, bytes_of, released}
 use Rattle.alloc_log.proofs.Writing.{write_none}
@@ -30,12 +30,8 @@ use Rattle.tables.specs.Outcome.{replied, tables_left, log_left, out_left}
 use Rattle.tables.proofs.Ranges
 use Rattle.tables.proofs.Steps.{step_used}
 use Rattle.paging.specs.Target.{Target, frees_of}
-use Rattle.paging.specs.Kill.{killed_of, emptied}
-use Rattle.paging.specs.EraseVerdict.{Judged}
-use Rattle.paging.specs.declared.erase.Verdict.{Verdict}
-use Rattle.paging.specs.declared.erase.Verdict.TheVariants.{Refused, Accept}
-use Rattle.paging.specs.declared.kill.Killed.{Killed}
-use Rattle.paging.specs.declared.kill.Killed.TheVariants.{Freed, Kept}
+use Rattle.paging.specs.Kill.{freed_at, killed_of, emptied}
+use Rattle.paging.specs.declared.kill.Freed.{Freed}
 use Rattle.paging.proofs.Answers
 use Rattle.paging.proofs.Looking
 use Rattle.paging.proofs.Killing
@@ -103,30 +99,35 @@ one_enough K s l u m h = omega (arith, erased_one K s l)
 pub two_enough : (K : View) (s l m : ℕ) → 1 < m → 1 + length (erased K s l) ≤ m
 two_enough K s l m h = omega (arith, erased_one K s l)
 
+same_freed : {b v c w : ℕ} → freed_at b v ≡ freed_at c w → (b ≡ c) × (v ≡ w)
+same_freed {b} {v} {c} {w} e =
+    let i : ◌≡◌ {A = Freed} (record { block = b; birth = v }) (record { block = c; birth = w }) = cc in
+    (ap (λ (x : Freed). x.block) i, ap (λ (x : Freed). x.birth) i)
+
 -- a kill that answers with block b freed it: it was on the page
-fate_told : (h : ℕ → ℕ) (c : ℕ) (f : Fate) (b v : ℕ) → killed_of h (freed_one c f) ≡ Freed b v → (c ≡ b) × (freed_one c f ≡ b ∷ []) × (v ≡ h b)
+fate_told : (h : ℕ → ℕ) (c : ℕ) (f : Fate) (b v : ℕ) → killed_of h (freed_one c f) ≡ freed_at b v → (c ≡ b) × (freed_one c f ≡ b ∷ []) × (v ≡ h b)
 unfolding freed_one killed_of
-fate_told h c freed b v e = let d : c ≡ b = cc in (d, ap (λ k. k ∷ []) d, cc)
+fate_told h c freed b v e = let d = same_freed e in (d.0, ap (λ k. k ∷ []) d.0, sym d.1 ∙ ap h d.0)
 fate_told h c marked b v e = absurd (let z : ◌≡◌ {A = ℕ} 0 1 = cc in omega arith)
 fate_told h c kept b v e = absurd (let z : ◌≡◌ {A = ℕ} 0 1 = cc in omega arith)
 
-freed_told : (h : ℕ → ℕ) (K : View) (s l b v : ℕ) → killed_of h (erased K s l) ≡ Freed b v →
+freed_told : (h : ℕ → ℕ) (K : View) (s l b v : ℕ) → killed_of h (erased K s l) ≡ freed_at b v →
     (l ≡ suc b) × (erased K s l ≡ b ∷ []) × (v ≡ h b)
 unfolding erased killed_of
 freed_told h K s zero b v e = absurd (let z : ◌≡◌ {A = ℕ} 0 1 = cc in omega arith)
 freed_told h K s (suc c) b v e = let q = fate_told h c (fate (K.birth c) (pred_num K s) (base_num K s)) b v e in (ap suc q.0, q.1, q.2)
 
 -- one that answers with none freed none
-kept_told : (h : ℕ → ℕ) (l : List ℕ) → killed_of h l ≡ Kept → l ≡ []
+kept_told : (h : ℕ → ℕ) (l : List ℕ) → killed_of h l ≡ None → l ≡ []
 unfolding killed_of
 kept_told h [] e = refl
 kept_told h (b ∷ l) e = absurd (let z : ◌≡◌ {A = ℕ} 0 1 = cc in omega arith)
 
 -- ── the action; k is what the kill of the page's block answered ──
 
-module _ {g : Geometry} {t : List ℕ} {s x : ℕ} (A : Target g t s x) (k : Killed) (ek : k ≡ killed_of (view_of g t).birth (frees_of g t s x)) where
+module _ {g : Geometry} {t : List ℕ} {s x : ℕ} (A : Target g t s x) (k : Option Freed) (ek : k ≡ killed_of (view_of g t).birth (frees_of g t s x)) where
   -- block b is freed, with birth v
-  module _ (b v : ℕ) (i : k ≡ Freed b v) where
+  module _ (b v : ℕ) (i : k ≡ freed_at b v) where
     told : ((state_of g t).view.page s x ≡ suc b) × (frees_of g t s x ≡ b ∷ []) × (v ≡ (view_of g t).birth b)
     told = freed_told (view_of g t).birth (state_of g t).view s ((state_of g t).view.page s x) b v (sym ek ∙ i)
 
@@ -173,7 +174,7 @@ module _ {g : Geometry} {t : List ℕ} {s x : ℕ} (A : Target g t s x) (k : Kil
           ap (λ v. write_at log (8 * get_or t 9 0) (bytes_of (map released v))) (sym frees_one)
 
   -- nothing is freed
-  module _ (i : k ≡ Kept) where
+  module _ (i : k ≡ None) where
     pub frees_none : frees_of g t s x ≡ []
     frees_none = kept_told (view_of g t).birth (frees_of g t s x) (sym ek ∙ i)
 
@@ -196,13 +197,6 @@ module _ {g : Geometry} {t : List ℕ} {s x : ℕ} (A : Target g t s x) (k : Kil
         sym (ap (λ v. write_at log (8 * (state_of g t).used) (bytes_of (map released v))) frees_none ∙ write_none log (8 * (state_of g t).used))
 
 -- ── the call: a verdict and what it tells ──
-
-pub judged_refused : (g : Geometry) (t : List ℕ) (n x : ℕ) (v : Verdict) (k : ℕ) → Judged g t n x v → v ≡ Refused k → replied g t (Erase n x) ≡ refused k
-judged_refused g t n x v k J e = subst (λ v. Judged g t n x v) e J
-
-pub judged_accept : (g : Geometry) (t : List ℕ) (n x : ℕ) (v : Verdict) (s : ℕ) → Judged g t n x v → v ≡ Accept s →
-    NoneHolds (conditions g (state_of g t) (Erase n x)) × (slot (state_of g t) n ≡ s)
-judged_accept g t n x v s J e = subst (λ v. Judged g t n x v) e J
 
 module _ {g : Geometry} {t : List ℕ} (R : Ready g t) (n x s w : ℕ) (none : NoneHolds (conditions g (state_of g t) (Erase n x))) (es : slot (state_of g t) n ≡ s)
     (ew : w ≡ x) where
@@ -229,7 +223,7 @@ module _ {g : Geometry} {t : List ℕ} (R : Ready g t) (n x s w : ℕ) (none : N
 
   pub erase_out : (out m : List ℕ) (k : ℕ) → OutLong g out → k ≡ 2 * length (frees_of g t s w) →
       m ≡ sets out 0 (paired (view_of g t).birth (frees_of g t s w)) →
-      (reply_of (Done k) m ≡ replied g t (Erase n x)) × (m ≡ out_left g t out (Erase n x))
+      (reply_of (Ok k) m ≡ replied g t (Erase n x)) × (m ≡ out_left g t out (Erase n x))
   unfolding state_of
   erase_out out m k long e d =
       let B : ℕ → ℕ = (view_of g t).birth in

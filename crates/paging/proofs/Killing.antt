@@ -5,6 +5,7 @@ use Prim.Native.Nat.{ℕ, suc, ◌+◌, ◌-◌, ◌≤◌, ◌<◌}
 use native.Mathlib.Omega.{arith}
 use lib.ListN.{length, get_or, set}
 use borrow.Author.Tests.{lt-ltb, le-ltb}
+use Rattle.std.specs.Prelude.{Option, None}
 use Rattle.answer.proofs.Cases.{cases}
 use Rattle.geometry.specs.declared.Geometry.{Geometry}
 use Rattle.geometry.specs.Limits.{blocks}
@@ -37,9 +38,8 @@ use Rattle.tables.proofs.Lists.{count_said, length_joined, step_joined}
 use Rattle.tables.proofs.Reading.{reads_used}
 use Rattle.tables.proofs.Matches.{freed_is, kept_is}
 use Rattle.paging.specs.Target.{Target, frees_of}
-use Rattle.paging.specs.Kill.{killed_of, dead_on, emptied}
-use Rattle.paging.specs.declared.kill.Killed.{Killed}
-use Rattle.paging.specs.declared.kill.Killed.TheVariants.{Freed, Kept}
+use Rattle.paging.specs.Kill.{freed_at, killed_of, dead_on, emptied}
+use Rattle.paging.specs.declared.kill.Freed.{Freed}
 
 -- stored tables are as long as before
 pub stored_as_long : (g : Geometry) (U : State) (t w : List ℕ) → w ≡ stored g U t → length w ≡ length t
@@ -114,7 +114,7 @@ module _ {g : Geometry} {t : List ℕ} {s x : ℕ} (A : Target g t s x) where
       }
 
   -- the answer when these blocks are freed
-  abbrev answer : List ℕ → Killed
+  abbrev answer : List ℕ → Option Freed
   answer l = killed_of (view_of g t).birth l
 
   module _ (l : ℕ) (e : l ≡ get_or t (page_cell s x) 0) where
@@ -135,7 +135,7 @@ module _ {g : Geometry} {t : List ℕ} {s x : ℕ} (A : Target g t s x) where
         (holds_first A.ready).is ∙ ap (λ U. stored g U t) (none_waits (state_of g t)) ∙
         ap (λ k. stored g (linked k) t) (sym (link_is ∙ z))
 
-    pub none_answer : l ≡ 0 → Kept ≡ killed_of (view_of g t).birth (frees_of g t s x)
+    pub none_answer : l ≡ 0 → None ≡ killed_of (view_of g t).birth (frees_of g t s x)
     unfolding erased killed_of
     none_answer z = sym (ap (λ k. answer (erased (state_of g t).view s k)) (link_is ∙ z))
 
@@ -214,9 +214,9 @@ module _ {g : Geometry} {t : List ℕ} {s x : ℕ} (A : Target g t s x) where
               eu ∙ freed_holds.is ∙
               ap (λ U. stored g U t) (ap (free_all ((l - 1) ∷ [])) (freed_is (state_of g t) s x (l - 1)) ∙ killed_as freed fate_is)
 
-          pub freed_answer : Freed (l - 1) v ≡ killed_of (view_of g t).birth (frees_of g t s x)
+          pub freed_answer : freed_at (l - 1) v ≡ killed_of (view_of g t).birth (frees_of g t s x)
           unfolding freed_one killed_of state_of
-          freed_answer = ap (Freed (l - 1)) (sym birth_is) ∙ answer_as freed fate_is
+          freed_answer = ap (freed_at (l - 1)) (sym birth_is) ∙ answer_as freed fate_is
 
         module _ (old : v ≤ p) (q : ℕ) (eq : q ≡ base_num (view_of g t) s) where
           kept_fate : v ≤ q → its_fate ≡ kept
@@ -228,7 +228,7 @@ module _ {g : Geometry} {t : List ℕ} {s x : ℕ} (A : Target g t s x) where
           emptied_kept h =
               emptied_page.is ∙ ap (λ U. stored g U t) (kept_is (state_of g t) s x (l - 1) ∙ none_waits (bare kept) ∙ killed_as kept (kept_fate h))
 
-          pub kept_answer : v ≤ q → Kept ≡ killed_of (view_of g t).birth (frees_of g t s x)
+          pub kept_answer : v ≤ q → None ≡ killed_of (view_of g t).birth (frees_of g t s x)
           unfolding freed_one killed_of
           kept_answer h = answer_as kept (kept_fate h)
 
@@ -238,7 +238,7 @@ module _ {g : Geometry} {t : List ℕ} {s x : ℕ} (A : Target g t s x) where
             unfolding state_of
             marked_fate = fate_marked _ _ _ (omega (arith, birth_is)) (omega (arith, birth_is))
 
-            pub marked_answer : Kept ≡ killed_of (view_of g t).birth (frees_of g t s x)
+            pub marked_answer : None ≡ killed_of (view_of g t).birth (frees_of g t s x)
             unfolding freed_one killed_of
             marked_answer = answer_as marked marked_fate
 

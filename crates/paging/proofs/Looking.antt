@@ -10,7 +10,7 @@ use lib.Seq.{sets}
 use borrow.Author.Tests.{le-leb, lt-leb, eq-eqb, ne_eqb}
 use Rattle.answer.specs.Reply.{refused, reply_of}
 use Rattle.answer.specs.Refusal.{NoneHolds}
-use Rattle.answer.specs.declared.Answer.TheVariants.{Done}
+use Rattle.std.specs.Prelude.{Ok}
 use Rattle.geometry.specs.declared.Geometry.{Geometry}
 use Rattle.geometry.specs.Limits.{blocks}
 use Rattle.model.specs.Command.{Read}
@@ -128,7 +128,7 @@ module _ (g : Geometry) (t : List ℕ) (n x w : ℕ) (ew : w ≡ x) where
           ap (λ s. (view_of g t).page s x) (slot_is R n l e used) ∙ ap ((view_of g t).page (l - 1)) (sym ev) ∙
           Fields.page_is g t (l - 1) v (Ranges.slot_in R (l - 1) (named_live R n l e used)) (omega arith) ∙ sym eb
 
-      pub read_empty : (out : List ℕ) → b ≡ 0 → (reply_of (Done 0) out ≡ replied g t (Read n x)) × (out ≡ out_left g t out (Read n x))
+      pub read_empty : (out : List ℕ) → b ≡ 0 → (reply_of (Ok 0) out ≡ replied g t (Read n x)) × (out ≡ out_left g t out (Read n x))
       unfolding on_page paired
       read_empty out z =
           let r : result g (state_of g t) (Read n x) ≡ [] = ap (λ l. paired (state_of g t).view.birth (on_page l)) (on_page_lem ∙ z) in
@@ -136,7 +136,7 @@ module _ (g : Geometry) (t : List ℕ) (n x w : ℕ) (ew : w ≡ x) where
 
       -- there is a block; c is its birth as it was read
       pub read_one : (c : ℕ) (out : List ℕ) → c ≡ get_or t (birth_cell g.records (b - 1)) 0 → OutLong g out → (b ≡ 0 → ⊥) →
-          (reply_of (Done 2) (set (set out 0 (b - 1)) 1 c) ≡ replied g t (Read n x)) × (set (set out 0 (b - 1)) 1 c ≡ out_left g t out (Read n x))
+          (reply_of (Ok 2) (set (set out 0 (b - 1)) 1 c) ≡ replied g t (Read n x)) × (set (set out 0 (b - 1)) 1 c ≡ out_left g t out (Read n x))
       unfolding on_page paired state_of
       read_one c out ec long nz =
           let d : b ≡ suc (b - 1) = omega arith in

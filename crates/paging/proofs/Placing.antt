@@ -7,7 +7,7 @@ use native.Mathlib.Numerals.{add-one}
 use lib.ListN.{length, get_or, set}
 use Rattle.geometry.specs.declared.Geometry.{Geometry}
 use Rattle.geometry.specs.Limits.{blocks}
-use Rattle.choice.specs.declared.Found.TheVariants.{At}
+use Rattle.choice.specs.Search.{place_at}
 use Rattle.choice.specs.declared.Turn.{Turn}
 use Rattle.choice.specs.Turn.{next, turned}
 use Rattle.model.specs.State.{State, with_view, free_all}
@@ -79,11 +79,11 @@ turn_of U = record { counter = U.counter; writes = U.writes }
 
 module _ (g : Geometry) (U : State) (a o : ℕ) where
   given_is : with_writes (with_counter (with_mark U a (next g.per o)) (turned g.arenas g.turn (turn_of U)).counter)
-      (turned g.arenas g.turn (turn_of U)).writes ≡ given g U (At a o)
+      (turned g.arenas g.turn (turn_of U)).writes ≡ given g U (place_at a o)
   unfolding with_writes with_counter with_mark given marks_after
   given_is = refl
 
-  pub given_shaped : Shaped g U → a < g.arenas → Shaped g (given g U (At a o))
+  pub given_shaped : Shaped g U → a < g.arenas → Shaped g (given g U (place_at a o))
   unfolding with_writes with_counter with_mark given marks_after
   given_shaped S h =
       let f = turned g.arenas g.turn (turn_of U) in
@@ -92,7 +92,7 @@ module _ (g : Geometry) (U : State) (a o : ℕ) where
 -- r is the turn that follows, m the mark
 pub turn_put : {g : Geometry} {t : List ℕ} (k : Storable g t) (a o : ℕ) → a < g.arenas → (r w : Turn) (m : ℕ) → w.counter ≡ get_or t 7 0 → w.writes ≡ get_or t 8 0 →
     r ≡ turned g.arenas g.turn w → m ≡ next g.per o →
-    set (set (set t (16 + a) m) 7 r.counter) 8 r.writes ≡ stored g (given g (state_of g t) (At a o)) t
+    set (set (set t (16 + a) m) 7 r.counter) 8 r.writes ≡ stored g (given g (state_of g t) (place_at a o)) t
 unfolding state_of
 turn_put {g} {t} k a o h r w m ec ew er em =
     let T : State = state_of g t in
@@ -165,11 +165,11 @@ module _ {g : Geometry} {t : List ℕ} {s x a o : ℕ} (A : Target g t s x) (P :
       pub block_writes : get_or v 8 0 < g.turn
       block_writes = omega (arith, reads_writes g t A.ready.roomy block_holds, A.ready.range.writes)
 
-      pub page_filled : (w : List ℕ) → w ≡ stored g (given g (state_of g v) (At a o)) v → w ≡ stored g (filled g t s x a o) t
+      pub page_filled : (w : List ℕ) → w ≡ stored g (given g (state_of g v) (place_at a o)) v → w ≡ stored g (filled g t s x a o) t
       unfolding filled given
       page_filled w ew =
-          (step_to_lem g t A.ready.roomy block_holds (λ U. given g U (At a o)) w ew (given_shaped g W a o written_shaped P.arena)
-          (λ r h. tail_longer g t W (given g W (At a o)) r (omega arith)) (omega arith) (omega arith) refl).is
+          (step_to_lem g t A.ready.roomy block_holds (λ U. given g U (place_at a o)) w ew (given_shaped g W a o written_shaped P.arena)
+          (λ r h. tail_longer g t W (given g W (place_at a o)) r (omega arith)) (omega arith) (omega arith) refl).is
 
   -- the tables with the page filled hold that state
   pub filled_shaped : Shaped g (filled g t s x a o)

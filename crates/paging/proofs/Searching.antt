@@ -7,11 +7,11 @@ use native.Mathlib.Nat.{mod-lt}
 use native.Mathlib.Omega.{arith}
 use lib.ListN.{length, get_or, take, drop, length-drop}
 use lib.Seq.{get_or-take, get_or-drop, length-take-le}
+use Rattle.std.specs.Prelude.{Option}
 use Rattle.geometry.specs.declared.Geometry.{Geometry}
 use Rattle.geometry.specs.Limits.{blocks}
-use Rattle.choice.specs.declared.Found.{Found}
-use Rattle.choice.specs.declared.Found.TheVariants.{At, Nothing}
-use Rattle.choice.specs.Search.{or_else, first_free, in_arena, in_arenas, chosen}
+use Rattle.choice.specs.declared.Place.{Place}
+use Rattle.choice.specs.Search.{place_at, or_else, first_free, in_arena, in_arenas, chosen}
 use Rattle.choice.specs.Words.{free_in, mark_in, word_of, Searchable}
 use Rattle.choice.proofs.Ranges.{block_inside}
 use Rattle.choice.proofs.Births.{says}
@@ -20,8 +20,6 @@ use Rattle.model.specs.Calls.{found}
 use Rattle.model.specs.Layout.{free_word, view_of, state_of}
 use Rattle.tables.specs.Ready.{Ready}
 use Rattle.tables.proofs.Fields
-use Rattle.paging.specs.Place.{spot_of}
-use Rattle.paging.specs.declared.place.Spot.TheVariants as spot
 
 -- ── the choice depends on the blocks and marks of the store alone ──
 
@@ -31,7 +29,7 @@ module _ (p q : ℕ → Bool) (m k : ℕ → ℕ) (arenas per : ℕ) (frees : (b
   unfolding first_free
   first_same a o zero h l = refl
   first_same a o (suc n) h l =
-      ap₂ (λ y f. cond y (At a o) f) (frees (a * per + o) (block_inside a arenas per o h (omega arith))) (first_same a (suc o) n h (omega arith))
+      ap₂ (λ y f. cond y (place_at a o) f) (frees (a * per + o) (block_inside a arenas per o h (omega arith))) (first_same a (suc o) n h (omega arith))
 
   arena_same : (a : ℕ) → a < arenas → in_arena p m per a ≡ in_arena q k per a
   unfolding in_arena
@@ -91,33 +89,13 @@ module _ {g : Geometry} {t : List ℕ} (R : Ready g t) where
     kind_low = h;
   }
 
-  -- r is the choice, v the kind, n the number of the record that is written
-  module _ (r : Found) (c k v n : ℕ) (e : c ≡ get_or t 7 0) (ek : k ≡ v)
+  -- r is the choice, v the kind
+  module _ (r : Option Place) (c k v : ℕ) (e : c ≡ get_or t 7 0) (ek : k ≡ v)
       (d : r ≡ chosen (free_in (take 64 (drop 64 t))) (mark_in (take 16 (drop 16 t))) g.arenas g.per (c + k)) where
-    found_is : r ≡ found g (state_of g t) v
+    pub found_is : r ≡ found g (state_of g t) v
     unfolding found mark_in
     found_is =
         d ∙ chosen_same (free_in words) (available (state_of g t)) (mark_in marks) (state_of g t).mark g.arenas g.per
         free_at mark_at (λ a l. omega (arith, mark_at a l, R.range.marks a)) (c + k) R.roomy.inside.arenas_least ∙
         ap (λ f. chosen (available (state_of g t)) (state_of g t).mark g.arenas g.per f)
         (omega (arith, Fields.counter_is g t))
-
-    pub search_at : (a o : ℕ) → r ≡ At a o → spot.At a o n ≡ spot_of n (found g (state_of g t) v)
-    unfolding spot_of
-    search_at a o f = ap (spot_of n) (sym f ∙ found_is)
-
-    pub search_nothing : r ≡ Nothing → spot.Nothing ≡ spot_of n (found g (state_of g t) v)
-    unfolding spot_of
-    search_nothing f = ap (spot_of n) (sym f ∙ found_is)
-
--- ── what was found, told by the answer ──
-
-pub found_at : (n : ℕ) (f : Found) (a o v : ℕ) → spot_of n f ≡ spot.At a o v → (f ≡ At a o) × (v ≡ n)
-unfolding spot_of
-found_at n (At b p) a o v e = (cc, cc)
-found_at n Nothing a o v e = absurd (let z : ◌≡◌ {A = ℕ} 0 1 = cc in omega arith)
-
-pub found_nothing : (n : ℕ) (f : Found) → spot_of n f ≡ spot.Nothing → f ≡ Nothing
-unfolding spot_of
-found_nothing n (At b p) e = absurd (let z : ◌≡◌ {A = ℕ} 0 1 = cc in omega arith)
-found_nothing n Nothing e = refl

@@ -2,8 +2,7 @@
 use Rattle.std.specs.Prelude.{◌≡◌, List, ℕ, ◌+◌, ◌*◌, ◌≤◌, ◌<◌, length}
 use Rattle.geometry.specs.declared.Geometry.{Geometry}
 use Rattle.geometry.specs.Limits.{blocks}
-use Rattle.choice.specs.declared.Found.{Found}
-use Rattle.choice.specs.declared.Found.TheVariants.{At, Nothing}
+use Rattle.choice.specs.Search.{place_at}
 use Rattle.model.specs.State.{State, with_view, free_all}
 use Rattle.model.specs.SoundStore.{MadeFor}
 use Rattle.model.specs.Effects.{place, write}
@@ -11,8 +10,6 @@ use Rattle.model.specs.Calls.{given}
 use Rattle.model.specs.Layout.{view_of, titles_of, state_of}
 use Rattle.tables.specs.Ready.{Roomy, FreeWords}
 use Rattle.paging.specs.Target.{frees_of}
-use Rattle.paging.specs.declared.place.Spot.{Spot}
-use Rattle.paging.specs.declared.place.Spot.TheVariants as spot
 
 -- tables with room, made for g, that say which blocks are free, no deadlist longer than there are pages, no name longer than its row has room for, and
 -- not more blocks that wait than there are: what single stores ask
@@ -32,15 +29,10 @@ pub record FreeAt (g : Geometry) (t : List ℕ) (a o : ℕ) : Type 0 where
   pub block : a * g.per + o < blocks g
   pub free : (view_of g t).birth (a * g.per + o) ≡ 0
 
--- what was found, with the birth of a block that a write of record n is given
-unfoldable pub spot_of : ℕ → Found → Spot
-spot_of n (At a o) = spot.At a o n
-spot_of n Nothing = spot.Nothing
-
 -- the state T with block b on page x of the record in slot s
 unfoldable pub placed : State → ℕ → ℕ → ℕ → State
 placed T s x b = with_view T (place T.view s x b)
 
 -- what t says, when the block at offset o of arena a was given to a write on page x of the record in slot s
 unfoldable pub filled : Geometry → List ℕ → ℕ → ℕ → ℕ → ℕ → State
-filled g t s x a o = given g (free_all (frees_of g t s x) (with_view (state_of g t) (write (state_of g t).view s x (a * g.per + o)))) (At a o)
+filled g t s x a o = given g (free_all (frees_of g t s x) (with_view (state_of g t) (write (state_of g t).view s x (a * g.per + o)))) (place_at a o)

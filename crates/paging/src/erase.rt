@@ -13,43 +13,37 @@ ghost use Rattle.tables.specs.Outcome.{replied, tables_left, log_left, out_left}
 ghost use Rattle.paging.specs.Target.{Target, frees_of};
 ghost use Rattle.paging.specs.EraseVerdict.{Judged};
 
-use crate::kill::{Killed, kill_on};
-use crate::words::log_one;
-use answer::Answer;
+use crate::kill::kill_on;
+use crate::words::log_words;
+use answer::{Answer, Refusal};
 use geometry::{Geometry, copied};
 use tables::cells::{OPEN, USED};
 use tables::find::wide;
 use tables::links::frees_on;
 
-// What a call on a page meets: a refusal, or the slot of its record.
-#[derive(Clone, Copy)]
-pub enum Verdict {
-    Refused(u8),
-    Accept(usize),
-}
-
-fn erase_verdict(t: &[u32], g: Geometry, n: u32, link: usize, page: u32) -> Verdict
+// The slot of the record that an E works on, or why it is refused.
+fn erase_verdict(t: &[u32], g: Geometry, n: u32, link: usize, page: u32) -> Result<usize, Refusal>
     requires { Ready g t.now × LinkOf g t.now n link }
     ensures { Judged g t.now n page result }
 {
     if g.pages <= wide(page) {
-        return Verdict::Refused(5);
+        return Err(Refusal::NoSuchPage);
     }
     if link == 0 {
-        return Verdict::Refused(8);
+        return Err(Refusal::NoSuchRecord);
     }
     let s = link - 1;
     if t[OPEN + s] == 0 {
-        return Verdict::Refused(9);
+        return Err(Refusal::WrongState);
     }
     // One word is enough.
     if wide(t[USED]) < g.words {
-        return Verdict::Accept(s);
+        return Ok(s);
     }
     if 0 < frees_on(t, copied(g), s, wide(page)) {
-        return Verdict::Refused(14);
+        return Err(Refusal::LogFull);
     }
-    Verdict::Accept(s)
+    Ok(s)
 }
 
 // Empties page x of the open record in slot s: a block that is freed goes into the log, and with its birth into the result.
@@ -67,13 +61,12 @@ fn erase_page(
     ensures log { log.new ≡ write_at log.old (8 * (state_of g t.old).used) (bytes_of (map released (frees_of g t.old s x))) }
     ensures out { out.new ≡ sets out.old 0 (paired (view_of g t.old).birth (frees_of g t.old s x)) }
 {
-    let killed = kill_on(t, g, s, x);
-    let Killed::Freed(b, birth) = killed else {
+    let Some(freed) = kill_on(t, g, s, x) else {
         return 0;
     };
-    log_one(t, log, (b * 16384 + 2) as u64);
-    out[0] = b as u32;
-    out[1] = birth;
+    log_words(t, log, &[(freed.block * 16384 + 2) as u64]);
+    out[0] = freed.block as u32;
+    out[1] = freed.birth;
     2
 }
 
@@ -93,9 +86,6 @@ pub fn erase(
     ensures log { log.new ≡ log_left g t.old log.old (Erase n page) }
     ensures out { out.new ≡ out_left g t.old out.old (Erase n page) }
 {
-    let verdict = erase_verdict(t, g, n, link, page);
-    match verdict {
-        Verdict::Refused(k) => Answer::Refused(k),
-        Verdict::Accept(s) => Answer::Done(erase_page(g, t, log, out, s, wide(page))),
-    }
+    let s = erase_verdict(t, g, n, link, page)?;
+    Ok(erase_page(g, t, log, out, s, wide(page)))
 }

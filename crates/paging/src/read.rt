@@ -5,7 +5,7 @@ ghost use Rattle.model.specs.Command.{Read};
 ghost use Rattle.tables.specs.Ready.{Ready, OutLong, LinkOf};
 ghost use Rattle.tables.specs.Outcome.{replied, out_left};
 
-use answer::Answer;
+use answer::{Answer, Refusal};
 use geometry::Geometry;
 use tables::cells::{PAGES, ROW, ROWS};
 use tables::find::wide;
@@ -17,17 +17,17 @@ pub fn read(g: Geometry, t: &[u32], out: &mut [u32], n: u32, link: usize, page: 
     ensures out { out.new ≡ out_left g t.now out.old (Read n page) }
 {
     if g.pages <= wide(page) {
-        return Answer::Refused(5);
+        return Err(Refusal::NoSuchPage);
     }
     if link == 0 {
-        return Answer::Refused(8);
+        return Err(Refusal::NoSuchRecord);
     }
     let there = wide(t[PAGES + ROW * (link - 1) + wide(page)]);
     if there == 0 {
-        return Answer::Done(0);
+        return Ok(0);
     }
     let b = there - 1;
     out[0] = b as u32;
     out[1] = t[PAGES + ROWS * g.records + b];
-    Answer::Done(2)
+    Ok(2)
 }

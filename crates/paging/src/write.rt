@@ -2,7 +2,6 @@
 ghost use Rattle.std.specs.Prelude.{◌≡◌, ◌∷◌, map, suc, ◌+◌, ◌*◌, ◌-◌, ◌≤◌, length, get_or};
 ghost use Rattle.std.proofs.lemmas.List.Edits.{sets};
 ghost use Rattle.answer.specs.Reply.{reply_of};
-ghost use Rattle.choice.specs.declared.Found.TheVariants.{At};
 ghost use Rattle.alloc_log.specs.Word.{write_at, bytes_of, allocated, released};
 ghost use Rattle.model.specs.Command.{Write};
 ghost use Rattle.model.specs.Actions.{do_w};
@@ -15,55 +14,55 @@ ghost use Rattle.paging.specs.Target.{Target, frees_of};
 ghost use Rattle.paging.specs.Place.{FreeAt};
 ghost use Rattle.paging.specs.WriteVerdict.{Judged};
 
-use crate::kill::Killed;
-use crate::place::{Spot, fill_page, search};
-use crate::words::{log_one, log_two};
-use answer::Answer;
+use crate::place::{fill_page, search};
+use crate::words::log_words;
+use answer::{Answer, Refusal};
+use choice::Place;
 use geometry::{Geometry, copied};
 use tables::cells::{OPEN, USED};
 use tables::find::wide;
 use tables::links::frees_on;
 
-// What a write meets: a refusal, or the slot of its record, the place of its block and the block's birth.
-#[derive(Clone, Copy)]
-pub enum Verdict {
-    Refused(u8),
-    Accept(usize, usize, usize, u32),
-}
-
-fn write_verdict(t: &[u32], g: Geometry, n: u32, link: usize, page: u32, kind: u32) -> Verdict
+// The slot of the record that a write works on and the place of its block, or why it is refused.
+fn write_verdict(
+    t: &[u32],
+    g: Geometry,
+    n: u32,
+    link: usize,
+    page: u32,
+    kind: u32,
+) -> Result<(usize, Place), Refusal>
     requires { Ready g t.now × LinkOf g t.now n link }
     ensures { Judged g t.now n page kind result }
 {
     if g.pages <= wide(page) {
-        return Verdict::Refused(5);
+        return Err(Refusal::NoSuchPage);
     }
     if 2 < kind {
-        return Verdict::Refused(6);
+        return Err(Refusal::NoSuchKind);
     }
     if link == 0 {
-        return Verdict::Refused(8);
+        return Err(Refusal::NoSuchRecord);
     }
     let s = link - 1;
     if t[OPEN + s] == 0 {
-        return Verdict::Refused(9);
+        return Err(Refusal::WrongState);
     }
-    let spot = search(t, g, n, kind);
-    let Spot::At(a, o, birth) = spot else {
-        return Verdict::Refused(13);
+    let Some(place) = search(t, g, kind) else {
+        return Err(Refusal::NoFreeBlock);
     };
     // Two words are enough: at most one block is freed.
     let unused = g.words - wide(t[USED]);
     if 1 < unused {
-        return Verdict::Accept(s, a, o, birth);
+        return Ok((s, place));
     }
     if unused < 1 + frees_on(t, copied(g), s, wide(page)) {
-        return Verdict::Refused(14);
+        return Err(Refusal::LogFull);
     }
-    Verdict::Accept(s, a, o, birth)
+    Ok((s, place))
 }
 
-// The block at offset o of arena a, with its birth, goes on page x of the open record in slot s: into the log and the result, behind it the block freed.
+// The block at that place, with its birth, goes on page x of the open record in slot s: into the log and the result, and after it the block freed.
 fn write_page(
     g: Geometry,
     t: &mut [u32],
@@ -71,27 +70,28 @@ fn write_page(
     out: &mut [u32],
     s: usize,
     x: usize,
-    a: usize,
-    o: usize,
+    place: Place,
     birth: u32,
 ) -> usize
-    requires { Target g t.old s x × FreeAt g t.old a o × (suc (length (frees_of g t.old s x)) ≤ g.words - get_or t.old 9 0) × LogLong g log.old × OutLong g out.old }
+    requires { Target g t.old s x × FreeAt g t.old place.arena place.offset × (suc (length (frees_of g t.old s x)) ≤ g.words - get_or t.old 9 0) × LogLong g log.old × OutLong g out.old }
     ensures count { result ≡ 2 + 2 * length (frees_of g t.old s x) }
-    ensures tables { t.new ≡ stored g (given g (acted (state_of g t.old) (do_w s x (a * g.per + o)) (suc (length (map released (frees_of g t.old s x))))) (At a o)) t.old }
-    ensures log { log.new ≡ write_at log.old (8 * (state_of g t.old).used) (bytes_of (allocated (a * g.per + o) ∷ map released (frees_of g t.old s x))) }
-    ensures out { out.new ≡ sets out.old 0 ((a * g.per + o) ∷ birth ∷ paired (view_of g t.old).birth (frees_of g t.old s x)) }
+    ensures tables { t.new ≡ stored g (given g (acted (state_of g t.old) (do_w s x (place.arena * g.per + place.offset)) (suc (length (map released (frees_of g t.old s x))))) (Some place)) t.old }
+    ensures log { log.new ≡ write_at log.old (8 * (state_of g t.old).used) (bytes_of (allocated (place.arena * g.per + place.offset) ∷ map released (frees_of g t.old s x))) }
+    ensures out { out.new ≡ sets out.old 0 ((place.arena * g.per + place.offset) ∷ birth ∷ paired (view_of g t.old).birth (frees_of g t.old s x)) }
 {
-    let killed = fill_page(t, g, s, x, a, o);
-    let b = a * g.per + o;
+    let killed = fill_page(t, g, s, x, place);
+    let b = place.arena * g.per + place.offset;
     out[0] = b as u32;
     out[1] = birth;
-    let Killed::Freed(old, was) = killed else {
-        log_one(t, log, (b * 16384 + 1) as u64);
+    let given = (b * 16384 + 1) as u64;
+    let Some(freed) = killed else {
+        log_words(t, log, &[given]);
         return 2;
     };
-    log_two(t, log, (b * 16384 + 1) as u64, (old * 16384 + 2) as u64);
-    out[2] = old as u32;
-    out[3] = was;
+    let released = (freed.block * 16384 + 2) as u64;
+    log_words(t, log, &[given, released]);
+    out[2] = freed.block as u32;
+    out[3] = freed.birth;
     4
 }
 
@@ -112,11 +112,6 @@ pub fn write(
     ensures log { log.new ≡ log_left g t.old log.old (Write n page kind) }
     ensures out { out.new ≡ out_left g t.old out.old (Write n page kind) }
 {
-    let verdict = write_verdict(t, g, n, link, page, kind);
-    match verdict {
-        Verdict::Refused(k) => Answer::Refused(k),
-        Verdict::Accept(s, a, o, birth) => {
-            Answer::Done(write_page(g, t, log, out, s, wide(page), a, o, birth))
-        }
-    }
+    let (s, place) = write_verdict(t, g, n, link, page, kind)?;
+    Ok(write_page(g, t, log, out, s, wide(page), place, n))
 }

@@ -9,9 +9,11 @@ use lib.ListN.{length, get_or, set, take, drop, length-append}
 use lib.Seq.{sets, length-sets}
 use borrow.Author.Tests.{eq-eqb, ne_eqb, lt-ltb, le-ltb}
 use Rattle.answer.specs.Reply.{accepted, refused, reply_of}
-use Rattle.answer.specs.declared.Answer.{Answer}
-use Rattle.answer.specs.declared.Answer.TheVariants.{Done, Refused}
-use Rattle.answer.proofs.Cases.{cases}
+use Rattle.std.specs.Prelude.{Result, Ok, Err}
+use Rattle.answer.specs.declared.Refusal.{Refusal}
+use Rattle.answer.specs.declared.Refusal.TheVariants.{LogFull, BadTurn}
+use Rattle.answer.specs.Number.{number_of}
+use Rattle.answer.proofs.Cases.{cases, same?, lt?}
 use Rattle.geometry.specs.declared.Geometry.{Geometry}
 use Rattle.geometry.specs.Limits.{blocks}
 use Rattle.alloc_log.specs.Word.{write_at, bytes_of, released}
@@ -40,7 +42,7 @@ use Rattle.reclaiming.proofs.Logging.{freed, map_length}
 use Rattle.reclaiming.proofs.Ending.{step_end, step_short}
 
 -- what the call promises, of the three lent slices
-abbrev pub Left : Geometry → List ℕ → ℕ → Answer → List ℕ → List ℕ → List ℕ → List ℕ → List ℕ → Type 0
+abbrev pub Left : Geometry → List ℕ → ℕ → Result ℕ Refusal → List ℕ → List ℕ → List ℕ → List ℕ → List ℕ → Type 0
 Left g t k a t₁ log log₁ out out₁ =
     (reply_of a out₁ ≡ replied g t (Reclaim k))
     × ((t₁ ≡ tables_left g t (Reclaim k)) × ((log₁ ≡ log_left g t log (Reclaim k)) × (out₁ ≡ out_left g t out (Reclaim k))))
@@ -54,7 +56,7 @@ words_are g t k n e =
     map_length (take k q) ∙ turn_length t q k (Fields.queue_length_lem g t) ∙ sym e
 
 module _ (g : Geometry) (t : List ℕ) (k : ℕ) where
-  refused_left : (n : ℕ) → replied g t (Reclaim k) ≡ refused n → (log out : List ℕ) → Left g t k (Refused n) t log log out out
+  refused_left : (r : Refusal) → replied g t (Reclaim k) ≡ refused (number_of r) → (log out : List ℕ) → Left g t k (Err r) t log log out out
   unfolding reply_of tables_left log_left out_left
   refused_left n e log out = (sym e, (rw e refl, (rw e refl, rw e refl)))
 
@@ -62,23 +64,27 @@ module _ (g : Geometry) (t : List ℕ) (k : ℕ) where
   unfolding replied
   bad y = rw y
 
-  pub none : k ≡ 0 → (log out : List ℕ) → Left g t k (Refused 19) t log log out out
-  none z = refused_left 19 (bad (rw (eq-eqb k 0 z)))
+  none : k ≡ 0 → (log out : List ℕ) → Left g t k (Err BadTurn) t log log out out
+  none z = refused_left BadTurn (bad (rw (eq-eqb k 0 z)))
 
-  module _ (some : k ≡ 0 → ⊥) where
-    pub large : 64 < k → (log out : List ℕ) → Left g t k (Refused 19) t log log out out
-    large h = refused_left 19 (bad (rw (ne_eqb k 0 some, lt-ltb 64 k h)))
+  large : (k ≡ 0 → ⊥) → 64 < k → (log out : List ℕ) → Left g t k (Err BadTurn) t log log out out
+  large some h = refused_left BadTurn (bad (rw (ne_eqb k 0 some, lt-ltb 64 k h)))
 
-    -- n blocks would be freed, u words are used
-    pub short : k ≤ 64 → (n u : ℕ) → n ≡ turn t k → u ≡ get_or t 9 0 → g.words - u < n →
-        (log out : List ℕ) → Left g t k (Refused 14) t log log out out
-    unfolding replied state_of
-    short few n u count e h =
-        refused_left 14 (rw (
-          ne_eqb k 0 some,
-          le-ltb 64 k few,
-          lt-ltb (g.words - get_or t 9 0) (length (reclaimed_words (state_of g t) k)) (omega (arith, words_are g t k n count)),
-        ))
+  pub outside : (1 ≤ k → k ≤ 64 → ⊥) → (log out : List ℕ) → Left g t k (Err BadTurn) t log log out out
+  outside n =
+      cases (same? k 0) none
+      (λ some. cases (lt? 64 k) (large some) (λ few. absurd (n (omega arith) few)))
+
+  -- n blocks would be freed: the turn of w, which is k; u words are used
+  pub short : 1 ≤ k → k ≤ 64 → (n w u : ℕ) → n ≡ turn t w → w ≡ k → u ≡ get_or t 9 0 → g.words - u < n →
+      (log out : List ℕ) → Left g t k (Err LogFull) t log log out out
+  unfolding replied state_of
+  short some few n w u count i e h =
+      refused_left LogFull (rw (
+        ne_eqb k 0 (λ z. let f : ⊥ = omega arith in f),
+        le-ltb 64 k few,
+        lt-ltb (g.words - get_or t 9 0) (length (reclaimed_words (state_of g t) k)) (omega (arith, words_are g t k n (count ∙ ap (turn t) i))),
+      ))
 
 -- ── an accepted T ──
 
@@ -94,9 +100,16 @@ pub record Accepts (g : Geometry) (t : List ℕ) (k n : ℕ) : Type 0 where
 pub used_le : {g : Geometry} {t : List ℕ} → Ready g t → get_or t 9 0 ≤ g.words
 used_le {g} {t} R = omega (arith, R.range.used, Fields.used_is g t)
 
-pub accepts : {g : Geometry} {t : List ℕ} (k n u : ℕ) → Ready g t → (k ≡ 0 → ⊥) → k ≤ 64 → n ≡ turn t k → u ≡ get_or t 9 0 → n ≤ g.words - u → Accepts g t k n
-accepts k n u R some few count e enough =
-    record { ready = R; some = some; few = few; count = count; enough = omega (arith, used_le R) }
+-- n is the turn of w, which is k; u words are used
+pub accepts : {g : Geometry} {t : List ℕ} (k n w u : ℕ) → Ready g t → 1 ≤ k → k ≤ 64 → n ≡ turn t w → w ≡ k → u ≡ get_or t 9 0 → n ≤ g.words - u →
+    Accepts g t k n
+accepts {g} {t} k n w u R some few count i e enough = record {
+  ready = R;
+  some = λ z. let f : ⊥ = omega arith in f;
+  few = few;
+  count = count ∙ ap (turn t) i;
+  enough = omega (arith, used_le R);
+}
 
 -- the first n blocks are the first k: so much is left
 reclaimed_is : (T : State) (n k m : ℕ) → take n T.queue.list ≡ take k T.queue.list → drop n T.queue.list ≡ drop k T.queue.list →
@@ -188,7 +201,7 @@ module _ {g : Geometry} {t : List ℕ} {k n : ℕ} (A : Accepts g t k n) where
     listed : firsts n out₁ ≡ F
     listed = ap (firsts n) eo ∙ firsts_paired f out F n first_count (accept_out out long)
 
-    pub accept_reply : reply_of (Done (2 * n)) out₁ ≡ replied g t (Reclaim k)
+    pub accept_reply : reply_of (Ok (2 * n)) out₁ ≡ replied g t (Reclaim k)
     unfolding reply_of
     accept_reply =
         ap (λ (u : List ℕ). accepted (take (2 * n) u)) eo ∙ ap accepted (take_paired f out F n first_count (accept_out out long)) ∙ sym reply_is

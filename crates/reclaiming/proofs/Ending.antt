@@ -2,10 +2,11 @@
 use mathlib.Core.Path.{◌≡◌, refl, sym, ap, ap₂, ◌∙◌}
 use mathlib.Core.Logic.{inl, inr}
 use mathlib.Core.List.{List, [], ◌∷◌, ◌++◌}
-use Prim.Native.Nat.{ℕ, suc, ◌+◌, ◌-◌, ◌*◌, ◌≤◌, ◌<◌}
+use Prim.Native.Nat.{ℕ, zero, suc, ◌+◌, ◌-◌, ◌*◌, ◌≤◌, ◌<◌}
 use native.Mathlib.Omega.{arith}
-use lib.ListN.{length, get_or, set, drop, length-append}
-use lib.Seq.{sets, get_or-set_other}
+use lib.ListN.{length, get_or, set, take, drop, length-append}
+use lib.Seq.{sets, paste, drop-cons, get_or-set_other}
+use Rattle.std.proofs.lemmas.List.Edits.{sets-eq}
 use Rattle.answer.proofs.Cases.{cases}
 use Rattle.geometry.specs.declared.Geometry.{Geometry}
 use Rattle.geometry.specs.Limits.{blocks}
@@ -14,12 +15,11 @@ use Rattle.model.specs.State.{State}
 use Rattle.model.specs.Results.{blocks_in}
 use Rattle.model.specs.Layout.{queue_cell, queue_birth_cell, numbers, state_of}
 use Rattle.model.proofs.ListFacts.{cleared_out}
-use Rattle.model.proofs.LayoutFacts.{length_numbers, numbers_more}
+use Rattle.model.proofs.LayoutFacts.{length_numbers}
 use Rattle.tables.specs.Ready.{Roomy}
 use Rattle.tables.specs.Births.{waited}
 use Rattle.tables.specs.Puts.{with_ended, with_queue_list}
 use Rattle.tables.proofs.Steps.{Holds, holds_as}
-use Rattle.tables.proofs.Sets.{sets_off, sets_last}
 use Rattle.tables.proofs.QueueStores.{step_ended, step_shortened, ended_none, ended_next, ended_birth, ended_waiting, ended_length, ended_count}
 use Rattle.reclaiming.specs.Stages.{ended_all, shortened}
 use Rattle.reclaiming.proofs.Listing.{firsts, firsts_next}
@@ -60,44 +60,34 @@ module _ (R N : ℕ) where
         made ∙ ap (λ (u : List ℕ). ended R N u b) so_far ∙ end_snoc (firsts i out) t₀ b ∙
         ap (λ c. ended_all R N t₀ (firsts i out ++ (c ∷ []))) e ∙ ap (ended_all R N t₀) (sym (firsts_next out i h))
 
-    pub end_long : length t₁ ≡ length t
-    end_long = ap length made ∙ ended_length R N t b
-
     pub end_waits : (i k : ℕ) → 11 < length t → get_or t 11 0 ≡ k + i → get_or t₁ 11 0 ≡ k + (i + 1)
     end_waits i k h e = omega (arith, ap (λ (u : List ℕ). get_or u 11 0) made, ended_count R N t b h)
 
--- ── `shorten_queue`, number after number ──
+-- ── `shorten_queue` ──
 
--- the first i numbers from a on are those that stood k places on
-moved_next : (t₀ t : List ℕ) (a k i v : ℕ) → t ≡ sets t₀ a (numbers t₀ (a + k) i) → v ≡ get_or t (a + k + i) 0 →
-    set t (a + i) v ≡ sets t₀ a (numbers t₀ (a + k) (i + 1))
-moved_next t₀ t a k i v so_far e =
-    let m : List ℕ = numbers t₀ (a + k) i in
-    let n : length m ≡ i = length_numbers t₀ (a + k) i in
-    let r : v ≡ get_or t₀ (a + k + i) 0 = e ∙ ap (λ (u : List ℕ). get_or u (a + k + i) 0) so_far ∙ sets_off m t₀ a (a + k + i) (inr (omega arith)) in
-    ap₂ (λ (u : List ℕ) (w : ℕ). set u (a + i) w) so_far r ∙ sets_last t₀ a m (get_or t₀ (a + k + i) 0) (a + i) (omega arith) ∙
-    ap (sets t₀ a) (sym (ap (numbers t₀ (a + k)) (let z : i + 1 ≡ suc i = omega arith in z) ∙ numbers_more t₀ (a + k) i))
+-- the m numbers from x on, as a part of the list
+part_is : (t : List ℕ) (x m : ℕ) → x + m ≤ length t → take m (drop x t) ≡ numbers t x m
+unfolding numbers
+part_is t x zero h = refl
+part_is t x (suc m) h = ap (take (suc m)) (drop-cons t x 0 (omega arith)) ∙ ap (λ l. get_or t x 0 ∷ l) (part_is t (suc x) m (omega arith))
+
+-- they are copied to a
+copied_is : (t : List ℕ) (a x m : ℕ) → x + m ≤ length t → a + m ≤ length t → paste t a (drop x t) m ≡ sets t a (numbers t x m)
+copied_is t a x m hx ha =
+    let n : length (numbers t x m) ≡ m = length_numbers t x m in
+    ap (λ l. take a t ++ l ++ drop (a + m) t) (part_is t x m hx) ∙ ap (λ k. take a t ++ numbers t x m ++ drop (a + k) t) (sym n) ∙
+    sym (sets-eq (numbers t x m) t a (omega arith))
 
 module _ (R N : ℕ) (t₀ : List ℕ) (n : ℕ) where
-  pub move_none : t₀ ≡ sets t₀ (queue_cell R N 0) (numbers t₀ (queue_cell R N n) 0)
-  unfolding numbers
-  move_none = refl
-
-  pub move_turn : (t : List ℕ) (i v x y : ℕ) → t ≡ sets t₀ (queue_cell R N 0) (numbers t₀ (queue_cell R N n) i) → x ≡ queue_cell R N 0 →
-      v ≡ get_or t (x + n + i) 0 → y ≡ queue_cell R N 0 → set t (y + i) v ≡ sets t₀ (queue_cell R N 0) (numbers t₀ (queue_cell R N n) (i + 1))
-  move_turn t i v x y so_far ex ev ey =
-      let a : ℕ = queue_cell R N 0 in
-      let c : queue_cell R N n ≡ a + n = omega arith in
-      ap (λ z. set t (z + i) v) ey ∙
-      moved_next t₀ t a n i v (so_far ∙ ap (λ z. sets t₀ a (numbers t₀ z i)) c) (ev ∙ ap (λ z. get_or t (z + n + i) 0) ex) ∙
-      ap (λ z. sets t₀ a (numbers t₀ z (i + 1))) (sym c)
-
-  pub move_end : (t : List ℕ) (i left : ℕ) → t ≡ sets t₀ (queue_cell R N 0) (numbers t₀ (queue_cell R N n) i) → i ≡ left → left ≡ get_or t₀ 10 0 - n →
-      set t 10 left ≡ shortened R N t₀ n
+  -- x is where the queue begins
+  pub moved : (t : List ℕ) (x m left : ℕ) → t ≡ paste t₀ x (drop (x + n) t₀) m → x ≡ queue_cell R N 0 → m ≡ left → left ≡ get_or t₀ 10 0 - n →
+      x + n + left ≤ length t₀ → set t 10 left ≡ shortened R N t₀ n
   unfolding shortened
-  move_end t i left so_far e d =
-      ap (λ (u : List ℕ). set u 10 left) (so_far ∙ ap (λ m. sets t₀ (queue_cell R N 0) (numbers t₀ (queue_cell R N n) m)) e) ∙
-      ap (λ m. set (sets t₀ (queue_cell R N 0) (numbers t₀ (queue_cell R N n) m)) 10 m) d
+  moved t x m left e ex em d h =
+      let y : x + n ≡ queue_cell R N n = omega arith in
+      ap (λ (u : List ℕ). set u 10 left)
+      (e ∙ ap (paste t₀ x (drop (x + n) t₀)) em ∙ copied_is t₀ x (x + n) left h (omega arith) ∙ ap₂ (λ a b. sets t₀ a (numbers t₀ b left)) ex y) ∙
+      ap (λ k. set (sets t₀ (queue_cell R N 0) (numbers t₀ (queue_cell R N n) k)) 10 k) d
 
 -- ── as steps of the state ──
 

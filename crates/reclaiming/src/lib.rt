@@ -14,7 +14,7 @@ ghost use Rattle.tables.specs.Outcome.{replied, tables_left, log_left, out_left}
 ghost use Rattle.reclaiming.specs.Stages.{turn, ended_all, shortened};
 
 use alloc_log::word::append;
-use answer::Answer;
+use answer::{Answer, Refusal};
 use geometry::Geometry;
 use tables::births::{queue_at, queue_births_at, wait_block};
 use tables::cells::{QUEUED, USED};
@@ -25,8 +25,7 @@ fn turn_of(t: &[u32], k: usize) -> usize
     requires { 11 ≤ length t.now }
     ensures { result ≡ turn t.now k }
 {
-    let length = wide(t[QUEUED]);
-    if length < k { length } else { k }
+    k.min(wide(t[QUEUED]))
 }
 
 // Writes the first n blocks of the queue to `out`, each with its birth after it.
@@ -35,12 +34,10 @@ fn list_queued(t: &[u32], g: Geometry, out: &mut [u32], n: usize)
     ensures { out.new ≡ sets out.old 0 (paired (state_of g t.now).queue.birth
         (take n (state_of g t.now).queue.list)) }
 {
-    let mut i: usize = 0;
-    while i < n {
+    for i in 0..n {
         let b = t[queue_at(g) + i];
         out[2 * i] = b;
         out[2 * i + 1] = t[queue_births_at(g) + wide(b)];
-        i += 1;
     }
 }
 
@@ -53,10 +50,8 @@ fn log_frees(t: &mut [u32], log: &mut [u8], out: &[u32], n: usize)
         (bytes_of (map released (blocks_in (take (2 * n) out.now)))) }
 {
     let used = wide(t[USED]);
-    let mut i: usize = 0;
-    while i < n {
+    for i in 0..n {
         append(log, 8 * (used + i), (wide(out[2 * i]) * 16384 + 2) as u64);
-        i += 1;
     }
     t[USED] = (used + n) as u32;
 }
@@ -67,12 +62,10 @@ fn free_queued(t: &mut [u32], g: Geometry, out: &[u32], n: usize)
         × (get_or t.old 11 0 + n ≤ blocks g) }
     ensures { t.new ≡ ended_all g.records (blocks g) t.old (blocks_in (take (2 * n) out.now)) }
 {
-    let mut i: usize = 0;
-    while i < n {
+    for i in 0..n {
         let b = wide(out[2 * i]);
         t[queue_births_at(g) + b] = 0;
         wait_block(t, g, b);
-        i += 1;
     }
 }
 
@@ -81,12 +74,9 @@ fn shorten_queue(t: &mut [u32], g: Geometry, n: usize)
     requires { Roomy g t.old × (n ≤ get_or t.old 10 0) × (get_or t.old 10 0 ≤ blocks g) }
     ensures { t.new ≡ shortened g.records (blocks g) t.old n }
 {
+    let at = queue_at(g);
     let left = wide(t[QUEUED]) - n;
-    let mut i: usize = 0;
-    while i < left {
-        t[queue_at(g) + i] = t[queue_at(g) + n + i];
-        i += 1;
-    }
+    t.copy_within(at + n..at + n + left, at);
     t[QUEUED] = left as u32;
 }
 
@@ -99,19 +89,16 @@ pub fn reclaim(g: Geometry, t: &mut [u32], log: &mut [u8], out: &mut [u32], k: u
     ensures log { log.new ≡ log_left g t.old log.old (Reclaim k) }
     ensures out { out.new ≡ out_left g t.old out.old (Reclaim k) }
 {
-    if k == 0 {
-        return Answer::Refused(19);
-    }
-    if 64 < k {
-        return Answer::Refused(19);
+    if !(1..=64).contains(&k) {
+        return Err(Refusal::BadTurn);
     }
     let n = turn_of(t, wide(k));
     if g.words - wide(t[USED]) < n {
-        return Answer::Refused(14);
+        return Err(Refusal::LogFull);
     }
     list_queued(t, g, out, n);
     log_frees(t, log, out, n);
     free_queued(t, g, out, n);
     shorten_queue(t, g, n);
-    Answer::Done(2 * n)
+    Ok(2 * n)
 }

@@ -9,8 +9,8 @@ use lib.Dec.{eqb, ltb}
 use lib.ListN.{length, get_or, set}
 use lib.Seq.{sets}
 use Rattle.answer.specs.Reply.{accepted, reply_of}
-use Rattle.answer.specs.declared.Answer.{Answer}
-use Rattle.answer.specs.declared.Answer.TheVariants.{Done}
+use Rattle.std.specs.Prelude.{Result, Ok}
+use Rattle.answer.specs.declared.Refusal.{Refusal}
 use Rattle.geometry.specs.declared.Geometry.{Geometry}
 use Rattle.model.specs.View.{View}
 use Rattle.model.specs.Lists.{In, trim, trim_walk}
@@ -78,7 +78,7 @@ unfolding queueing
 noted_same U N l = refl
 
 -- the promises of an S on such slots
-abbrev pub Closed : Geometry → List ℕ → Answer → List ℕ → List ℕ → List ℕ → ℕ → ℕ → ℕ → Type 0
+abbrev pub Closed : Geometry → List ℕ → Result ℕ Refusal → List ℕ → List ℕ → List ℕ → ℕ → ℕ → ℕ → Type 0
 Closed g t a u out out' s f w = (reply_of a out' ≡ closed_reply g t) × ((u ≡ closed_tables g t s f w) × (out' ≡ closed_out g t out))
 
 module _ {g : Geometry} {t : List ℕ} (R : Ready g t) (s f w : ℕ) (C : Closes g t s f w) where
@@ -118,7 +118,7 @@ module _ {g : Geometry} {t : List ℕ} (R : Ready g t) (s f w : ℕ) (C : Closes
     number_is : v ∷ [] ≡ suc K.last ∷ []
     number_is = ap (λ k. k ∷ []) (let z : v ≡ suc K.last = omega (arith, Fields.last_is g t) in z)
 
-    reply_is : reply_of (Done 1) (set out 0 v) ≡ closed_reply g t
+    reply_is : reply_of (Ok 1) (set out 0 v) ≡ closed_reply g t
     unfolding reply_of closed_reply
     reply_is = ap accepted (take_sets out (v ∷ []) 1 refl (omega arith) ∙ number_is)
 
@@ -164,7 +164,7 @@ module _ {g : Geometry} {t : List ℕ} (R : Ready g t) (s f w : ℕ) (C : Closes
       unfolding closed_tables
       bare_tables = (holds_first ready₁).is ∙ sym (ap₂ (λ (U : State) (u : List ℕ). stored g U u) (bare_is ∙ sym says₁) deleted_is)
 
-      pub bare_left : (out : List ℕ) → OutLong g out → (v : ℕ) → v ≡ get_or t 6 0 + 1 → Closed g t (Done 1) t₁ out (set out 0 v) s f w
+      pub bare_left : (out : List ℕ) → OutLong g out → (v : ℕ) → v ≡ get_or t 6 0 + 1 → Closed g t (Ok 1) t₁ out (set out 0 v) s f w
       bare_left out long v ev = (reply_is out long v ev, (bare_tables, out_is out long v ev))
 
     -- ── the line in these tables ──
@@ -250,5 +250,5 @@ module _ {g : Geometry} {t : List ℕ} (R : Ready g t) (s f w : ℕ) (C : Closes
           unfolding closed_tables
           tables_are = (holds_first ready₂).is ∙ ap₂ (λ (U : State) (u : List ℕ). stored g U u) closed_is (e₂ ∙ left_is)
 
-          pub closed_left : (out : List ℕ) → OutLong g out → (v : ℕ) → v ≡ get_or t 6 0 + 1 → Closed g t (Done 1) t₂ out (set out 0 v) s f w
+          pub closed_left : (out : List ℕ) → OutLong g out → (v : ℕ) → v ≡ get_or t 6 0 + 1 → Closed g t (Ok 1) t₂ out (set out 0 v) s f w
           closed_left out long v ev = (reply_is out long v ev, (tables_are, out_is out long v ev))

@@ -7,8 +7,9 @@ use lib.Seq.{sets}
 use borrow.Author.Tests.{leb-false}
 use Rattle.answer.specs.Reply.{Reply, accepted, refused, reply_of}
 use Rattle.answer.specs.Refusal.{leaves, NoneHolds}
-use Rattle.answer.specs.declared.Answer.{Answer}
-use Rattle.answer.specs.declared.Answer.TheVariants as answer
+use Rattle.std.specs.Prelude.{Result, Ok, Err}
+use Rattle.answer.specs.declared.Refusal.{Refusal}
+use Rattle.answer.specs.Number.{number_of}
 use Rattle.answer.proofs.Decided.{decide_accepts}
 use Rattle.geometry.specs.declared.Geometry.{Geometry}
 use Rattle.model.specs.State.{State}
@@ -23,26 +24,24 @@ use Rattle.tables.specs.Ready.{Ready}
 use Rattle.tables.specs.Outcome.{replied, tables_left, out_left}
 use Rattle.tables.proofs.Fields
 use Rattle.tables.proofs.Ranges
-use Rattle.lines.specs.declared.verdict.Verdict.{Verdict}
-use Rattle.lines.specs.declared.verdict.Verdict.TheVariants.{Refused, Accept}
 use Rattle.lines.proofs.Verdicts.{refuses, accepts}
 use Rattle.deleting.proofs.Verdicts.{ready_fine}
 use Rattle.retaining.specs.Verdicts.{first, verdict_on}
 use Rattle.retaining.specs.Closing.{Closes, closed_state, deleted_tables, closed_reply, closed_tables, closed_out}
 use Rattle.retaining.proofs.Closing.{Closed}
 
-module _ {g : Geometry} {t : List ℕ} (R : Ready g t) (n : ℕ) (v : Verdict) (ev : v ≡ verdict_on g t n) where
+module _ {g : Geometry} {t : List ℕ} (R : Ready g t) (n : ℕ) where
   abbrev T : State
   T = state_of g t
 
   -- what the call promises
-  abbrev pub Left : Answer → List ℕ → List ℕ → List ℕ → Type 0
+  abbrev pub Left : Result ℕ Refusal → List ℕ → List ℕ → List ℕ → Type 0
   Left a u out out' = (reply_of a out' ≡ replied g t (Seal n)) × ((u ≡ tables_left g t (Seal n)) × (out' ≡ out_left g t out (Seal n)))
 
-  pub refused_left : (k : ℕ) → v ≡ Refused k → (out : List ℕ) → Left (answer.Refused k) t out out
+  pub refused_left : (k : Refusal) (out : List ℕ) → Err (number_of k) ≡ verdict_on g t n → Left (Err k) t out out
   unfolding replied reply_of tables_left out_left verdict_on
-  refused_left k d out =
-      let a : replied g t (Seal n) ≡ refused k = refuses (first T n) (slot T n) (new_slot T) k (result g T (Seal n)) (sym ev ∙ d) in (
+  refused_left k out e =
+      let a : replied g t (Seal n) ≡ refused (number_of k) = refuses (first T n) (slot T n) (new_slot T) (number_of k) (result g T (Seal n)) (sym e) in (
         sym a,
         (
           sym (ap (λ (r : Reply). leaves r t (stored_by g t (Seal n))) a),
@@ -52,10 +51,10 @@ module _ {g : Geometry} {t : List ℕ} (R : Ready g t) (n : ℕ) (v : Verdict) (
 
   -- ── acceptance ──
 
-  module _ (s f : ℕ) (d : v ≡ Accept s f) where
+  module _ (s f : ℕ) (e : Ok (s, f) ≡ verdict_on g t n) where
     taken : NoneHolds (first T n) × (s ≡ slot T n) × (f ≡ new_slot T)
     unfolding verdict_on
-    taken = accepts (first T n) (slot T n) (new_slot T) s f (sym ev ∙ d)
+    taken = accepts (first T n) (slot T n) (new_slot T) s f (sym e)
 
     asks : Asks (view_of g t) (do_s s)
     unfolding state_of
@@ -98,7 +97,7 @@ module _ {g : Geometry} {t : List ℕ} (R : Ready g t) (n : ℕ) (v : Verdict) (
       unfolding closed_out out_left state_of
       out_is out = sym (ap (λ (r : Reply). leaves r out (sets out 0 (result g T (Seal n)))) told)
 
-      pub closed_left : (a : Answer) (u out out' : List ℕ) → Closed g t a u out out' s f w → Left a u out out'
+      pub closed_left : (a : Result ℕ Refusal) (u out out' : List ℕ) → Closed g t a u out out' s f w → Left a u out out'
       closed_left a u out out' p =
           let P : ℕ → ℕ → ℕ → Type 0 = Closed g t a u out out' in
           let q : P (slot T n) (new_slot T) (window_of T n) =

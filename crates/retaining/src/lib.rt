@@ -1,7 +1,6 @@
 // K: a window on a line. S, and the deletes of its line's window.
 #![tactic(auto)]
 
-pub mod count;
 pub mod line;
 pub mod oldest;
 pub mod verdict;
@@ -13,14 +12,12 @@ ghost use Rattle.tables.specs.Ready.{Ready, OutLong, LinkOf};
 ghost use Rattle.tables.specs.Outcome.{replied, tables_left, out_left};
 ghost use Rattle.retaining.specs.Closing.{Closes, closed_reply, closed_tables, closed_out};
 
-use crate::count::surplus;
 use crate::line::line_of;
 use crate::oldest::delete_oldest;
 use crate::verdict::sealing;
-use answer::Answer;
+use answer::{Answer, Refusal};
 use geometry::Geometry;
 use lines::grow::seal_at;
-use lines::verdict::Verdict;
 use tables::cells::{OPEN, WINDOW};
 use tables::find::wide;
 
@@ -30,20 +27,17 @@ pub fn retain(g: Geometry, t: &mut [u32], number: u32, link: usize, most: u32) -
     ensures reply { (out : List ℕ) → reply_of result out ≡ replied g t.old (Retain number most) }
     ensures tables { t.new ≡ tables_left g t.old (Retain number most) }
 {
-    if most == 0 {
-        return Answer::Refused(15);
-    }
-    if 62 < most {
-        return Answer::Refused(15);
+    if !(1..=62).contains(&most) {
+        return Err(Refusal::BadWindow);
     }
     if link == 0 {
-        return Answer::Refused(8);
+        return Err(Refusal::NoSuchRecord);
     }
     if t[OPEN + (link - 1)] == 0 {
-        return Answer::Refused(9);
+        return Err(Refusal::WrongState);
     }
     t[WINDOW + (link - 1)] = most;
-    Answer::Done(0)
+    Ok(0)
 }
 
 // S on the record in slot s of a line with a window, with the empty slot f: the seal, then the window's deletes.
@@ -56,8 +50,8 @@ fn close(g: Geometry, t: &mut [u32], out: &mut [u32], s: usize, f: usize, window
     let mut line = [0u32; 64];
     let count = line_of(t, g, s, &mut line);
     out[0] = seal_at(t, g, f, s);
-    delete_oldest(g, t, &line, count, surplus(count, window));
-    Answer::Done(1)
+    delete_oldest(g, t, &line, count, count.saturating_sub(window));
+    Ok(1)
 }
 
 // S on the record of that number, with its link: it is sealed, and an open record with its pages follows; then, in a line with a window, the oldest sealed
@@ -68,16 +62,11 @@ pub fn seal(g: Geometry, t: &mut [u32], out: &mut [u32], n: u32, link: usize) ->
     ensures tables { t.new ≡ tables_left g t.old (Seal n) }
     ensures out { out.new ≡ out_left g t.old out.old (Seal n) }
 {
-    let verdict = sealing(t, g, n, link);
-    match verdict {
-        Verdict::Refused(k) => Answer::Refused(k),
-        Verdict::Accept(s, f) => {
-            let window = wide(t[WINDOW + s]);
-            if window != 0 {
-                return close(g, t, out, s, f, window);
-            }
-            out[0] = seal_at(t, g, f, s);
-            Answer::Done(1)
-        }
+    let (s, f) = sealing(t, g, n, link)?;
+    let window = wide(t[WINDOW + s]);
+    if window == 0 {
+        out[0] = seal_at(t, g, f, s);
+        return Ok(1);
     }
+    close(g, t, out, s, f, window)
 }

@@ -30,8 +30,5 @@ pub fn is_bare(t: &[u32], g: Geometry, s: usize) -> bool
     requires { Roomy g t.now × (s < g.records) }
     ensures { result ≡ bare (view_of g t.now) (state_of g t.now).notes.names s }
 {
-    if 0 < t[NAMES + s] {
-        return false;
-    }
-    !is_forked(t, g, s)
+    t[NAMES + s] == 0 && !is_forked(t, g, s)
 }

@@ -16,18 +16,14 @@ pub fn delete_oldest(g: Geometry, t: &mut [u32], line: &[u32; 64], count: usize,
     ensures { t.new ≡ oldest_left g t.old most (get_or line.now 0 0) }
 {
     let mut left = most;
-    let mut i = count - 1;
-    while 0 < i {
-        let s = wide(line[i]);
+    for i in (1..count).rev() {
         if left == 0 {
             return;
         }
+        let s = wide(line[i]);
         if is_bare(t, g, s) {
             delete_record(g, t, s, wide(line[i - 1]) + 1);
             left -= 1;
-            i -= 1;
-        } else {
-            i -= 1;
         }
     }
 }

@@ -1,12 +1,12 @@
 // Reading the script as it comes.
-ghost use Rattle.std.specs.Prelude.{◌≡◌, ◌+◌, ◌≤◌, IfOk, IfSome, None, length, take};
+ghost use Rattle.std.specs.Prelude.{◌≡◌, ◌+◌, ◌≤◌, IfOk, IfSome, length, take};
 ghost use Rattle.runner.specs.Turn.{whole_after, feed_end, part_end};
 
-use crate::sentence::{fail, say};
-use crate::stream::Stream;
+use crate::sentence::say;
+use crate::stream::{Stream, after_failure};
 use std::fs::File;
 use std::io;
-use std::io::{ErrorKind, Read, Stdin};
+use std::io::{Read, Stdin};
 use std::rt::Files;
 
 // How often a call that a signal interrupts is made again.
@@ -19,46 +19,6 @@ fn read_once<S: Read>(input: &mut S, text: &mut [u8], from: usize) -> io::Result
     ensures stays { take from text.new ≡ take from text.old }
 {
     input.read(&mut text[from..])
-}
-
-// Whether to read on after a read that failed; where not, it says why. An input that is set not to wait, and has nothing yet, is
-// opened once more without that setting.
-fn after_failure<R: Files<File = File> + Eprint + Alloc>(
-    rt: &R,
-    input: &mut Stream<Stdin>,
-    error: &io::Error,
-) -> bool {
-    match error.kind() {
-        ErrorKind::Interrupted => true,
-        ErrorKind::WouldBlock => open_again(rt, input),
-        _ => {
-            fail(rt, "standard input", error);
-            false
-        }
-    }
-}
-
-fn open_again<R: Files<File = File> + Eprint>(rt: &R, input: &mut Stream<Stdin>) -> bool {
-    match File::open(rt, "/dev/stdin") {
-        Ok(file) => {
-            *input = Stream::Opened(file);
-            true
-        }
-        Err(_) => {
-            say(
-                rt,
-                "standard input has nothing yet, is set not to wait, and cannot be opened again",
-            );
-            false
-        }
-    }
-}
-
-fn given_up(rt: &impl Eprint) -> Option<usize>
-    ensures { result ≡ None }
-{
-    say(rt, "standard input: interrupted too often");
-    None
 }
 
 // Reads what is there, and waits where nothing is there yet: so many bytes, none at the end of the input. Where that fails, it says
@@ -77,13 +37,22 @@ pub fn read_more<R: Files<File = File> + Eprint + Alloc>(
         match read_once(input, text, from) {
             Ok(more) => return Some(more),
             Err(error) => {
-                if !after_failure(rt, input, &error) {
+                let again = || File::open(rt, "/dev/stdin");
+                if !after_failure(
+                    rt,
+                    input,
+                    &error,
+                    "standard input",
+                    "has nothing yet",
+                    again,
+                ) {
                     return None;
                 }
             }
         }
     }
-    given_up(rt)
+    say(rt, "standard input: interrupted too often");
+    None
 }
 
 // The most bytes of a script that are read.
@@ -93,7 +62,7 @@ pub const MOST: usize = 65536;
 pub fn is_whole(more: usize, all: usize) -> bool
     ensures { result ≡ whole_after more all }
 {
-    (more == 0) | (all == MOST)
+    more == 0 || all == MOST
 }
 
 // What ends a line.
@@ -103,12 +72,10 @@ const FEED: u8 = b'\n';
 fn lines_end(text: &[u8], from: usize) -> usize
     ensures { result ≡ feed_end text.now from (length text.now) }
 {
-    let mut end = text.len();
-    while end > from {
-        if text[end - 1] == FEED {
-            return end;
+    for i in (from..text.len()).rev() {
+        if text[i] == FEED {
+            return i + 1;
         }
-        end -= 1;
     }
     0
 }

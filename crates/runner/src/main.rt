@@ -23,6 +23,7 @@ use std::rt::Files;
 use stream::Stream;
 
 // How far a text is answered, what the run has then, and whether the last replies could not be written.
+// Kept: no `Option`, since the promise of `answer` says where the run stands after a failed write too.
 #[derive(Clone, Copy)]
 struct Answered {
     session: Session,

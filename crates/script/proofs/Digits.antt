@@ -9,16 +9,19 @@ use borrow.Author.Tests.{eq-eqb, ne_eqb, leb-true, eqb-true}
 use lib.ListN.{length, length-append}
 use lib.Dec.{eqb, leb}
 use Rattle.answer.proofs.Cases.{cases, either, lt?, same?}
-use Rattle.script.specs.declared.number.Number.{Number}
+use Rattle.std.specs.Prelude.{Some, None}
 use Rattle.script.specs.Decimal.{decimal}
 use Rattle.script.specs.Parse.{is_digit, digits_from, first_digit, number_from}
 use Rattle.script.proofs.Decimals.{decimal_one, decimal_more, length_decimal}
-use Rattle.script.proofs.Reading.{digits_over, digit_yes}
+use Rattle.script.proofs.Reading.{read, digits_over, digit_yes}
 
-pub read_same : {v w a e : ℕ} → Number.Read v a ≡ Number.Read w e → (v ≡ w) × (a ≡ e)
-read_same p = (cc, cc)
+pub read_same : {v w a e : ℕ} → read v a ≡ read w e → (v ≡ w) × (a ≡ e)
+read_same p = (ap (λ (r : ℕ × ℕ). r.0) p, ap (λ (r : ℕ × ℕ). r.1) p)
 
-pub read_not : {v a : ℕ} → Number.No ≡ Number.Read v a → ⊥
+some_read : {r s : ℕ × ℕ} → Some r ≡ Some s → r ≡ s
+some_read p = cc
+
+pub read_not : {r : ℕ × ℕ} → None ≡ Some r → ⊥
 read_not p = let z : ◌≡◌ {A = ℕ} 0 1 = cc in omega arith
 
 pub digit_range : (b : ℕ) → is_digit b ≡ true → (48 ≤ b) × (b ≤ 57)
@@ -41,7 +44,7 @@ decimal_digit v b h lo hi =
 Spelt : ℕ → List ℕ → ℕ → ℕ → ℕ → Type 0
 Spelt v l at w e = (rest : List ℕ) × (decimal v ++ l ≡ decimal w ++ rest) × (e + length (decimal v) ≡ at + length (decimal w)) × (w < 10_000_000)
 
-spelt_here : (v : ℕ) (l : List ℕ) (at w e : ℕ) → v < 10_000_000 → Number.Read v at ≡ Number.Read w e → Spelt v l at w e
+spelt_here : (v : ℕ) (l : List ℕ) (at w e : ℕ) → v < 10_000_000 → read v at ≡ read w e → Spelt v l at w e
 unfolding Spelt
 spelt_here v l at w e h p =
     let s = read_same p in
@@ -53,7 +56,7 @@ power_small k v h b =
     let p : 10 ^ k ≤ 10 ^ 7 = pow-le-pow_right {n = 10} (omega arith) {i = k} {j = 7} h in
     omega arith
 
-digits_spelt : (l : List ℕ) (v k room at w e : ℕ) → 0 < v → v < 10 ^ k → k + room ≡ 7 → digits_from l v room at ≡ Number.Read w e → Spelt v l at w e
+digits_spelt : (l : List ℕ) (v k room at w e : ℕ) → 0 < v → v < 10 ^ k → k + room ≡ 7 → digits_from l v room at ≡ read w e → Spelt v l at w e
 unfolding digits_from Spelt
 digits_spelt [] v k room at w e h b r p = spelt_here v [] at w e (power_small k v (omega arith) b) p
 digits_spelt (d ∷ l) v k zero at w e h b r p = spelt_here v (d ∷ l) at w e (power_small k v (omega arith) b) p
@@ -70,7 +73,7 @@ digits_spelt (d ∷ l) v k (suc room) at w e h b r p =
     (λ f. spelt_here v (d ∷ l) at w e (power_small k v (omega arith) b) (rw f at p))
 
 -- WHAT IS READ WAS SPELLED: a space and the digits of the number, which is small
-pub number_spelt : (l : List ℕ) (at w e : ℕ) → number_from l at ≡ Number.Read w e
+pub number_spelt : (l : List ℕ) (at w e : ℕ) → number_from l at ≡ Some (read w e)
     → (rest : List ℕ) × (l ≡ 32 ∷ (decimal w ++ rest)) × (e ≡ at + suc (length (decimal w))) × (w < 10_000_000)
 unfolding number_from first_digit Spelt
 number_spelt [] at w e p = absurd (read_not p)
@@ -81,7 +84,7 @@ number_spelt (b ∷ d ∷ l) at w e p =
     let p₁ = rw t at p in
     cases (same? d 48)
     (λ z.
-    let s = read_same (rw (eq-eqb d 48 z) at p₁) in
+    let s = read_same (some_read (rw (eq-eqb d 48 z) at p₁)) in
     let c : decimal w ≡ 48 ∷ [] = rw (← s.0) (decimal_one 0 (omega arith)) in
     (l, rw (c, eqb-true b 32 t, z), rw c (omega (arith, s.1)), omega (arith, s.0)))
     (λ z.
@@ -89,8 +92,9 @@ number_spelt (b ∷ d ∷ l) at w e p =
     cases (either (is_digit d))
     (λ y.
     let g = digit_range d y in
-    let c : decimal (d - 48) ≡ d ∷ [] = let q : 48 + (d - 48) ≡ d = omega (arith, g.0) in decimal_one (d - 48) (omega (arith, g.1)) ∙ ap (λ (x : ℕ). x ∷ []) q in
-    let s = digits_spelt l (d - 48) 1 6 (at + 1 + 1) w e (omega (arith, g.0, z)) (omega (arith, g.1)) refl (rw y at p₂) in
+    let q : 48 + (d - 48) ≡ d = omega (arith, g.0) in
+    let c : decimal (d - 48) ≡ d ∷ [] = decimal_one (d - 48) (omega (arith, g.1)) ∙ ap (λ (x : ℕ). x ∷ []) q in
+    let s = digits_spelt l (d - 48) 1 6 (at + 1 + 1) w e (omega (arith, g.0, z)) (omega (arith, g.1)) refl (some_read (rw y at p₂)) in
     (s.0, rw (eqb-true b 32 t) (ap (λ (x : List ℕ). 32 ∷ (x ++ l)) (sym c) ∙ ap (λ (x : List ℕ). 32 ∷ x) s.1), omega (arith, s.2, ap length c), s.3))
     (λ y. absurd (read_not (rw y at p₂)))))
     (λ f. absurd (read_not (rw f at p)))
@@ -142,22 +146,22 @@ makes (suc k) n h g =
     ))
 
 digits_read : (l rest : List ℕ) (v room at : ℕ) → AllDigits l → Ends rest → length l ≤ room
-    → digits_from (l ++ rest) v room at ≡ Number.Read (value_of v l) (at + length l)
+    → digits_from (l ++ rest) v room at ≡ read (value_of v l) (at + length l)
 unfolding digits_from
-digits_read [] [] v room at a e h = ap (Number.Read v) (sym (add-zero at))
-digits_read [] (b ∷ rest) v room at a e h = digits_over b rest v room at e ∙ ap (Number.Read v) (sym (add-zero at))
+digits_read [] [] v room at a e h = ap (read v) (sym (add-zero at))
+digits_read [] (b ∷ rest) v room at a e h = digits_over b rest v room at e ∙ ap (read v) (sym (add-zero at))
 digits_read (b ∷ l) rest v zero at a e h = absurd (let z : ⊥ = omega arith in z)
 digits_read (b ∷ l) rest v (suc room) at a e h =
     let k : at + 1 + length l ≡ at + suc (length l) = omega arith in
-    rw a.0 (digits_read l rest (v * 10 + (b - 48)) room (at + 1) a.1 e (omega arith) ∙ ap (Number.Read (value_of (v * 10 + (b - 48)) l)) k)
+    rw a.0 (digits_read l rest (v * 10 + (b - 48)) room (at + 1) a.1 e (omega arith) ∙ ap (read (value_of (v * 10 + (b - 48)) l)) k)
 
 -- WHAT IS SPELLED IS READ
 pub number_read : (w : ℕ) (rest : List ℕ) (at : ℕ) → w < 10_000_000 → Ends rest
-    → number_from (32 ∷ (decimal w ++ rest)) at ≡ Number.Read w (at + suc (length (decimal w)))
+    → number_from (32 ∷ (decimal w ++ rest)) at ≡ Some (read w (at + suc (length (decimal w))))
 unfolding number_from first_digit Makes
 number_read zero rest at h e =
     let k : at + 1 + 1 ≡ at + 2 = omega arith in
-    rw (decimal_one 0 (omega arith)) (ap (Number.Read 0) k)
+    rw (decimal_one 0 (omega arith)) (ap (λ (x : ℕ). Some (read 0 x)) k)
 number_read (suc n) rest at h e =
     let w : ℕ = suc n in
     let m = makes w w (omega arith) (omega arith) in
@@ -167,7 +171,8 @@ number_read (suc n) rest at h e =
     let k : at + 1 + 1 + length l ≡ at + suc (length (d ∷ l)) = omega arith in
     let ne : d ≡ 48 → ⊥ = omega (arith, m.3) in
     rw (m.2, ne_eqb d 48 ne, digit_yes d (omega (arith, m.3)) m.4)
-    (digits_read l rest (d - 48) 6 (at + 1 + 1) m.5 e (omega (arith, ap length m.2)) ∙ ap (λ (x : ℕ). Number.Read x (at + 1 + 1 + length l)) m.6 ∙ ap (Number.Read w) k)
+    (ap Some (digits_read l rest (d - 48) 6 (at + 1 + 1) m.5 e (omega (arith, ap length m.2))
+    ∙ ap (λ (x : ℕ). read x (at + 1 + 1 + length l)) m.6 ∙ ap (read w) k))
 
 -- ── decimal digits are what they should be ──
 

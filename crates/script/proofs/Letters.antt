@@ -3,19 +3,18 @@ use mathlib.Core.Path.{◌≡◌, refl, sym, ap, ◌∙◌}
 use Prim.Native.Nat.{ℕ, zero, suc, ◌<◌, ◌≤◌}
 use mathlib.Core.Bool.{Bool, true, false, cond, not, ◌&&◌, true≢false}
 use mathlib.Core.List.{List, [], ◌∷◌}
-use mathlib.Core.Option.{Option, none, some}
+use mathlib.Core.Option.{none, some}
 use native.Mathlib.Omega.{arith}
 use lib.ListN.{length, get_or, take, length-take}
-use lib.Seq.{take_all}
 use lib.Dec.{eqb, leb}
 use borrow.Author.Tests.{eqb-true, eqb-false, ne_eqb, lt-ltb, le-ltb, leb-true}
 use Rattle.answer.proofs.Cases.{cases, either, lt?}
 use Rattle.model.specs.declared.Call.{Call}
 use Rattle.model.specs.declared.Naming.{Naming}
 use Rattle.script.specs.declared.parse.Parsed.{Parsed}
-use Rattle.script.specs.declared.parse.Parsed.TheVariants.{Store}
 use Rattle.script.specs.Letters.{FormOf, bare, one, two, three, table, names, made, call_in, listed, call_of, naming_of}
-use Rattle.script.specs.Parse.{numbers_from, counted, six_of, store_of, says_of, says_by, asks_of, call_line, named_of}
+use Rattle.std.specs.Prelude.{Some, None}
+use Rattle.script.specs.Parse.{numbers_from, counted, says_of, says_by, asks_of, call_line, named_of}
 
 -- ── how many numbers a form takes ──
 
@@ -109,12 +108,6 @@ apart_those : {A : Type 0} (rs : List (ℕ × FormOf A)) (b : ℕ) (bs : List �
 apart_those [] b bs h = h
 apart_those (r ∷ rs) b bs h = (apart_those rs b (r.0 ∷ bs) h).0
 
--- a byte that no row has is not listed
-pub not_listed : {A : Type 0} (rs : List (ℕ × FormOf A)) (b : ℕ) (bs : List ℕ) → Apart (all_letters rs bs) b → false ≡ listed rs b
-unfolding listed
-not_listed [] b bs h = refl
-not_listed (r ∷ rs) b bs h = rw (ne_eqb b r.0 (apart_those rs b (r.0 ∷ bs) h).1) (not_listed rs b (r.0 ∷ bs) h)
-
 none_not : {A : Type 0} {c : A} → none ≡ some c → ⊥
 none_not p = let z : ◌≡◌ {A = ℕ} 0 1 = cc in omega arith
 
@@ -178,19 +171,7 @@ module _ (b : ℕ) (ns : List ℕ) (n : Naming) (is : naming_of b ns ≡ some n)
 
 -- ── lines by the numbers that were read into a buffer ──
 
--- what a line of `store` says
-module _ (r : ℕ) (o : List ℕ) (x : Option (List ℕ)) (long : length o ≡ 6) (e : counted r o ≡ x) where
-  pub store_yes : r ≡ 6 → Store (six_of o) ≡ store_of x
-  store_yes t =
-      let kept : take 6 o ≡ o = take_all 6 o (omega arith) in rw (← e, t, kept, long)
-
-  pub store_no : (r ≡ 6 → ⊥) → Parsed.No ≡ store_of x
-  store_no t =
-      cases (lt? 6 r)
-      (λ h. rw (← e, lt-ltb 6 r h))
-      (λ h. rw (← e, le-ltb 6 r h, ne_eqb (length (take r o)) 6 (omega (arith, length-take r o))))
-
--- what another line says
+-- what a line of a letter and numbers says
 pub call_empty : (l : List ℕ) → length l ≡ 0 → Parsed.No ≡ call_line l
 unfolding call_line
 call_empty [] h = refl
@@ -207,17 +188,14 @@ take_three (x ∷ y ∷ z ∷ o) (suc (suc (suc zero))) h k = refl
 take_three (x ∷ y ∷ z ∷ o) (suc (suc (suc (suc r)))) h k = absurd (let z : ⊥ = omega arith in z)
 
 -- by how many numbers were read
-says_counted : (b r : ℕ) (o : List ℕ) → length o ≡ 6 → says_by b r (get_or o 0 0) (get_or o 1 0) (get_or o 2 0) ≡ asks_of b (counted r o)
+says_counted : (b r : ℕ) (o : List ℕ) → length o ≡ 6 → says_by b r (get_or o 0 0) (get_or o 1 0) (get_or o 2 0) ≡ asks_of b (counted (Some r) o)
 unfolding says_by call_of
 says_counted b r o long =
     cases (lt? 3 r)
-    (λ h.
-    cases (lt? 6 r)
-    (λ k. rw (lt-ltb 3 r h, lt-ltb 6 r k))
-    (λ k. rw (lt-ltb 3 r h, le-ltb 6 r k, call_long table 3 b (take r o) refl (omega (arith, length-take r o)))))
-    (λ h. let k : r ≤ 6 = omega arith in rw (le-ltb 3 r h, le-ltb 6 r k, take_three o r h long))
+    (λ h. rw (lt-ltb 3 r h, call_long table 3 b (take r o) refl (omega (arith, length-take r o))))
+    (λ h. rw (le-ltb 3 r h, take_three o r h long))
 
-pub call_says : (l : List ℕ) (r : ℕ) (o : List ℕ) → (length l ≡ 0 → ⊥) → length o ≡ 6 → counted r o ≡ numbers_from l 1 3 []
+pub call_says : (l : List ℕ) (r : ℕ) (o : List ℕ) → (length l ≡ 0 → ⊥) → length o ≡ 6 → counted (Some r) o ≡ numbers_from l 1 3 []
     → says_by (get_or l 0 0) r (get_or o 0 0) (get_or o 1 0) (get_or o 2 0) ≡ call_line l
 unfolding call_line
 call_says [] r o h k e = absurd (h refl)
@@ -228,6 +206,8 @@ pub says_none : (b n x y z : ℕ) → ((((Unit {0} × (n ≡ 0 → ⊥)) × (n �
 unfolding says_by
 says_none b n x y z h = let more : 3 < n = omega (arith, h.0.0.0.1, h.0.0.1, h.0.1, h.1) in rw (lt-ltb 3 n more)
 
--- as many as a buffer has
-pub counted_few : (n : ℕ) (o : List ℕ) (x : Option (List ℕ)) → n ≤ 6 → x ≡ some (take n o) → counted n o ≡ x
-counted_few n o x h e = rw (le-ltb 6 n h) (sym e)
+-- what follows the letter is no numbers
+pub call_none : (l o : List ℕ) → (length l ≡ 0 → ⊥) → counted None o ≡ numbers_from l 1 3 [] → Parsed.No ≡ call_line l
+unfolding call_line
+call_none [] o h e = absurd (h refl)
+call_none (b ∷ l) o h e = ap (asks_of b) e

@@ -9,7 +9,7 @@ use lib.ListN.{length, take, drop, drop_of_length-le, length-drop}
 use lib.Seq.{slice, take-add, drop_at, drop-drop, length-take-le, drop-cons}
 use lib.Dec.{eqb}
 use Rattle.answer.proofs.Cases.{cases, either, lt?}
-use Rattle.script.specs.declared.reader.Line.TheVariants.{Part, Done}
+use Rattle.std.specs.Prelude.{Some, None}
 use Rattle.script.specs.Lines.{run, line_at, joins, lines_of, walk, ended, NoFeed, NoFeeds}
 
 -- the first line of a text that is not empty, and the lines of what follows it
@@ -110,17 +110,18 @@ run_short (b ∷ l) =
     cases (either (eqb b 10)) (λ t. rw t (omega arith)) (λ f. rw f (omega arith))
 
 -- a line that is found begins where it was looked for, and lies inside the text
-pub part_inside : (text : List ℕ) (at a e : ℕ) → line_at text at ≡ Part a e → (a ≡ at) × (at < length text) × (a ≤ e) × (e ≤ length text)
+pub part_inside : (text : List ℕ) (at a e : ℕ) → line_at text at ≡ Some (a, e) → (a ≡ at) × (at < length text) × (a ≤ e) × (e ≤ length text)
 unfolding line_at
 part_inside text at a e p =
     cases (lt? at (length text))
     (λ h.
-    let q : Part at (at + run (drop at text)) ≡ Part a e = rw (lt-ltb at (length text) h) at p in
-    let x : at ≡ a = cc in
-    let y : at + run (drop at text) ≡ e = cc in
+    let q : Some (at, at + run (drop at text)) ≡ Some (a, e) = rw (lt-ltb at (length text) h) at p in
+    let s : ◌≡◌ {A = ℕ × ℕ} (at, at + run (drop at text)) (a, e) = cc in
+    let x : at ≡ a = ap (λ (l : ℕ × ℕ). l.0) s in
+    let y : at + run (drop at text) ≡ e = ap (λ (l : ℕ × ℕ). l.1) s in
     let r = run_short (drop at text) in
     let l = length-drop at text in
     (sym x, h, omega arith, omega arith))
     (λ h.
-    let q : Done ≡ Part a e = rw (le-ltb at (length text) h) at p in
+    let q : None ≡ Some (a, e) = rw (le-ltb at (length text) h) at p in
     absurd (let z : ◌≡◌ {A = ℕ} 0 1 = cc in let w : ⊥ = omega arith in w))

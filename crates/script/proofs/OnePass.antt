@@ -9,24 +9,18 @@ use native.Mathlib.Omega.{arith}
 use borrow.Author.Tests.{ne_eqb, lt-ltb, le-ltb}
 use lib.ListN.{length, get_or, take, drop, length-append, length-drop}
 use lib.Seq.{slice, drop-cons, take_at, slice_empty}
-use types.Run.{miss}
-use borrow.Enum.Refused.{Among, opened}
-use denote.Enum.Declared.{tag_of}
-use Rattle.script.specs.contracts.parse.Parsed.{the_type}
 use Rattle.answer.proofs.Cases.{cases, lt?}
 use Rattle.model.specs.declared.Call.{Call}
-use Rattle.script.specs.declared.number.Number.{Number}
+use Rattle.std.specs.Prelude.{Some, None}
 use Rattle.script.specs.declared.parse.Parsed.{Parsed}
-use Rattle.script.specs.declared.parse.Parsed.TheVariants.{Store, Asks, Named}
-use Rattle.script.specs.declared.reader.Line.TheVariants.{Part, Done}
+use Rattle.script.specs.declared.parse.Parsed.TheVariants.{Asks}
 use Rattle.script.specs.declared.said.Said.{Said}
-use Rattle.script.specs.declared.said.Near.{Near}
 use Rattle.script.specs.Decimal.{decimal, led, spaced}
 use Rattle.script.specs.Lines.{run, line_at, NoFeed}
 use Rattle.script.specs.Letters.{call_of}
-use Rattle.script.specs.Parse.{number_from, opens, says_of, call_line, parsed}
+use Rattle.script.specs.Parse.{Number, number_from, opens, says_of, call_line, parsed}
 use Rattle.script.specs.Grammar.{AllSmall}
-use Rattle.script.specs.Said.{said_at, Agrees, Tells, near_of}
+use Rattle.script.specs.Said.{Near, said_at, Agrees, Tells, Next, near_of}
 use Rattle.script.proofs.Letters.{letter_not_feed, numbers_few}
 use Rattle.script.proofs.Runs.{run_here, run_end}
 use Rattle.script.proofs.Decimals.{length_decimal}
@@ -78,10 +72,11 @@ module _ (text : List ℕ) where
   unfolding spaced
   stand_none at = record { bytes = refl; ends = omega arith; small = tt }
 
-  pub stand_more : (at v i : ℕ) (ns : List ℕ) (end : ℕ) → Number.Read v i ≡ number_from (drop at text) at → Stand text i ns end → Stand text at (v ∷ ns) end
+  pub stand_more : (at v i : ℕ) (ns : List ℕ) (end : ℕ) → number_from (drop at text) at ≡ Some (v, i) → Stand text i ns end
+      → Stand text at (v ∷ ns) end
   unfolding spaced
   stand_more at v i ns end e s =
-      let n = number_spelt (drop at text) at v i (sym e) in
+      let n = number_spelt (drop at text) at v i e in
       let d : drop i text ≡ n.0 = ap (λ (k : ℕ). drop k text) n.2 ∙ rest_is text at (32 ∷ decimal v) n.0 n.1 in
       record {
         bytes = n.1 ∙ ap (λ (x : List ℕ). 32 ∷ (decimal v ++ x)) (sym d ∙ s.bytes) ∙ ap (λ (x : List ℕ). 32 ∷ x) (sym (append_assoc (decimal v) (spaced ns) (drop end text)));
@@ -119,55 +114,52 @@ module _ (text : List ℕ) (at b : ℕ) (ms : List ℕ) (end : ℕ) (h : at < le
   said_by (some c) is z = call_said c is z
 
   -- what a letter and numbers say up to a line feed, their line says
-  pub call_found : (p : Parsed) (n : Near) → p ≡ says_of (call_of b ms) → n ≡ near_of p end → end < length text → get_or text end 0 ≡ 10 → Tells n (said_at text at)
+  pub call_found : (p : Parsed) (n : Near) → p ≡ says_of (call_of b ms) → n ≡ near_of p end
+      → end < length text → get_or text end 0 ≡ 10 → Tells n (said_at text at)
   call_found p n q r i f = rw (r, q) (said_by (call_of b ms) refl (run_here text end i f))
 
 -- ── what is found in one pass ──
 
--- a letter and numbers that are no call
-pub near_none : (p : Parsed) (e : ℕ) → Among (0 ∷ 2 ∷ 3 ∷ []) (tag_of the_type p) → Near.No ≡ near_of p e
-near_none (Store x) e h = refl
-near_none (Asks c) e h = absurd (miss (0 ∷ 2 ∷ 3 ∷ []) 1 tt (opened h))
-near_none (Named n k) e h = refl
-near_none Parsed.No e h = refl
-
 -- what was read in a short way, taken apart
-pub agrees_read : (r n : Number) (v e most : ℕ) → r ≡ Number.Read v e → Agrees r n most → (Number.Read v e ≡ n) × (e ≤ most)
-agrees_read r n v e most p a = rw p at a
+pub next_read : (text : List ℕ) (from : ℕ) (r : Number) (v e : ℕ) → r ≡ Some (v, e) → Agrees r (number_from (drop from text) from) (from + 5)
+    → Next text from v e
+next_read text from r v e p a = let read = rw p at a in (sym read.0, read.1)
 
 pub agrees_move : (r n m : Number) (k most : ℕ) → n ≡ m → k ≤ most → Agrees r n k → Agrees r m most
-agrees_move (Number.Read v e) n m k most p h a = (a.0 ∙ p, omega (arith, a.1))
-agrees_move Number.No n m k most p h a = tt
+agrees_move (Some read) n m k most p h a = (a.0 ∙ p, omega (arith, a.1))
+agrees_move None n m k most p h a = tt
 
-pub tells_is : (n : Near) (said : Said) (c : Call) (e : ℕ) → n ≡ Near.Asks c e → Tells n said → ◌≡◌ {A = Said} (record { says = Asks c; end = e }) said
+pub tells_is : (n : Near) (said : Said) (c : Call) (e : ℕ) → n ≡ Some (c, e) → Tells n said → ◌≡◌ {A = Said} (record { says = Asks c; end = e }) said
 tells_is n said c e p t = rw p at t
 
 -- ── by the line's end ──
 
 -- no byte is left: there is no line
-pub said_none : (text : List ℕ) (at : ℕ) → Done ≡ line_at text at → ◌≡◌ {A = Said} (record { says = Parsed.No; end = at }) (said_at text at)
+pub said_none : (text : List ℕ) (at : ℕ) → None ≡ line_at text at → ◌≡◌ {A = Said} (record { says = Parsed.No; end = at }) (said_at text at)
 unfolding line_at said_at parsed opens call_line
 said_none text at e =
     cases (lt? at (length text))
     (λ h.
-    let q : Done ≡ Part at (at + run (drop at text)) = rw (lt-ltb at (length text) h) at e in
+    let q : None ≡ Some (at, at + run (drop at text)) = rw (lt-ltb at (length text) h) at e in
     absurd (let z : ◌≡◌ {A = ℕ} 0 1 = cc in let w : ⊥ = omega arith in w))
     (λ h. rw (run_end text at h, add-zero at, slice_empty at text))
 
 -- the line that is found is the one that is read
-pub said_part : (text : List ℕ) (at a e : ℕ) (p : Parsed) → Part a e ≡ line_at text at → p ≡ parsed (take (e - a) (drop a text)) → ◌≡◌ {A = Said} (record { says = p; end = e }) (said_at text at)
+pub said_part : (text : List ℕ) (at a e : ℕ) (p : Parsed) → Some (a, e) ≡ line_at text at → p ≡ parsed (take (e - a) (drop a text))
+    → ◌≡◌ {A = Said} (record { says = p; end = e }) (said_at text at)
 unfolding line_at said_at
 said_part text at a e p f q =
     cases (lt? at (length text))
     (λ h.
-    let g : Part a e ≡ Part at (at + run (drop at text)) = rw (lt-ltb at (length text) h) at f in
-    let x : a ≡ at = cc in
-    let y : e ≡ at + run (drop at text) = cc in
+    let g : Some (a, e) ≡ Some (at, at + run (drop at text)) = rw (lt-ltb at (length text) h) at f in
+    let s : ◌≡◌ {A = ℕ × ℕ} (a, e) (at, at + run (drop at text)) = cc in
+    let x : a ≡ at = ap (λ (l : ℕ × ℕ). l.0) s in
+    let y : e ≡ at + run (drop at text) = ap (λ (l : ℕ × ℕ). l.1) s in
     let n : e - a ≡ run (drop at text) = omega arith in
     let w : take (e - a) (drop a text) ≡ slice at (at + run (drop at text)) text = rw (n, x) (sym (slice_is text at (run (drop at text)) (omega arith))) in
     ap₂ (λ (u : Parsed) (v : ℕ). record { says = u; end = v }) (q ∙ ap parsed w) y)
     (λ h.
-    let g : Part a e ≡ Done = rw (le-ltb at (length text) h) at f in
+    let g : Some (a, e) ≡ None = rw (le-ltb at (length text) h) at f in
     absurd (let z : ◌≡◌ {A = ℕ} 0 1 = cc in let w : ⊥ = omega arith in w))
 
 -- what is said ends inside the text, or where it was looked for
@@ -180,6 +172,6 @@ said_inside text at r e =
     (e, (omega arith, omega arith))
 
 -- the line that is read is the one that the reader meets: so read one behind another, they are the lines of the text
-pub said_line : (text : List ℕ) (at : ℕ) → at < length text → line_at text at ≡ Part at (said_at text at).end
+pub said_line : (text : List ℕ) (at : ℕ) → at < length text → line_at text at ≡ Some (at, (said_at text at).end)
 unfolding line_at said_at
 said_line text at h = rw (lt-ltb at (length text) h)

@@ -13,8 +13,8 @@ use denote.Enum.Declared.{tag_of}
 use Rattle.alloc_log.specs.Word.{write_at}
 use Rattle.alloc_log.proofs.Writing.{length_write, write_none, write_write}
 use Rattle.answer.proofs.Cases.{cases, lt?}
-use Rattle.answer.specs.declared.Answer.{Answer}
-use Rattle.answer.specs.declared.Answer.TheVariants.{Done}
+use Rattle.std.specs.Prelude.{Result, Ok}
+use Rattle.answer.specs.declared.Refusal.{Refusal}
 use Rattle.model.specs.declared.Call.{Call}
 use Rattle.model.specs.declared.Call.TheVariants.{Begin, Write, Erase, Seal, Fork, Delete, Read, Barrier, Compress, FreeList, Estimate, Retain, Reclaim}
 use Rattle.model.specs.declared.Spelling.{Spelling}
@@ -150,6 +150,15 @@ module _ (d : List ℕ) (at : ℕ) (whole : List ℕ) where
   left_none t end rest l e =
       (omega (arith, l.reaches, ap length e), sym (write_none t end) ∙ ap (write_at t end) (sym e) ∙ l.written)
 
+-- the first of the numbers that are left, and those after it
+pub numbers_left : (l : List ℕ) (i : ℕ) → i < length l → spaced (drop i l) ≡ led 32 (get_or l i 0) ++ spaced (drop (i + 1) l)
+unfolding spaced led
+numbers_left l i k = rw (add-one, drop-cons l i 0 k)
+
+pub numbers_over : (l : List ℕ) (i : ℕ) → length l ≤ i → spaced (drop i l) ≡ []
+unfolding spaced
+numbers_over l i k = rw (drop_of_length-le l k)
+
 module _ (out : List ℕ) (n : ℕ) (h : n ≤ length out) where
   left_first : (i : ℕ) → i < n → drop i (take n out) ≡ get_or out i 0 ∷ drop (i + 1) (take n out)
   left_first i k =
@@ -158,15 +167,6 @@ module _ (out : List ℕ) (n : ℕ) (h : n ≤ length out) where
 
   left_over : (i : ℕ) → n ≤ i → drop i (take n out) ≡ []
   left_over i k = drop_of_length-le (take n out) {i = i} (omega (arith, length-take-le n out h))
-
-  -- the first of the numbers that are left, and those behind it
-  pub numbers_left : (i : ℕ) → i < n → spaced (drop i (take n out)) ≡ led 32 (get_or out i 0) ++ spaced (drop (i + 1) (take n out))
-  unfolding spaced led
-  numbers_left i k = rw (left_first i k)
-
-  pub numbers_over : (i : ℕ) → n ≤ i → spaced (drop i (take n out)) ≡ []
-  unfolding spaced
-  numbers_over i k = rw (left_over i k)
 
   -- the first of the blocks that are left with its birth, and those behind it
   pub blocks_left : (i : ℕ) → i + 1 < n → items_text (born_in (drop i (take n out)))
@@ -206,11 +206,11 @@ put_line d d' b at end s h e w =
     let l = length-append s (10 ∷ []) in
     (omega arith, set_behind d d' at end 10 (b ∷ s) (w ∙ set_ahead d at b s (omega arith)) (omega arith) h)
 
-pub room_done : {text out : List ℕ} {at n : ℕ} {answer : Answer} → Room text at answer out → answer ≡ Done n
+pub room_done : {text out : List ℕ} {at n : ℕ} {answer : Result ℕ Refusal} → Room text at answer out → answer ≡ Ok n
     → (at + 12 * n + 16 ≤ length text) × (n ≤ length out)
 room_done room e = (rw e at room.fits, rw e at room.gives)
 
-pub room_any : {text out : List ℕ} {at : ℕ} {answer : Answer} → Room text at answer out → at + 16 ≤ length text
+pub room_any : {text out : List ℕ} {at : ℕ} {answer : Result ℕ Refusal} → Room text at answer out → at + 16 ≤ length text
 room_any room = let h = room.fits in omega arith
 
 -- a line that asks no call is answered in numbers

@@ -14,13 +14,13 @@ use Rattle.answer.proofs.Cases.{cases, either}
 use Rattle.model.specs.declared.Call.{Call}
 use Rattle.model.specs.declared.Naming.{Naming}
 use Rattle.model.specs.Command.{Command, command, command_on}
-use Rattle.script.specs.declared.number.Number.{Number}
+use Rattle.std.specs.Prelude.{Some, None}
 use Rattle.script.specs.declared.parse.Six.{Six}
 use Rattle.script.specs.declared.parse.Parsed.{Parsed}
 use Rattle.script.specs.declared.parse.Parsed.TheVariants.{Store, Asks, Named}
 use Rattle.script.specs.Decimal.{decimal, spaced}
 use Rattle.script.specs.Letters.{call_of, naming_of}
-use Rattle.script.specs.Parse.{on_number, number_from, numbers_from, opens, store, six_of, store_of, says_of, asks_of, call_line, parsed}
+use Rattle.script.specs.Parse.{Number, on_number, number_from, numbers_from, opens, store, six_of, store_of, says_of, asks_of, call_line, parsed}
 use Rattle.script.specs.Parse.{opens_name, name_run, named_of, names_of, name_line}
 use Rattle.script.specs.Spoken.{Spoken, makes, asks, nothing, spoken_at, spoken}
 use Rattle.script.specs.Grammar.{six_numbers, AllSmall, NoSpace, IsName, Signs, NameSigns, ByNumbers, ByName, Spelled}
@@ -54,13 +54,15 @@ told_more : (line : List ℕ) (at n : ℕ) (bs ns : List ℕ) (x : Number) → n
     → on_number x (λ v e. numbers_from line e n (bs ++ (v ∷ []))) ≡ some ns
     → ((e v : ℕ) → numbers_from line e n (bs ++ (v ∷ [])) ≡ some ns → Told line e (bs ++ (v ∷ [])) ns) → Told line at bs ns
 unfolding Told spaced
-told_more line at n bs ns (Number.Read v e) r p ih =
+told_more line at n bs ns (Some read) r p ih =
+    let v = read.0 in
+    let e = read.1 in
     let s = number_spelt (drop at line) at v e r in
     let t = ih e v p in
     let d : drop e line ≡ s.0 = ap (λ (k : ℕ). drop k line) s.2 ∙ rest_is line at (32 ∷ decimal v) s.0 s.1 in
     let ms = t.0 in
     (v ∷ ms, t.1 ∙ append_assoc bs (v ∷ []) ms, s.1 ∙ ap (λ (x : List ℕ). 32 ∷ (decimal v ++ x)) (sym d ∙ t.2), (s.3, t.3))
-told_more line at n bs ns Number.No r p ih = absurd (none_not p)
+told_more line at n bs ns None r p ih = absurd (none_not p)
 
 told : (line : List ℕ) (at n : ℕ) (bs ns : List ℕ) → numbers_from line at n bs ≡ some ns → Told line at bs ns
 unfolding numbers_from
@@ -91,7 +93,7 @@ numbers_read line at (suc n) bs (x ∷ ms) m h e s =
     let end : ℕ = at + suc (length (decimal x)) in
     let long = length-append (decimal x) (spaced ms) in
     let k : end ≤ length line = omega (arith, length-drop at line, ap length e) in
-    let read : Number.Read x end ≡ number_from (drop at line) at = rw (e, number_read x (spaced ms) at s.0 (spaced_ends ms)) in
+    let read : number_from (drop at line) at ≡ Some (x, end) = rw (e, number_read x (spaced ms) at s.0 (spaced_ends ms)) in
     numbers_more line at (suc n) n bs refl (λ q. let z : ⊥ = omega arith in z) x end read
     ∙ numbers_read line end n (bs ++ (x ∷ [])) ms (omega arith) k d s.1
     ∙ ap some (append_assoc bs (x ∷ []) ms)

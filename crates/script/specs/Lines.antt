@@ -1,21 +1,19 @@
 -- "one a line .. ended by a line feed or the end of input; nothing behind the last line feed is no line." (10.1)
-use Rattle.std.specs.Prelude.{ℕ, zero, suc, ◌+◌, Bool, true, false, cond, List, [], ◌∷◌, ◌++◌, ◌≡◌, length, drop, eqb, ltb}
+use Rattle.std.specs.Prelude.{ℕ, zero, suc, ◌+◌, cond, List, [], ◌∷◌, ◌++◌, ◌≡◌, length, drop, eqb, ltb, Option, Some, None}
 use Rattle.std.proofs.Math.Seq.{slice}
-use Rattle.script.specs.declared.reader.Line.{Line}
-use Rattle.script.specs.declared.reader.Line.TheVariants.{Part, Done}
 
 -- how many bytes stand before the first line feed, or the end
 unfoldable pub run : List ℕ → ℕ
 run [] = 0
 run (b ∷ l) = cond (eqb b 10) 0 (suc (run l))
 
-abbrev pub pick_line : Bool → Line → Line → Line
-pick_line true a b = a
-pick_line false a b = b
+-- the start and the end of a line, or none
+abbrev pub Line : Type 0
+Line = Option (ℕ × ℕ)
 
--- the start and end of the line at a position, or that no byte is left
+-- the line at a position, or none where no byte is left
 unfoldable pub line_at : List ℕ → ℕ → Line
-line_at text at = pick_line (ltb at (length text)) (Part at (at + run (drop at text))) Done
+line_at text at = cond (ltb at (length text)) (Some (at, at + run (drop at text))) None
 
 -- a byte in front of lines joins the first
 abbrev pub joins : ℕ → List (List ℕ) → List (List ℕ)
@@ -28,8 +26,8 @@ lines_of [] = []
 lines_of (b ∷ l) = cond (eqb b 10) ([] ∷ lines_of l) (joins b (lines_of l))
 
 abbrev pub on_line : Line → (ℕ → ℕ → List (List ℕ)) → List (List ℕ)
-on_line (Part s e) f = f s e
-on_line Done f = []
+on_line (Some line) f = f line.0 line.1
+on_line None f = []
 
 -- the lines that a reader meets from a position on, each behind the line feed of the one before; at most n of them
 unfoldable pub walk : ℕ → List ℕ → ℕ → List (List ℕ)

@@ -2,10 +2,10 @@
 -- or a call's letter and its numbers, to the line's end; or a letter, a name and its numbers: "In a script a name is any run of one or more bytes without
 -- a space." (order 6)
 use Rattle.std.specs.Prelude.{ℕ, zero, suc, ◌+◌, ◌-◌, ◌*◌, Bool, true, false, cond, ◌&&◌, List, [], ◌∷◌, ◌++◌, length, get_or, take, drop, eqb, leb, ltb}
+use Rattle.std.specs.Prelude.{Option as Maybe, Some, None}
 use Rattle.std.proofs.Math.Option.{Option, none, some}
 use Rattle.model.specs.declared.Call.{Call}
 use Rattle.model.specs.declared.Naming.{Naming}
-use Rattle.script.specs.declared.number.Number.{Number}
 use Rattle.script.specs.declared.parse.Six.{Six}
 use Rattle.script.specs.declared.parse.Parsed.{Parsed}
 use Rattle.script.specs.declared.parse.Parsed.TheVariants.{Store, Asks, Named}
@@ -14,25 +14,30 @@ use Rattle.script.specs.Letters.{names, listed, call_of, naming_of}
 abbrev pub is_digit : ℕ → Bool
 is_digit b = leb 48 b && leb b 57
 
--- the digits at the head of a list, at most `room` of them, behind those of `value`; `at` is the list's position in its line
-unfoldable pub digits_from : List ℕ → ℕ → ℕ → ℕ → Number
-digits_from [] value room at = Number.Read value at
-digits_from (b ∷ l) value zero at = Number.Read value at
-digits_from (b ∷ l) value (suc room) at = cond (is_digit b) (digits_from l (value * 10 + (b - 48)) room (at + 1)) (Number.Read value at)
+-- the digits at the head of a list, at most `room` of them, after those of `value`; `at` is the list's position in its line. The number, and the position
+-- after it
+unfoldable pub digits_from : List ℕ → ℕ → ℕ → ℕ → ℕ × ℕ
+digits_from [] value room at = (value, at)
+digits_from (b ∷ l) value zero at = (value, at)
+digits_from (b ∷ l) value (suc room) at = cond (is_digit b) (digits_from l (value * 10 + (b - 48)) room (at + 1)) (value, at)
+
+-- a number that was read and the position after it, or none
+abbrev pub Number : Type 0
+Number = Maybe (ℕ × ℕ)
 
 -- "1 to 7 digits, no leading zero but 0 itself" (10.4)
 unfoldable pub first_digit : List ℕ → ℕ → Number
-first_digit [] at = Number.No
-first_digit (b ∷ l) at = cond (eqb b 48) (Number.Read 0 (at + 1)) (cond (is_digit b) (digits_from l (b - 48) 6 (at + 1)) Number.No)
+first_digit [] at = None
+first_digit (b ∷ l) at = cond (eqb b 48) (Some (0, at + 1)) (cond (is_digit b) (Some (digits_from l (b - 48) 6 (at + 1))) None)
 
--- a number behind a single space, and the position behind it
+-- a number after a single space, and the position after it
 unfoldable pub number_from : List ℕ → ℕ → Number
-number_from [] at = Number.No
-number_from (b ∷ l) at = cond (eqb b 32) (first_digit l (at + 1)) Number.No
+number_from [] at = None
+number_from (b ∷ l) at = cond (eqb b 32) (first_digit l (at + 1)) None
 
 abbrev pub on_number : Number → (ℕ → ℕ → Option (List ℕ)) → Option (List ℕ)
-on_number (Number.Read value at) f = f value at
-on_number Number.No f = none
+on_number (Some read) f = f read.0 read.1
+on_number None f = none
 
 abbrev pub gave : Bool → List ℕ → Option (List ℕ)
 gave t ns = cond t (some ns) none
@@ -43,9 +48,10 @@ numbers_from line at zero before = gave (eqb at (length line)) before
 numbers_from line at (suc n) before =
     cond (eqb at (length line)) (some before) (on_number (number_from (drop at line) at) (λ value end. numbers_from line end n (before ++ (value ∷ []))))
 
--- numbers in a buffer by their count; 7 is the count of none
-abbrev pub counted : ℕ → List ℕ → Option (List ℕ)
-counted n ns = cond (ltb 6 n) none (some (take n ns))
+-- numbers in a buffer by their count, if there is one
+abbrev pub counted : Maybe ℕ → List ℕ → Option (List ℕ)
+counted (Some n) ns = some (take n ns)
+counted None ns = none
 
 -- whether a line begins with a word
 unfoldable pub opens : List ℕ → List ℕ → Bool

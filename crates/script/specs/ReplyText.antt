@@ -1,8 +1,8 @@
 -- "Output per line: `+` and the result's numbers, or `-` and the refusal, single spaces." (10.6) A block and its birth are "printed with a colon, as 0:1" (3.13).
 use Rattle.std.specs.Prelude.{ℕ, ◌+◌, ◌-◌, ◌*◌, ◌≤◌, ◌≡◌, Bool, true, false, cond, not, ◌&&◌, List, [], ◌∷◌, ◌++◌, length, eqb}
 use Rattle.std.proofs.Math.Option.{Option, none, some}
-use Rattle.answer.specs.declared.Answer.{Answer}
-use Rattle.answer.specs.declared.Answer.TheVariants.{Done, Refused}
+use Rattle.std.specs.Prelude.{Result, Ok, Err}
+use Rattle.answer.specs.declared.Refusal.{Refusal}
 use Rattle.answer.specs.Reply.{Reply, accepted, refused}
 use Rattle.model.specs.declared.Spelling.{Spelling}
 use Rattle.model.specs.declared.Spelling.TheVariants.{Numbers, Blocks}
@@ -43,12 +43,12 @@ spelling_of (Named n e) = Numbers
 spelling_of No = Numbers
 
 -- how many numbers an answer gives
-abbrev pub given : Answer → ℕ
-given (Done n) = n
-given (Refused k) = 0
+abbrev pub given : Result ℕ Refusal → ℕ
+given (Ok n) = n
+given (Err r) = 0
 
 -- room for a reply behind the first `at` bytes of a text, and its numbers in the result buffer
-pub record Room (text : List ℕ) (at : ℕ) (answer : Answer) (out : List ℕ) : Type 0 where
+pub record Room (text : List ℕ) (at : ℕ) (answer : Result ℕ Refusal) (out : List ℕ) : Type 0 where
   pub fits : at + 12 * given answer + 16 ≤ length text
   pub gives : given answer ≤ length out
 

@@ -1,10 +1,11 @@
 // What a line says.
-ghost use Rattle.std.specs.Prelude.{◌≡◌, ◌+◌, ◌≤◌, ◌<◌, [], ◌∷◌, length, drop};
+ghost use Rattle.std.specs.Prelude.{◌≡◌, ◌≤◌, [], ◌∷◌, length, IfSome};
 ghost use Rattle.script.specs.Letters.{names, listed, call_of, naming_of};
 ghost use Rattle.script.specs.Parse.{numbers_from, counted, opens, store, store_of, says_of, says_by, call_line, parsed};
-ghost use Rattle.script.specs.Parse.{opens_name, name_run, named_of, named_by, name_line};
+ghost use Rattle.script.specs.Parse.{opens_name, named_of, named_by, name_line};
 
-use crate::number::{Number, number_at};
+use crate::number::number_at;
+use crate::reader::run_to;
 use model::{Call, Naming};
 
 // The six numbers of a store line.
@@ -18,6 +19,7 @@ pub struct Six {
     pub words: u32,
 }
 
+// Kept: an `Option` of these would be no plainer: there are three kinds of line, and `No` is the fourth answer of one question.
 #[derive(Clone, Copy)]
 pub enum Parsed {
     Store(Six),
@@ -31,59 +33,47 @@ pub enum Parsed {
 fn opens_store(line: &[u8]) -> bool
     ensures { result ≡ opens store line.now }
 {
-    let word = b"store";
-    if line.len() < 5 {
-        return false;
-    }
-    let mut i: usize = 0;
-    while i < 5 {
-        if line[i] != word[i] {
-            return false;
-        }
-        i += 1;
-    }
-    true
+    line.starts_with(b"store")
 }
 
-// Reads the numbers from a position to the line's end, at most as many as asked; returns how many they are, 7 where the line has anything else.
-fn numbers_at(line: &[u8], from: usize, most: usize, out: &mut [u32; 6]) -> usize
+// Reads the numbers from a position to the line's end, at most as many as asked; returns how many they are, none where the line has anything else.
+fn numbers_at(line: &[u8], from: usize, most: usize, out: &mut [u32; 6]) -> Option<usize>
     requires { (most ≤ 6) × (length out.old ≡ 6) }
     ensures is { counted result out.new ≡ numbers_from line.now from most [] }
+    ensures few { IfSome result (λ n. n ≤ most) }
     ensures long { length out.new ≡ 6 }
 {
     let mut at = from;
-    let mut i: usize = 0;
-    while at != line.len() {
-        if most <= i {
-            return 7;
+    for i in 0..most {
+        if at == line.len() {
+            return Some(i);
         }
-        let read = number_at(line, at);
-        let Number::Read(value, end) = read else {
-            return 7;
-        };
+        let (value, end) = number_at(line, at)?;
         out[i] = value;
         at = end;
-        i += 1;
     }
-    i
+    if at != line.len() {
+        return None;
+    }
+    Some(most)
 }
 
-// The six numbers of a store line, behind its five letters.
+// The six numbers of a store line, after its five letters.
 fn store_line(line: &[u8]) -> Parsed
     ensures { result ≡ store_of (numbers_from line.now 5 6 []) }
 {
     let mut n = [0u32; 6];
-    if numbers_at(line, 5, 6, &mut n) == 6 {
-        return Parsed::Store(Six {
-            arenas: n[0],
-            per: n[1],
-            pages: n[2],
-            records: n[3],
-            turn: n[4],
-            words: n[5],
-        });
+    if numbers_at(line, 5, 6, &mut n) != Some(6) {
+        return Parsed::No;
     }
-    Parsed::No
+    Parsed::Store(Six {
+        arenas: n[0],
+        per: n[1],
+        pages: n[2],
+        records: n[3],
+        turn: n[4],
+        words: n[5],
+    })
 }
 
 // The calls of a letter alone. Each call of the table has its arm in one of four functions, the one that its numbers choose.
@@ -152,11 +142,13 @@ pub fn call_of(letter: u8, count: usize, x: u32, y: u32, z: u32) -> Parsed
 fn call_line(line: &[u8]) -> Parsed
     ensures { result ≡ call_line line.now }
 {
-    if line.len() == 0 {
+    if line.is_empty() {
         return Parsed::No;
     }
     let mut n = [0u32; 6];
-    let count = numbers_at(line, 1, 3, &mut n);
+    let Some(count) = numbers_at(line, 1, 3, &mut n) else {
+        return Parsed::No;
+    };
     call_of(line[0], count, n[0], n[1], n[2])
 }
 
@@ -164,38 +156,14 @@ fn call_line(line: &[u8]) -> Parsed
 fn has_name(letter: u8) -> bool
     ensures { result ≡ listed names letter }
 {
-    match letter {
-        b'N' => true,
-        b'U' => true,
-        b'M' => true,
-        _ => false,
-    }
+    matches!(letter, b'N' | b'U' | b'M')
 }
 
 // Whether the line begins with such a letter.
 fn opens_name(line: &[u8]) -> bool
     ensures { result ≡ opens_name line.now }
 {
-    if line.len() == 0 {
-        return false;
-    }
-    has_name(line[0])
-}
-
-// The end of the name at a position: the next space, or the line's end.
-fn name_end(line: &[u8], at: usize) -> usize
-    requires { at ≤ length line.now }
-    ensures is { result ≡ at + name_run (drop at line.now) }
-    ensures range { (at ≤ result) × (result ≤ length line.now) }
-{
-    let mut i = at;
-    while i < line.len() {
-        if line[i] == 32 {
-            return i;
-        }
-        i += 1;
-    }
-    i
+    !line.is_empty() && has_name(line[0])
 }
 
 // The calls of a letter and a name. Each call of the table has its arm in one of two functions, the one that its numbers choose.
@@ -235,18 +203,17 @@ fn name_line(line: &[u8]) -> Parsed
     requires { length line.now ≤ 80 }
     ensures { result ≡ name_line line.now }
 {
-    if line.len() < 3 {
+    if line.len() < 3 || line[1] != b' ' {
         return Parsed::No;
     }
-    if line[1] != 32 {
-        return Parsed::No;
-    }
-    let end = name_end(line, 2);
+    let end = 2 + run_to(&line[2..], b' ');
     if end == 2 {
         return Parsed::No;
     }
     let mut n = [0u32; 6];
-    let count = numbers_at(line, end, 3, &mut n);
+    let Some(count) = numbers_at(line, end, 3, &mut n) else {
+        return Parsed::No;
+    };
     naming_of(line[0], end as u32, count, n[0])
 }
 

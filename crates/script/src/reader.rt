@@ -1,6 +1,7 @@
 // A script reader: a text, and how far it has been read.
-ghost use Rattle.std.specs.Prelude.{◌≡◌, ◌+◌, ◌≤◌, length, drop};
-ghost use Rattle.script.specs.Lines.{run, line_at};
+ghost use Rattle.std.specs.Prelude.{◌≡◌, ◌≤◌, ◌==◌, length};
+ghost use Rattle.std.specs.List.{position_or_len};
+ghost use Rattle.script.specs.Lines.{line_at};
 
 #[derive(Drop)]
 pub struct Script<'a> {
@@ -8,37 +9,23 @@ pub struct Script<'a> {
     pub at: usize,
 }
 
-#[derive(Clone, Copy)]
-pub enum Line {
-    // The line from a start to an end.
-    Part(usize, usize),
-    Done,
-}
-
-// The end of the line that starts at a position.
-fn line_end(text: &[u8], at: usize) -> usize
-    requires { at ≤ length text.now }
-    ensures { result ≡ at + run (drop at text.now) }
+// How many bytes stand before the first such byte, or before the end where there is none.
+pub fn run_to(text: &[u8], mark: u8) -> usize
+    ensures is { result ≡ position_or_len (λ b. b == mark) text.now }
+    ensures bound { result ≤ length text.now }
 {
-    let mut i = at;
-    while i < text.len() {
-        if text[i] == 10 {
-            return i;
-        }
-        i += 1;
-    }
-    i
+    text.iter().position(|b| *b == mark).unwrap_or(text.len())
 }
 
-// The work: the line at a position of a text.
-pub fn line_at(text: &[u8], at: usize) -> Line
+// The work: the start and the end of the line at a position of a text, or none where no byte is left.
+pub fn line_at(text: &[u8], at: usize) -> Option<(usize, usize)>
     ensures { result ≡ line_at text.now at }
 {
     if at < text.len() {
-        let end = line_end(text, at);
-        return Line::Part(at, end);
+        let end = at + run_to(&text[at..], b'\n');
+        return Some((at, end));
     }
-    Line::Done
+    None
 }
 
 // A reader of a text from a position on.
@@ -49,14 +36,14 @@ pub fn open<'a>(text: &'a [u8], at: usize) -> Script<'a>
 }
 
 // The line at the reader's position.
-pub fn next<'a>(s: Script<'a>) -> Line
+pub fn next<'a>(s: Script<'a>) -> Option<(usize, usize)>
     ensures { result ≡ line_at s.entry.text.now s.entry.at }
 {
     line_at(s.text, s.at)
 }
 
 // The same from plain parameters: whoever calls this one needs no walk.
-pub fn line_from(text: &[u8], at: usize) -> Line
+pub fn line_from(text: &[u8], at: usize) -> Option<(usize, usize)>
     ensures { result ≡ line_at text.now at }
 {
     next(open(text, at))

@@ -10,17 +10,17 @@ use crate::parse::Parsed;
 use answer::Answer;
 use model::{Call, Spelling};
 
-// Writes a number's digits at a position; returns the position behind them.
+// Writes a number's digits at a position; returns the position after them.
 fn put_digits(text: &mut [u8], at: usize, n: u32) -> usize
     requires { at + length (decimal n) ≤ length text.old }
     ensures { (result ≡ at + length (decimal n)) × (text.new ≡ write_at text.old at (decimal n)) }
 {
     if n < 10 {
-        text[at] = 48 + n as u8;
+        text[at] = b'0' + n as u8;
         return at + 1;
     }
     let end = put_digits(text, at, n / 10);
-    text[end] = 48 + (n % 10) as u8;
+    text[end] = b'0' + (n % 10) as u8;
     end + 1
 }
 
@@ -39,32 +39,32 @@ fn width_of(n: u32) -> usize
     4
 }
 
-// Fixed point with 32 bits behind the point: one, and a thousandth, rounded up.
+// Fixed point with 32 bits after the point: one, and a thousandth, rounded up.
 const ONE: u64 = 4294967296;
 
 const THOUSANDTH: u64 = 4294968;
 
 // Writes a separator and a number of two to four digits with no branch. A thousandth of the number has its thousands in front of the point, and ten times
-// what is left behind the point has the next digit there. A thousand or a hundred that is not there is written over by the digit behind it.
+// what is left after the point has the next digit there. A thousand or a hundred that is not there is written over by the digit after it.
 fn put_few(text: &mut [u8], at: usize, separator: u8, n: u32) -> usize
     requires { (10 ≤ n) × (n < 10000) × (at + 11 ≤ length text.old) }
     ensures { (result ≡ at + length (led separator n)) × (result ≤ at + 11) × (text.new ≡ write_at text.old at (led separator n)) }
 {
     let width = width_of(n);
     let last = at + width;
-    let thousands = n as u64 * THOUSANDTH;
+    let thousands = u64::from(n) * THOUSANDTH;
     let hundreds = thousands % ONE * 10;
     let tens = hundreds % ONE * 10;
     let ones = tens % ONE * 10;
     text[at] = separator;
-    text[at + 1] = 48 + (thousands / ONE) as u8;
-    text[at + 1 + width / 4] = 48 + (hundreds / ONE) as u8;
-    text[last - 1] = 48 + (tens / ONE) as u8;
-    text[last] = 48 + (ones / ONE) as u8;
+    text[at + 1] = b'0' + (thousands / ONE) as u8;
+    text[at + 1 + width / 4] = b'0' + (hundreds / ONE) as u8;
+    text[last - 1] = b'0' + (tens / ONE) as u8;
+    text[last] = b'0' + (ones / ONE) as u8;
     last + 1
 }
 
-// Writes a separator and a number at a position; returns the position behind them. Block numbers have at most four digits.
+// Writes a separator and a number at a position; returns the position after them. Block numbers have at most four digits.
 fn put_number(text: &mut [u8], at: usize, separator: u8, n: u32) -> usize
     requires { at + 11 ≤ length text.old }
     ensures { (result ≡ at + length (led separator n)) × (result ≤ at + 11) × (text.new ≡ write_at text.old at (led separator n)) }
@@ -77,20 +77,18 @@ fn put_number(text: &mut [u8], at: usize, separator: u8, n: u32) -> usize
         return put_few(text, at, separator, n);
     }
     text[at] = separator;
-    text[at + 1] = 48 + n as u8;
+    text[at + 1] = b'0' + n as u8;
     at + 2
 }
 
-// Writes the first n numbers of `out`, each behind a space; returns the position behind them.
+// Writes the first n numbers of `out`, each after a space; returns the position after them.
 fn put_numbers(text: &mut [u8], at: usize, out: &[u32], n: usize) -> usize
     requires { (n ≤ length out.now) × (at + 11 * n ≤ length text.old) }
     ensures { (result ≡ at + length (spaced (take n out.now))) × (result ≤ at + 11 * n) × (text.new ≡ write_at text.old at (spaced (take n out.now))) }
 {
     let mut end = at;
-    let mut i: usize = 0;
-    while i < n {
-        end = put_number(text, end, 32, out[i]);
-        i += 1;
+    for x in &out[..n] {
+        end = put_number(text, end, b' ', *x);
     }
     end
 }
@@ -98,14 +96,13 @@ fn put_numbers(text: &mut [u8], at: usize, out: &[u32], n: usize) -> usize
 // Writes the blocks among the first n numbers of `out`, each after a space and with its birth after a colon; returns the position after them.
 fn put_blocks(text: &mut [u8], at: usize, out: &[u32], n: usize) -> usize
     requires { (n ≤ length out.now) × (at + 11 * n ≤ length text.old) }
-    ensures { (result ≡ at + length (items_text (born_in (take n out.now)))) × (result ≤ at + 11 * n) × (text.new ≡ write_at text.old at (items_text (born_in (take n out.now)))) }
+    ensures { (result ≡ at + length (items_text (born_in (take n out.now)))) × (result ≤ at + 11 * n)
+        × (text.new ≡ write_at text.old at (items_text (born_in (take n out.now)))) }
 {
     let mut end = at;
-    let mut i: usize = 0;
-    while i + 1 < n {
-        end = put_number(text, end, 32, out[i]);
-        end = put_number(text, end, 58, out[i + 1]);
-        i += 2;
+    for i in 0..n / 2 {
+        end = put_number(text, end, b' ', out[2 * i]);
+        end = put_number(text, end, b':', out[2 * i + 1]);
     }
     end
 }
@@ -114,16 +111,14 @@ fn put_blocks(text: &mut [u8], at: usize, out: &[u32], n: usize) -> usize
 fn is_blocks(spelling: Spelling) -> bool
     ensures { result ≡ is_blocks spelling }
 {
-    match spelling {
-        Spelling::Numbers => false,
-        Spelling::Blocks => true,
-    }
+    matches!(spelling, Spelling::Blocks)
 }
 
 // Writes the first n numbers of `out` as they are spelled; returns the position after them.
 fn put_items(text: &mut [u8], at: usize, spelling: Spelling, out: &[u32], n: usize) -> usize
     requires { (n ≤ length out.now) × (at + 11 * n ≤ length text.old) }
-    ensures { (result ≡ at + length (items_text (items_of spelling (take n out.now)))) × (result ≤ at + 11 * n) × (text.new ≡ write_at text.old at (items_text (items_of spelling (take n out.now)))) }
+    ensures { (result ≡ at + length (items_text (items_of spelling (take n out.now)))) × (result ≤ at + 11 * n)
+        × (text.new ≡ write_at text.old at (items_text (items_of spelling (take n out.now)))) }
 {
     if is_blocks(spelling) {
         return put_blocks(text, at, out, n);
@@ -131,7 +126,7 @@ fn put_items(text: &mut [u8], at: usize, spelling: Spelling, out: &[u32], n: usi
     put_numbers(text, at, out, n)
 }
 
-// Writes the reply to a call and a line feed behind the first `at` bytes; returns how many bytes there are then.
+// Writes the reply to a call and a line feed after the first `at` bytes; returns how many bytes there are then.
 pub fn put_reply(
     text: &mut [u8],
     at: usize,
@@ -140,19 +135,20 @@ pub fn put_reply(
     out: &[u32],
 ) -> usize
     requires { Room text.old at answer out.now }
-    ensures { (result ≡ at + length (reply_text spelling (reply_of answer out.now))) × (text.new ≡ write_at text.old at (reply_text spelling (reply_of answer out.now))) }
+    ensures { (result ≡ at + length (reply_text spelling (reply_of answer out.now)))
+        × (text.new ≡ write_at text.old at (reply_text spelling (reply_of answer out.now))) }
 {
     match answer {
-        Answer::Done(n) => {
-            text[at] = 43;
+        Ok(n) => {
+            text[at] = b'+';
             let end = put_items(text, at + 1, spelling, out, n);
-            text[end] = 10;
+            text[end] = b'\n';
             end + 1
         }
-        Answer::Refused(k) => {
-            text[at] = 45;
-            let end = put_number(text, at + 1, 32, k as u32);
-            text[end] = 10;
+        Err(refusal) => {
+            text[at] = b'-';
+            let end = put_number(text, at + 1, b' ', u32::from(refusal.number()));
+            text[end] = b'\n';
             end + 1
         }
     }

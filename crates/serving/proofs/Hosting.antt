@@ -3,23 +3,23 @@ use mathlib.Core.Path.{◌≡◌, refl, sym, ap, ap₂, ◌∙◌, subst}
 use mathlib.Core.Bool.{Bool, true, false, not, cond, ◌&&◌, ◌||◌}
 use mathlib.Core.Logic.{◌⊎◌, inl, inr}
 use mathlib.Core.List.{List, [], ◌∷◌}
-use Prim.Native.Nat.{ℕ, zero, suc, ◌*◌, ◌≤◌, ◌<◌}
+use Prim.Native.Nat.{ℕ, zero, suc, ◌≤◌, ◌<◌}
 use native.Mathlib.Omega.{arith}
-use lib.Dec.{eqb, ltb}
+use lib.Dec.{eqb}
 use lib.ListN.{length, get_or}
 use lib.Seq.{sets}
-use borrow.Author.Tests.{eq-eqb, ne_eqb, ltb-false, lt-ltb, le-ltb, not-false}
+use borrow.Author.Tests.{ne_eqb, ltb-false, not-false}
 use Rattle.answer.specs.Reply.{Reply, accepted, refused}
 use Rattle.answer.specs.Refusal.{Condition, decide, leaves}
 use Rattle.answer.proofs.Cases.{cases}
 use Rattle.geometry.specs.declared.Geometry.{Geometry}
-use Rattle.geometry.specs.declared.Making.{Making}
-use Rattle.geometry.specs.declared.Making.TheVariants as making
+use Rattle.std.specs.Prelude.{Result, Ok, Err, is_err}
+use Rattle.answer.specs.Number.{number_of}
+use Rattle.answer.specs.declared.Refusal.{Refusal}
+use Rattle.answer.specs.declared.Refusal.TheVariants.{OutsideLimits, TooShort, NotSound}
 use Rattle.geometry.specs.Limits.{Inside, geometry_of, fits, making_of, most_tables, most_log, most_out}
-use Rattle.geometry.proofs.Made.{fits_inside, inside_fits}
+use Rattle.geometry.proofs.Made.{fits_inside}
 use Rattle.alloc_log.specs.Word.{write_at}
-use Rattle.alloc_log.proofs.Tools.{made_of, outside}
-use Rattle.model.specs.Layout.{need}
 use Rattle.model.specs.Memory.{Memory, sound?, make_reply}
 use Rattle.model.proofs.SoundTest.{sound_iff}
 use Rattle.script.specs.Said.{said_at}
@@ -27,8 +27,7 @@ use Rattle.script.specs.Spoken.{Spoken, makes, asks, nothing, spoken_at}
 use Rattle.session.specs.declared.Session.{Session}
 use Rattle.session.specs.Step.{geometry_in, started_by, step_session, Kept}
 use Rattle.serving.specs.declared.Served.{Served}
-use Rattle.serving.specs.declared.host.Hosted.TheVariants as answered
-use Rattle.serving.specs.Part.{Part, begun, longest, served_line, goes_on, served_most, served, Serves}
+use Rattle.serving.specs.Part.{Part, begun, served_line, goes_on, served_most, served, Serves}
 use Rattle.serving.specs.Host.{Lent, session_of, run_of, lent_short, host_conditions, host_part, host_reply, host_left, hosted_reply, Hosts, Narrow}
 
 -- ── the numbers of a session ──
@@ -91,21 +90,18 @@ made_yes s h = rw (ne_eqb s.made 0 (λ e. omega arith))
 passed : (s : Session) (b : Bool) → (made? s && not b) ≡ false → 0 < s.made → b ≡ true
 passed s b e h = not-false b (rw (made_yes s h) at e)
 
-pub none_made : (s : Session) (b : Bool) → s.made ≡ 0 → false ≡ (made? s && b)
-none_made s b e = rw (eq-eqb s.made 0 e)
-
 pub some_made : (s : Session) (b : Bool) → (s.made ≡ 0 → ⊥) → b ≡ (made? s && b)
 some_made s b n = rw (ne_eqb s.made 0 n)
 
-module _ (s : Session) (n : s.made ≡ 0 → ⊥) {r : Making} (new : r ≡ making_of s.g.arenas s.g.per s.g.pages s.g.records s.g.turn s.g.words) where
-  pub made_inside : (g : Geometry) → r ≡ making.Made g → false ≡ (made? s && not (fits s.g))
-  made_inside g e =
-      let m = made_of s.g g new e in
-      let f : fits s.g ≡ true = subst (λ k. fits k ≡ true) m.is (inside_fits g m.inside) in
-      sym (ap not f) ∙ some_made s (not (fits s.g)) n
-
-  pub not_inside : (k : ℕ) → r ≡ making.Refused k → true ≡ (made? s && not (fits s.g))
-  not_inside k e = sym (ap not (outside s.g k new e)) ∙ some_made s (not (fits s.g)) n
+-- once there is a store, the making of its numbers says whether they lie outside
+pub making_tells : (s : Session) → (s.made ≡ 0 → ⊥) → {r : Result Geometry Refusal} →
+    r ≡ making_of s.g.arenas s.g.per s.g.pages s.g.records s.g.turn s.g.words → is_err r ≡ (made? s && not (fits s.g))
+unfolding making_of
+making_tells s n new = ap is_err new ∙ go (fits s.g) ∙ some_made s (not (fits s.g)) n
+  where
+    go : (t : Bool) → is_err (cond t (Ok s.g) (Err OutsideLimits)) ≡ not t
+    go true = refl
+    go false = refl
 
 or_no : (a b : Bool) → (a || b) ≡ false → (a ≡ false) × (b ≡ false)
 or_no false b e = (refl, e)
@@ -131,43 +127,6 @@ long H e =
       out = ltb-false _ _ f.0;
     }
 
-module _ (H : Lent) where
-  pub run_short : length H.run < 7 → true ≡ lent_short H
-  unfolding lent_short
-  run_short h = rw (lt-ltb (length H.run) 7 h)
-
-  module _ (run : 7 ≤ length H.run) where
-    pub tables_short : length H.memory.tables < most_tables → true ≡ lent_short H
-    unfolding lent_short
-    tables_short h = rw (le-ltb (length H.run) 7 run, lt-ltb (length H.memory.tables) most_tables h)
-
-    module _ (tables : most_tables ≤ length H.memory.tables) where
-      pub log_short : length H.memory.log < most_log → true ≡ lent_short H
-      unfolding lent_short
-      log_short h =
-          rw (le-ltb (length H.run) 7 run, le-ltb (length H.memory.tables) most_tables tables, lt-ltb (length H.memory.log) most_log h)
-
-      module _ (log : most_log ≤ length H.memory.log) where
-        pub out_short : length H.memory.out < most_out → true ≡ lent_short H
-        unfolding lent_short
-        out_short h =
-            rw (
-              le-ltb (length H.run) 7 run,
-              le-ltb (length H.memory.tables) most_tables tables,
-              le-ltb (length H.memory.log) most_log log,
-              lt-ltb (length H.memory.out) most_out h,
-            )
-
-        pub replies_short : most_out ≤ length H.memory.out → ltb (length H.replies) longest ≡ lent_short H
-        unfolding lent_short
-        replies_short h =
-            rw (
-              le-ltb (length H.run) 7 run,
-              le-ltb (length H.memory.tables) most_tables tables,
-              le-ltb (length H.memory.log) most_log log,
-              le-ltb (length H.memory.out) most_out h,
-            )
-
 -- the seven numbers are those of the session
 pub session_as : (run : List ℕ) {m a b p r t w : ℕ} → m ≡ get_or run 0 0 → a ≡ get_or run 1 0 → b ≡ get_or run 2 0 → p ≡ get_or run 3 0 → r ≡ get_or run 4 0
     → t ≡ get_or run 5 0 → w ≡ get_or run 6 0 → ◌≡◌ {A = Session} (record { made = m; g = geometry_of a b p r t w }) (session_of run)
@@ -175,12 +134,6 @@ session_as run e₀ e₁ e₂ e₃ e₄ e₅ e₆ = cc
 
 pub inside_limits : (s : Session) → (made? s && not (fits s.g)) ≡ false → 0 < s.made → Inside s.g
 inside_limits s e h = fits_inside s.g (passed s (fits s.g) e h)
-
-pub tables_enough : (g : Geometry) (t : List ℕ) → Inside g → most_tables ≤ length t → need g ≤ length t
-tables_enough g t i h = omega (arith, i.records_most, i.blocks_most)
-
-pub log_enough : (g : Geometry) (log : List ℕ) → Inside g → most_log ≤ length log → 8 * g.words ≤ length log
-log_enough g log i h = omega (arith, i.words_most)
 
 -- ── the answers ──
 
@@ -218,20 +171,20 @@ module _ (text : List ℕ) (at : ℕ) (H : Lent) (s : Session) (is : s ≡ sessi
       given)
       (sym is)
 
-  refuses : (k : ℕ) → decide conditions given ≡ refused k → Hosts text at H (answered.Refused k) H
+  refuses : (k : Refusal) → decide conditions given ≡ refused (number_of k) → Hosts text at H (Err k) H
   unfolding host_left hosted_reply
   refuses k e =
-      let r : host_reply text at H ≡ refused k = reply_is ∙ e in
+      let r : host_reply text at H ≡ refused (number_of k) = reply_is ∙ e in
       record { reply = sym r; leaves = sym (ap (λ (q : Reply). leaves q H new) r) }
 
-  pub by_2 : outside? ≡ true → Hosts text at H (answered.Refused 2) H
-  by_2 a = refuses 2 (rw a)
+  pub by_2 : outside? ≡ true → Hosts text at H (Err OutsideLimits) H
+  by_2 a = refuses OutsideLimits (rw a)
 
-  pub by_3 : outside? ≡ false → lent_short H ≡ true → Hosts text at H (answered.Refused 3) H
-  by_3 a b = refuses 3 (rw (a, b))
+  pub by_3 : outside? ≡ false → lent_short H ≡ true → Hosts text at H (Err TooShort) H
+  by_3 a b = refuses TooShort (rw (a, b))
 
-  pub by_4 : outside? ≡ false → lent_short H ≡ false → unsound? ≡ true → Hosts text at H (answered.Refused 4) H
-  by_4 a b d = refuses 4 (rw (a, b, d))
+  pub by_4 : outside? ≡ false → lent_short H ≡ false → unsound? ≡ true → Hosts text at H (Err NotSound) H
+  by_4 a b d = refuses NotSound (rw (a, b, d))
 
   module _ (a : outside? ≡ false) (b : lent_short H ≡ false) (d : unsound? ≡ false) where
     pub kept : Kept s H.memory.tables H.memory.log H.memory.out
@@ -250,7 +203,7 @@ module _ (text : List ℕ) (at : ℕ) (H : Lent) (s : Session) (is : s ≡ sessi
     part_is = ap (λ (k : Session). served text (length H.replies) (begun at k H.memory)) is
 
     pub done : (r : Served) (left : Memory) (replies run : List ℕ) → Serves (served text (length H.replies) (begun at s H.memory)) H.replies r left replies
-        → run ≡ sets H.run 0 (run_of r.session) → Hosts text at H (answered.Part r.at r.used) (record { run = run; memory = left; replies = replies })
+        → run ≡ sets H.run 0 (run_of r.session) → Hosts text at H (Ok (record { at = r.at; used = r.used })) (record { run = run; memory = left; replies = replies })
     unfolding host_left hosted_reply
     done r left replies run v e =
         let n : decide conditions given ≡ accepted given = rw (a, b, d) in

@@ -8,8 +8,8 @@ use lib.Dec.{ltb}
 use lib.ListN.{length, take, drop, length-append}
 use lib.Seq.{length-take-le, take_at}
 use borrow.Author.Tests.{lt-ltb, le-ltb, le-leb, lt-leb}
-use Rattle.answer.specs.declared.Answer.{Answer}
-use Rattle.answer.specs.declared.Answer.TheVariants.{Done, Refused}
+use Rattle.std.specs.Prelude.{Result, Ok, Err}
+use Rattle.answer.specs.declared.Refusal.{Refusal}
 use Rattle.answer.specs.Reply.{reply_of}
 use Rattle.geometry.specs.Limits.{most_tables, most_log, most_out}
 use Rattle.alloc_log.specs.Word.{write_at}
@@ -96,9 +96,9 @@ name_inside text at end Parsed.No w = tt
 -- ── the buffer ──
 
 -- an answer of at most 4,097 numbers fits where a longest reply does
-pub room : (r : Answer) → Few r → (buffer out : List ℕ) (used : ℕ) → used + longest ≤ length buffer → most_out ≤ length out → Room buffer used r out
-room (Done n) f buffer out used e h = record { fits = omega arith; gives = omega arith }
-room (Refused n) f buffer out used e h = record { fits = omega arith; gives = omega arith }
+pub room : (r : Result ℕ Refusal) → Few r → (buffer out : List ℕ) (used : ℕ) → used + longest ≤ length buffer → most_out ≤ length out → Room buffer used r out
+room (Ok n) f buffer out used e h = record { fits = omega arith; gives = omega arith }
+room (Err n) f buffer out used e h = record { fits = omega arith; gives = omega arith }
 
 module _ (d s : List ℕ) (used : ℕ) (inside : used ≤ length d) where
   -- what was written lies inside a buffer that stayed as long

@@ -1,14 +1,16 @@
 -- A PART SERVED FOR A HOST that lends everything: the seven numbers of the run, and memory enough for every geometry. Nothing is trusted.
 use Rattle.std.specs.Prelude.{◌≡◌, Bool, not, ◌&&◌, ◌||◌, List, [], ◌∷◌, ℕ, ◌<◌, eqb, ltb, length, get_or}
 use Rattle.std.proofs.lemmas.List.Edits.{sets}
+use Rattle.std.specs.Prelude.{Result, Ok, Err}
+use Rattle.answer.specs.Number.{number_of}
+use Rattle.answer.specs.declared.Refusal.{Refusal}
 use Rattle.answer.specs.Reply.{Reply, accepted, refused}
 use Rattle.answer.specs.Refusal.{Condition, decide, leaves}
 use Rattle.geometry.specs.Limits.{geometry_of, fits, most_tables, most_log, most_out}
 use Rattle.alloc_log.specs.Word.{write_at}
 use Rattle.model.specs.Memory.{Memory, lent, sound?}
 use Rattle.session.specs.declared.Session.{Session}
-use Rattle.serving.specs.declared.host.Hosted.{Hosted}
-use Rattle.serving.specs.declared.host.Hosted.TheVariants as answered
+use Rattle.serving.specs.declared.host.Extent.{Extent}
 use Rattle.serving.specs.Part.{Part, begun, longest, served}
 
 -- all that a host lends: the seven numbers of a run (0 before the first store, else above 0; then the store's six numbers), the store's memory,
@@ -65,12 +67,12 @@ host_left text at H =
     })
 
 -- the reply that each case of the answer stands for
-unfoldable pub hosted_reply : Hosted → Reply
-hosted_reply (answered.Part at count) = accepted (at ∷ count ∷ [])
-hosted_reply (answered.Refused k) = refused k
+unfoldable pub hosted_reply : Result Extent Refusal → Reply
+hosted_reply (Ok p) = accepted (p.at ∷ p.used ∷ [])
+hosted_reply (Err r) = refused (number_of r)
 
 -- ALL THAT IS PROMISED of a part served for a host that lent H, any numbers and any memory: the answer r, and what is left
-pub record Hosts (text : List ℕ) (at : ℕ) (H : Lent) (r : Hosted) (left : Lent) : Type 0 where
+pub record Hosts (text : List ℕ) (at : ℕ) (H : Lent) (r : Result Extent Refusal) (left : Lent) : Type 0 where
   pub reply : hosted_reply r ≡ host_reply text at H
   pub leaves : left ≡ host_left text at H
 

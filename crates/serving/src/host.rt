@@ -7,25 +7,23 @@ ghost use Rattle.model.specs.Memory.{sound?};
 ghost use Rattle.serving.specs.Host.{lent_by, session_of, run_of, lent_short, Hosts, Narrow};
 
 use crate::{LONGEST, serve_part};
-use geometry::{Geometry, Making};
+use answer::Refusal;
+use geometry::Geometry;
 use session::Session;
 use soundness::is_sound;
 
-// The position behind the last line served and how many bytes of replies stand at the buffer's start, or the number of the refusal.
-#[derive(Clone, Copy)]
-pub enum Hosted {
-    Part(usize, usize),
-    Refused(u8),
+// The position after the last line served, and how many bytes of replies stand at the buffer's start.
+#[derive(Clone, Copy, Debug, PartialEq, Eq)]
+pub struct Extent {
+    pub at: usize,
+    pub used: usize,
 }
 
 // A number of the run, 0 beyond its end.
 fn number_in(run: &[u32], i: usize) -> usize
     ensures { (result ≡ get_or run.now i 0) × (result < 4294967296) }
 {
-    if i < run.len() {
-        return run[i] as usize;
-    }
-    0
+    run.get(i).map_or(0, |x| *x as usize)
 }
 
 fn session_of(run: &[u32]) -> Session
@@ -49,13 +47,15 @@ fn put_run(run: &mut [u32], s: Session)
     requires { (7 ≤ length run.old) × Narrow s }
     ensures { run.new ≡ sets run.old 0 (run_of s) }
 {
-    run[0] = s.made as u32;
-    run[1] = s.g.arenas as u32;
-    run[2] = s.g.per as u32;
-    run[3] = s.g.pages as u32;
-    run[4] = s.g.records as u32;
-    run[5] = s.g.turn as u32;
-    run[6] = s.g.words as u32;
+    run[..7].copy_from_slice(&[
+        s.made as u32,
+        s.g.arenas as u32,
+        s.g.per as u32,
+        s.g.pages as u32,
+        s.g.records as u32,
+        s.g.turn as u32,
+        s.g.words as u32,
+    ]);
 }
 
 // Whether a store was made of numbers that lie outside their limits.
@@ -67,28 +67,17 @@ fn is_outside(s: Session) -> bool
     }
     let g = s.g;
     let made = Geometry::new(g.arenas, g.per, g.pages, g.records, g.turn, g.words);
-    match made {
-        Making::Made(_) => false,
-        Making::Refused(_) => true,
-    }
+    made.is_err()
 }
 
 fn is_too_short(run: &[u32], tables: &[u32], log: &[u8], out: &[u32], replies: &[u8]) -> bool
     ensures { result ≡ lent_short (lent_by run.now tables.now log.now out.now replies.now) }
 {
-    if run.len() < 7 {
-        return true;
-    }
-    if tables.len() < Geometry::MOST_TABLES {
-        return true;
-    }
-    if log.len() < Geometry::MOST_LOG {
-        return true;
-    }
-    if out.len() < Geometry::MOST_OUT {
-        return true;
-    }
-    replies.len() < LONGEST
+    run.len() < 7
+        || tables.len() < Geometry::MOST_TABLES
+        || log.len() < Geometry::MOST_LOG
+        || out.len() < Geometry::MOST_OUT
+        || replies.len() < LONGEST
 }
 
 // Whether a store was made and its tables and log are not sound.
@@ -96,11 +85,7 @@ fn is_unsound(s: Session, tables: &[u32], log: &[u8]) -> bool
     requires { (0 < s.made → Inside s.g) × (most_tables ≤ length tables.now) × (most_log ≤ length log.now) }
     ensures { result ≡ (not (eqb s.made 0) && not (sound? s.g tables.now log.now)) }
 {
-    if s.made == 0 {
-        return false;
-    }
-    let g = s.g;
-    !is_sound(g, tables, log)
+    s.made != 0 && !is_sound(s.g, tables, log)
 }
 
 // Serves whole lines of the text from a position on, while a longest reply fits in the buffer.
@@ -112,22 +97,25 @@ pub fn serve_lent(
     log: &mut [u8],
     out: &mut [u32],
     replies: &mut [u8],
-) -> Hosted
+) -> Result<Extent, Refusal>
     ensures { Hosts text.now at
         (lent_by run.old tables.old log.old out.old replies.old) result
         (lent_by run.new tables.new log.new out.new replies.new) }
 {
     let session = session_of(run);
     if is_outside(session) {
-        return Hosted::Refused(2);
+        return Err(Refusal::OutsideLimits);
     }
     if is_too_short(run, tables, log, out, replies) {
-        return Hosted::Refused(3);
+        return Err(Refusal::TooShort);
     }
     if is_unsound(session, tables, log) {
-        return Hosted::Refused(4);
+        return Err(Refusal::NotSound);
     }
     let served = serve_part(text, at, session, tables, log, out, replies);
     put_run(run, served.session);
-    Hosted::Part(served.at, served.used)
+    Ok(Extent {
+        at: served.at,
+        used: served.used,
+    })
 }

@@ -23,7 +23,7 @@ pub struct Served {
 // The bytes that a longest reply takes.
 pub const LONGEST: usize = 49180;
 
-// Serves whole lines of a text from a position on, while a longest reply fits in the buffer; the replies stand at its start, one behind another.
+// Serves whole lines of a text from a position on, while a longest reply fits in the buffer; the replies stand at its start, one after another.
 pub fn serve_part(
     text: &[u8],
     at: usize,

@@ -1,8 +1,7 @@
 -- THE RUNNER, line by line. "Each parsed line is taken apart as a call, or the runner prints 1. Before a store exists every other call gives 4." (10.5)
 -- "a later such line, if accepted, starts afresh." (10.3)
-use Rattle.std.specs.Prelude.{◌≡◌, cond, List, ℕ, ◌≤◌, ◌<◌, eqb, length}
-use Rattle.answer.specs.declared.Answer.{Answer}
-use Rattle.answer.specs.declared.Answer.TheVariants.{Done, Refused}
+use Rattle.std.specs.Prelude.{◌≡◌, cond, List, ℕ, ◌≤◌, ◌<◌, eqb, length, Result, Ok, Err}
+use Rattle.answer.specs.declared.Refusal.{Refusal}
 use Rattle.answer.specs.Reply.{Reply, accepted, refused, reply_of}
 use Rattle.geometry.specs.declared.Geometry.{Geometry}
 use Rattle.geometry.specs.Limits.{Inside, geometry_of, least, most_tables, most_log, most_out}
@@ -71,9 +70,9 @@ Uncalled (Named c e) = Unit {0}
 Uncalled Parsed.No = Unit {0}
 
 -- an answer that gives at most 4,097 numbers
-abbrev pub Few : Answer → Type 0
-Few (Done n) = n ≤ 4097
-Few (Refused k) = Unit {0}
+abbrev pub Few : Result ℕ Refusal → Type 0
+Few (Ok n) = n ≤ 4097
+Few (Err r) = Unit {0}
 
 -- all that is promised of a line that asks for a: what it answers and leaves of the memory M
 pub record Stepping (s : Session) (M : Memory) (a : Spoken) (r : Stepped) (left : Memory) : Type 0 where

@@ -3,17 +3,16 @@
 
 ghost use Rattle.std.specs.Prelude.{◌≡◌, length};
 ghost use Rattle.answer.specs.Reply.{reply_of};
-ghost use Rattle.answer.specs.declared.Answer.TheVariants.{Refused};
 ghost use Rattle.model.specs.Command.{command, command_on};
 ghost use Rattle.model.specs.Memory.{lent};
 ghost use Rattle.script.specs.Spoken.{makes, asks, spoken_at};
 ghost use Rattle.script.specs.Said.{NameIn};
 ghost use Rattle.session.specs.Step.{no_store, step_reply, step_memory, step_session, step_hints, Kept, Uncalled, Few, Stepping};
 
-use answer::Answer;
+use answer::{Answer, Refusal};
 use engine::names::{name, record_named};
 use engine::{perform, record_of};
-use geometry::{Geometry, Making, copied};
+use geometry::{Geometry, copied};
 use model::{Call, Naming};
 use script::parse::{Parsed, Six};
 use store::make::make;
@@ -21,6 +20,7 @@ use tables::find::{hint_slot, slot_by, wide};
 
 // Whether a store was made, 1 or 0, and its geometry. A number and no bool: a bool would leave a gap, and a copy of the struct would read more bytes
 // than were written at once.
+// Kept: no Option, since the C interface needs the seven numbers: `sogvect_script` gives a run's numbers back as they came, also before a store is made.
 #[derive(Clone, Copy)]
 pub struct Session {
     pub made: usize,
@@ -45,14 +45,14 @@ pub fn start() -> Session
 }
 
 // The refusal of a call before a store exists.
-const NO_STORE: u8 = 4;
+const NO_STORE: Refusal = Refusal::NotSound;
 
-fn refuse(s: Session, number: u8) -> Stepped
-    ensures { result ≡ record { session = s; answer = Refused number } }
+fn refuse(s: Session, refusal: Refusal) -> Stepped
+    ensures { result ≡ record { session = s; answer = Err refusal } }
 {
     Stepped {
         session: s,
-        answer: Answer::Refused(number),
+        answer: Err(refusal),
     }
 }
 
@@ -70,18 +70,18 @@ fn store_line(s: Session, x: Six, t: &mut [u32], log: &[u8], out: &[u32]) -> Ste
         wide(x.turn),
         wide(x.words),
     );
-    let Making::Made(g) = made else {
-        return refuse(s, 2);
+    let Ok(g) = made else {
+        return refuse(s, Refusal::OutsideLimits);
     };
     let answer = make(
         g.arenas, g.per, g.pages, g.records, g.turn, g.words, t, log, out,
     );
-    let Answer::Done(n) = answer else {
+    let Ok(n) = answer else {
         return Stepped { session: s, answer };
     };
     Stepped {
         session: Session { made: 1, g },
-        answer: Answer::Done(n),
+        answer: Ok(n),
     }
 }
 
@@ -157,7 +157,7 @@ fn other_line(
         return store_line(s, x, t, log, out);
     }
     let Parsed::Named(c, e) = said else {
-        return refuse(s, 1);
+        return refuse(s, Refusal::NoCall);
     };
     let from = at + 2;
     let end = at + wide(e);

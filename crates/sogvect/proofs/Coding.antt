@@ -7,8 +7,9 @@ use native.Mathlib.Omega.{arith}
 use lib.ListN.{length, take}
 use lib.Seq.{sets, length-sets}
 use borrow.Author.Tests.{ltb-false}
-use Rattle.answer.specs.declared.Answer.{Answer}
-use Rattle.answer.specs.declared.Answer.TheVariants.{Done, Refused}
+use Rattle.std.specs.Prelude.{Bool, Result, Ok, Err}
+use Rattle.answer.specs.Number.{number_of as refusal_number}
+use Rattle.answer.specs.declared.Refusal.{Refusal}
 use Rattle.answer.specs.Reply.{Reply, accepted, refused, reply_of}
 use Rattle.answer.specs.Refusal.{leaves}
 use Rattle.answer.proofs.Decided.{decide_accepted}
@@ -17,10 +18,6 @@ use Rattle.geometry.specs.Limits.{blocks}
 use Rattle.alloc_log.specs.Marks.{held_in, held_blocks}
 use Rattle.alloc_log.specs.Settled.{settled}
 use Rattle.alloc_log.specs.Tool.{marks_of, held_at_end, every_conditions, every_reply, read_reply, read_out, Compared, verdict_of, compact_reply_of}
-use Rattle.alloc_log.specs.declared.tool.Compaction.{Compaction}
-use Rattle.alloc_log.specs.declared.tool.Compaction.TheVariants as compaction
-use Rattle.alloc_log.specs.declared.tool.Comparison.{Comparison}
-use Rattle.alloc_log.specs.declared.tool.Comparison.TheVariants as comparison
 use Rattle.alloc_log.proofs.Tools.{pass_length}
 use Rattle.model.specs.Memory.{Memory, reply, lent}
 use Rattle.model.specs.declared.Call.{Call}
@@ -30,60 +27,35 @@ use Rattle.store.specs.Called.{Called}
 use Rattle.store.proofs.Results.{number_of}
 use Rattle.store.proofs.Lengths.{out_length}
 use Rattle.serving.specs.Host.{Lent, hosted_reply, Hosts}
-use Rattle.serving.specs.declared.host.Hosted.{Hosted}
-use Rattle.serving.specs.declared.host.Hosted.TheVariants as hosted
-use Rattle.sogvect.specs.Coded.{code_of, count_after, asked_reply, asked_after, Answered, Replied, answer_code, answer_count}
+use Rattle.serving.specs.declared.host.Extent.{Extent}
+use Rattle.sogvect.specs.Coded.{code_of, count_after, asked_reply, asked_after, Answered, Replied, answer_code, answer_given}
 use Rattle.sogvect.specs.Coded.{verdict_code, alike_after, words_after, number_after, Scripted}
 
--- ── the arms of `coded` and `judge` ──
+-- ── an answer ──
 
--- the code r and the count n of an answer
-abbrev pub Coded : Answer → ℕ → ℕ → ℕ → Type 0
-Coded a old r n = (r ≡ answer_code a) × (n ≡ answer_count a old)
-
-pub done_coded : (a : Answer) (n old : ℕ) → a ≡ Done n → Coded a old 0 n
-unfolding answer_code answer_count
-done_coded a n old e = (sym (ap answer_code e), sym (ap (λ b. answer_count b old) e))
-
-pub refused_coded : (a : Answer) (k old : ℕ) → a ≡ Refused k → Coded a old k old
-unfolding answer_code answer_count
-refused_coded a k old e = (sym (ap answer_code e), sym (ap (λ b. answer_count b old) e))
-
--- the code r of a comparison, and the number n that says whether the logs are alike
-abbrev pub Judged : Comparison → ℕ → ℕ → ℕ → Type 0
-Judged c old r n = (r ≡ verdict_code (verdict_of c)) × (n ≡ alike_after (verdict_of c) old)
-
-pub alike_judged : (c : Comparison) (old : ℕ) → c ≡ comparison.Alike → Judged c old 0 1
-unfolding verdict_of verdict_code alike_after
-alike_judged c old e = (sym (ap (λ d. verdict_code (verdict_of d)) e), sym (ap (λ d. alike_after (verdict_of d) old) e))
-
-pub different_judged : (c : Comparison) (old : ℕ) → c ≡ comparison.Different → Judged c old 0 0
-unfolding verdict_of verdict_code alike_after
-different_judged c old e = (sym (ap (λ d. verdict_code (verdict_of d)) e), sym (ap (λ d. alike_after (verdict_of d) old) e))
-
-pub refused_judged : (c : Comparison) (k old : ℕ) → c ≡ comparison.Refused k → Judged c old k old
-unfolding verdict_of verdict_code alike_after
-refused_judged c k old e = (sym (ap (λ d. verdict_code (verdict_of d)) e), sym (ap (λ d. alike_after (verdict_of d) old) e))
+-- the code r of an answer, and what it gives, n
+abbrev pub Coded : {A : Type 0} → Result A Refusal → A → ℕ → A → Type 0
+Coded a old r n = (r ≡ answer_code a) × (n ≡ answer_given a old)
 
 -- ── any reply ──
 
-pub code_is : (a : Answer) (out : List ℕ) (R : Reply) → reply_of a out ≡ R → answer_code a ≡ code_of R
-unfolding reply_of answer_code code_of
-code_is (Done n) out R e = ap code_of e
-code_is (Refused k) out R e = ap code_of e
+pub code_is : (a : Result ℕ Refusal) (out : List ℕ) (R : Reply) → reply_of a out ≡ R → answer_code a ≡ code_of R
+unfolding reply_of code_of
+code_is (Ok n) out R e = ap code_of e
+code_is (Err k) out R e = ap code_of e
 
-count_is : (a : Answer) (out : List ℕ) (R : Reply) (old : ℕ) → reply_of a out ≡ R → ((l : List ℕ) → R ≡ accepted l → length l < length out) →
-    answer_count a old ≡ count_after R old
-unfolding reply_of answer_count count_after
-count_is (Done n) out R old e short =
+count_is : (a : Result ℕ Refusal) (out : List ℕ) (R : Reply) (old : ℕ) → reply_of a out ≡ R → ((l : List ℕ) → R ≡ accepted l → length l < length out) →
+    answer_given a old ≡ count_after R old
+unfolding reply_of count_after
+count_is (Ok n) out R old e short =
     number_of n out (take n out) refl (short (take n out) (sym e)) ∙ ap (λ (r : Reply). count_after r old) e
-count_is (Refused k) out R old e short = ap (λ (r : Reply). count_after r old) e
+count_is (Err k) out R old e short = ap (λ (r : Reply). count_after r old) e
 
 -- the code r and the count n of a reply
 abbrev pub Told : Reply → ℕ → ℕ → ℕ → Type 0
 Told R old r n = (r ≡ code_of R) × (n ≡ count_after R old)
 
-told : (a : Answer) (out : List ℕ) (R : Reply) (old r n : ℕ) → reply_of a out ≡ R → ((l : List ℕ) → R ≡ accepted l → length l < length out) →
+told : (a : Result ℕ Refusal) (out : List ℕ) (R : Reply) (old r n : ℕ) → reply_of a out ≡ R → ((l : List ℕ) → R ≡ accepted l → length l < length out) →
     Coded a old r n → Told R old r n
 told a out R old r n e short p = (p.0 ∙ code_is a out R e, p.1 ∙ count_is a out R old e short)
 
@@ -94,7 +66,7 @@ pub no_call : (g : Geometry) (M : Memory) (k : Option Call) (old : ℕ) → k �
 unfolding asked_reply asked_after code_of count_after
 no_call g M k old e = rw e (refl, (refl, (refl, (refl, refl))))
 
-module _ (g : Geometry) (M : Memory) (a : Answer) (t log out : List ℕ) where
+module _ (g : Geometry) (M : Memory) (a : Result ℕ Refusal) (t log out : List ℕ) where
   -- what the store's function promises is what the exported one promises
   pub replied : (c : Command) (old r n : ℕ) → Called g M c a (lent t log out) → Coded a old r n →
       Replied g M c r (lent t log out) × (n ≡ count_after (reply g M c) old)
@@ -128,7 +100,7 @@ module _ (g : Geometry) (log out : List ℕ) where
       go (accepted l) = length-sets out 0 (held_at_end g (settled log))
       go (refused n) = refl
 
-  pub was_read : (a : Answer) (out' : List ℕ) (old r n : ℕ) → (reply_of a out' ≡ read_reply g log out) × (out' ≡ read_out g log out) →
+  pub was_read : (a : Result ℕ Refusal) (out' : List ℕ) (old r n : ℕ) → (reply_of a out' ≡ read_reply g log out) × (out' ≡ read_out g log out) →
       Coded a old r n → (r ≡ code_of (read_reply g log out)) × ((n ≡ count_after (read_reply g log out) old) × (out' ≡ read_out g log out))
   was_read a out' old r n p q =
       let h : length out' ≡ length out = ap length p.1 ∙ left_length in
@@ -137,27 +109,22 @@ module _ (g : Geometry) (log out : List ℕ) where
 
 -- ── a comparison ──
 
-pub compared : (c : Comparison) (v : Compared) (old r n : ℕ) → verdict_of c ≡ v → Judged c old r n → (r ≡ verdict_code v) × (n ≡ alike_after v old)
-compared c v old r n e p = (p.0 ∙ ap verdict_code e, p.1 ∙ ap (λ w. alike_after w old) e)
-
 -- ── a log compressed ──
 
--- the code r of a compaction, and the number n of its words
-abbrev pub Compacted : Reply → ℕ → ℕ → ℕ → Type 0
-Compacted R old r n = (r ≡ code_of R) × (n ≡ words_after R old)
+compact_code : (a : Result ℕ Refusal) → answer_code a ≡ code_of (compact_reply_of a)
+unfolding compact_reply_of code_of
+compact_code (Ok n) = refl
+compact_code (Err k) = refl
 
-pub words_compacted : (c : Compaction) (n old : ℕ) → c ≡ compaction.Words n → Compacted (compact_reply_of c) old 0 n
-unfolding compact_reply_of code_of words_after
-words_compacted c n old e = (sym (ap (λ d. code_of (compact_reply_of d)) e), sym (ap (λ d. words_after (compact_reply_of d) old) e))
+compact_given : (a : Result ℕ Refusal) (old : ℕ) → answer_given a old ≡ words_after (compact_reply_of a) old
+unfolding compact_reply_of words_after
+compact_given (Ok n) old = refl
+compact_given (Err k) old = refl
 
-pub refused_compacted : (c : Compaction) (k old : ℕ) → c ≡ compaction.Refused k → Compacted (compact_reply_of c) old k old
-unfolding compact_reply_of code_of words_after
-refused_compacted c k old e = (sym (ap (λ d. code_of (compact_reply_of d)) e), sym (ap (λ d. words_after (compact_reply_of d) old) e))
-
-pub was_compacted : (c : Compaction) (R : Reply) (old r n : ℕ) (out left : List ℕ) → (compact_reply_of c ≡ R) × (out ≡ left) →
-    Compacted (compact_reply_of c) old r n →
+pub was_compacted : (a : Result ℕ Refusal) (R : Reply) (old r n : ℕ) (out left : List ℕ) → (compact_reply_of a ≡ R) × (out ≡ left) → Coded a old r n →
     (r ≡ code_of R) × ((n ≡ words_after R old) × (out ≡ left))
-was_compacted c R old r n out left e p = (p.0 ∙ ap code_of e.0, (p.1 ∙ ap (λ w. words_after w old) e.0, e.1))
+was_compacted a R old r n out left e p =
+    (p.0 ∙ compact_code a ∙ ap code_of e.0, (p.1 ∙ compact_given a old ∙ ap (λ w. words_after w old) e.0, e.1))
 
 -- ── a part of a script ──
 
@@ -165,21 +132,21 @@ was_compacted c R old r n out left e p = (p.0 ∙ ap code_of e.0, (p.1 ∙ ap (�
 abbrev pub Parted : Reply → ℕ → ℕ → ℕ → ℕ → ℕ → Type 0
 Parted R at count r end n = (r ≡ code_of R) × ((end ≡ number_after 0 R at) × (n ≡ number_after 1 R count))
 
-pub part_parted : (h : Hosted) (end n at count : ℕ) → h ≡ hosted.Part end n → Parted (hosted_reply h) at count 0 end n
+pub part_parted : (h : Result Extent Refusal) (p : Extent) (at count : ℕ) → h ≡ Ok p → Parted (hosted_reply h) at count 0 p.at p.used
 unfolding hosted_reply code_of number_after
-part_parted h end n at count e = (
+part_parted h p at count e = (
   sym (ap (λ d. code_of (hosted_reply d)) e),
   (sym (ap (λ d. number_after 0 (hosted_reply d) at) e), sym (ap (λ d. number_after 1 (hosted_reply d) count) e)),
 )
 
-pub refused_parted : (h : Hosted) (k at count : ℕ) → h ≡ hosted.Refused k → Parted (hosted_reply h) at count k at count
+pub refused_parted : (h : Result Extent Refusal) (k : Refusal) (at count : ℕ) → h ≡ Err k → Parted (hosted_reply h) at count (refusal_number k) at count
 unfolding hosted_reply code_of number_after
 refused_parted h k at count e = (
   sym (ap (λ d. code_of (hosted_reply d)) e),
   (sym (ap (λ d. number_after 0 (hosted_reply d) at) e), sym (ap (λ d. number_after 1 (hosted_reply d) count) e)),
 )
 
-pub scripted : (text : List ℕ) (at count : ℕ) (H : Lent) (h : Hosted) (left : Lent) (r end n : ℕ) → Hosts text at H h left
+pub scripted : (text : List ℕ) (at count : ℕ) (H : Lent) (h : Result Extent Refusal) (left : Lent) (r end n : ℕ) → Hosts text at H h left
     → Parted (hosted_reply h) at count r end n → Scripted text at count H r end n left
 scripted text at count H h left r end n v p =
     record {

@@ -1,9 +1,9 @@
 -- Replies as a caller in C gets them: a code, 0 where the call was done and else the number of the refusal, and a count of result numbers that a
 -- refusal leaves as it was. A comparison has a code too, and a number that says whether the logs are alike.
-use Rattle.std.specs.Prelude.{◌≡◌, cond, List, ℕ, length, get_or}
+use Rattle.std.specs.Prelude.{◌≡◌, cond, List, ℕ, length, get_or, Result, Ok, Err}
 use Rattle.std.proofs.Math.Option.{Option, none, some}
-use Rattle.answer.specs.declared.Answer.{Answer}
-use Rattle.answer.specs.declared.Answer.TheVariants.{Done, Refused}
+use Rattle.answer.specs.Number.{number_of}
+use Rattle.answer.specs.declared.Refusal.{Refusal}
 use Rattle.answer.specs.Reply.{Reply, accepted, refused}
 use Rattle.geometry.specs.declared.Geometry.{Geometry}
 use Rattle.alloc_log.specs.Tool.{Compared, judged, turned_away}
@@ -46,14 +46,14 @@ Replied g before c r left =
     (r ≡ code_of (reply g before c))
     × ((left.tables ≡ (after g before c).tables) × ((left.log ≡ (after g before c).log) × (left.out ≡ (after g before c).out)))
 
--- the same of an answer, with no buffer
-unfoldable pub answer_code : Answer → ℕ
-answer_code (Done n) = 0
-answer_code (Refused k) = k
+-- the same of an answer, with no buffer; what it gives, or what was there before
+abbrev pub answer_code : {A : Type 0} → Result A Refusal → ℕ
+answer_code (Ok a) = 0
+answer_code (Err r) = number_of r
 
-unfoldable pub answer_count : Answer → ℕ → ℕ
-answer_count (Done n) old = n
-answer_count (Refused k) old = old
+abbrev pub answer_given : {A : Type 0} → Result A Refusal → A → A
+answer_given (Ok a) old = a
+answer_given (Err r) old = old
 
 -- ── a comparison ──
 

@@ -6,63 +6,31 @@ ghost use Rattle.std.specs.Prelude.{◌≡◌};
 ghost use Rattle.geometry.specs.Limits.{geometry_of};
 ghost use Rattle.alloc_log.specs.Tool.{read_reply, read_out, verdict_of, compare_verdict, compact_reply_of, compact_reply, compact_out};
 ghost use Rattle.model.specs.Memory.{make_reply, make_after, lent};
-ghost use Rattle.sogvect.specs.Coded.{code_of, count_after, answer_code, answer_count, verdict_code, alike_after, words_after};
+ghost use Rattle.sogvect.specs.Coded.{code_of, count_after, answer_code, answer_given, verdict_code, alike_after, words_after};
 
 pub mod calls;
 pub mod looks;
 pub mod names;
 pub mod scripts;
 
-use alloc_log::tool::{Compaction, Comparison, compact, compare, read_held};
-use answer::Answer;
+use alloc_log::tool::{compact, compare, read_held};
+use answer::Refusal;
 use store::make::make;
 
 // The code of a call that was done; a refusal's is its number.
 const DONE: u32 = 0;
 
-// The code of an answer; a done call's count goes to `count`.
-fn coded(a: Answer, count: &mut usize) -> u32
-    ensures code { result ≡ answer_code a }
-    ensures count { count.new ≡ answer_count a count.old }
+// The code of an answer; what a done call gives, the count of its numbers or whether two logs are alike, goes to `given`.
+fn coded<T: Copy>(answer: Result<T, Refusal>, given: &mut T) -> u32
+    ensures code { result ≡ answer_code answer }
+    ensures given { given.new ≡ answer_given answer given.old }
 {
-    match a {
-        Answer::Done(n) => {
-            *count = n;
+    match answer {
+        Ok(value) => {
+            *given = value;
             DONE
         }
-        Answer::Refused(k) => k as u32,
-    }
-}
-
-// The code of a comparison; what it found goes to `alike`.
-fn judge(c: Comparison, alike: &mut u32) -> u32
-    ensures code { result ≡ verdict_code (verdict_of c) }
-    ensures alike { alike.new ≡ alike_after (verdict_of c) alike.old }
-{
-    match c {
-        Comparison::Alike => {
-            *alike = 1;
-            DONE
-        }
-        Comparison::Different => {
-            *alike = 0;
-            DONE
-        }
-        Comparison::Refused(k) => k as u32,
-    }
-}
-
-// The code of a compaction; how many words it wrote goes to `count`.
-fn compacted(c: Compaction, count: &mut usize) -> u32
-    ensures code { result ≡ code_of (compact_reply_of c) }
-    ensures count { count.new ≡ words_after (compact_reply_of c) count.old }
-{
-    match c {
-        Compaction::Words(n) => {
-            *count = n;
-            DONE
-        }
-        Compaction::Refused(k) => k as u32,
+        Err(refusal) => u32::from(refusal.number()),
     }
 }
 
@@ -124,8 +92,8 @@ pub extern "C" fn sogvect_log_compare(
     ensures code { result ≡ verdict_code (compare_verdict (geometry_of arenas per pages records turn words) first.now second.now) }
     ensures alike { alike.new ≡ alike_after (compare_verdict (geometry_of arenas per pages records turn words) first.now second.now) alike.old }
 {
-    let c = compare(arenas, per, pages, records, turn, words, first, second);
-    judge(c, alike)
+    let answer = compare(arenas, per, pages, records, turn, words, first, second);
+    coded(answer.map(u32::from), alike)
 }
 
 // Writes a log of any length anew, compressed, at the start of `out`; `count` becomes the number of its words.
@@ -145,6 +113,6 @@ pub extern "C" fn sogvect_log_compact(
     ensures count { count.new ≡ words_after (compact_reply (geometry_of arenas per pages records turn words) log.now out.old) count.old }
     ensures out { out.new ≡ compact_out (geometry_of arenas per pages records turn words) log.now out.old }
 {
-    let c = compact(arenas, per, pages, records, turn, words, log, out);
-    compacted(c, count)
+    let a = compact(arenas, per, pages, records, turn, words, log, out);
+    coded(a, count)
 }

@@ -7,7 +7,7 @@ ghost use Rattle.sogvect.specs.Letters.{asked_by};
 
 use crate::calls::{NO_CALL, asked_by};
 use crate::coded;
-use engine::looks::{Seen, look_of};
+use engine::looks::look_of;
 use script::parse::Parsed;
 use store::look::look;
 
@@ -36,8 +36,7 @@ pub extern "C" fn sogvect_look(
     let Parsed::Asks(c) = asked else {
         return NO_CALL;
     };
-    let seen = look_of(c);
-    let Seen::For(l) = seen else {
+    let Some(l) = look_of(c) else {
         return NO_CALL;
     };
     let a = look(

@@ -4,21 +4,22 @@ ghost use Rattle.serving.specs.Host.{hosted_reply, lent_by};
 ghost use Rattle.sogvect.specs.Coded.{code_of, number_after, Scripted};
 
 use crate::DONE;
-use serving::host::{Hosted, serve_lent};
+use answer::Refusal;
+use serving::host::{Extent, serve_lent};
 
-// The code of a part; the position behind it goes to `at`, the number of bytes of its replies to `count`.
-fn parted(h: Hosted, at: &mut usize, count: &mut usize) -> u32
+// The code of a part; the position after it goes to `at`, the number of bytes of its replies to `count`.
+fn parted(h: Result<Extent, Refusal>, at: &mut usize, count: &mut usize) -> u32
     ensures code { result ≡ code_of (hosted_reply h) }
     ensures at { at.new ≡ number_after 0 (hosted_reply h) at.old }
     ensures count { count.new ≡ number_after 1 (hosted_reply h) count.old }
 {
     match h {
-        Hosted::Part(end, n) => {
-            *at = end;
-            *count = n;
+        Ok(part) => {
+            *at = part.at;
+            *count = part.used;
             DONE
         }
-        Hosted::Refused(k) => k as u32,
+        Err(refusal) => u32::from(refusal.number()),
     }
 }
 

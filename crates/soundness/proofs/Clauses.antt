@@ -1,5 +1,6 @@
 -- Each clause of the test, from the numbers that were read.
 use Rattle.std.proofs.Common.{◌≡◌, ℕ, zero, suc, ◌-◌, ◌<◌, Bool, true, false, not, ◌&&◌, ◌||◌, eqb, ltb, leb, List, get_or, sym, refl, ap, ◌∙◌, arith, le-ltb, lt-ltb, ne_eqb}
+use mathlib.Core.Bool.{beq}
 use Rattle.geometry.specs.declared.Geometry.{Geometry}
 use Rattle.geometry.specs.Limits.{blocks}
 use Rattle.alloc_log.specs.Marks.{held_in}
@@ -104,18 +105,20 @@ module _ (g : Geometry) (t : List ℕ) where
       ap (λ n. all n p) (sym (Fields.slots_is g t))
 
   -- block b
-  pub same_is : (m : List ℕ) (b : ℕ) → b < blocks g →
-      (not (eqb (get_or m b 0) 0) && not (eqb (get_or t (birth_cell g.records b) 0) 0)) ||
-      (not (not (eqb (get_or m b 0) 0)) && not (not (eqb (get_or t (birth_cell g.records b) 0) 0))) ≡ same (held_in m b) (on_pages (view_of g t) b)
-  unfolding held_in on_pages
-  same_is m b h = rw (Fields.birth_is g t b h)
+  pub born_is : (b : ℕ) → b < blocks g → not (eqb (get_or t (birth_cell g.records b) 0) 0) ≡ on_pages (view_of g t) b
+  unfolding on_pages
+  born_is b h = rw (Fields.birth_is g t b h)
 
--- block b of two tables of marks
-pub marks_are : (m k : List ℕ) (b : ℕ) →
-    (not (eqb (get_or m b 0) 0) && not (eqb (get_or k b 0) 0)) || (not (not (eqb (get_or m b 0) 0)) && not (not (eqb (get_or k b 0) 0))) ≡
-    same (held_in m b) (held_in k b)
+-- block b of a table of marks, against a test
+pub mark_is : (m : List ℕ) (b : ℕ) (r : Bool) → beq (not (eqb (get_or m b 0) 0)) r ≡ same (held_in m b) r
 unfolding held_in
-marks_are m k b = refl
+mark_is m b r = go (not (eqb (get_or m b 0) 0)) r
+  where
+    go : (x y : Bool) → beq x y ≡ same x y
+    go true true = refl
+    go true false = refl
+    go false true = refl
+    go false false = refl
 
 -- two marks that agree are one, and a table that agrees with the births stands for them
 same_one : (a b : Bool) → same a b ≡ true → a ≡ b

@@ -1,9 +1,8 @@
 -- The free words, as the check of them reads them: a copy of them, which the blocks that wait and those that are queued join, against the births.
-use Rattle.std.proofs.Common.{◌≡◌, ℕ, zero, suc, ◌+◌, ◌-◌, ◌*◌, ◌^◌, ◌<◌, ◌≤◌, min, Bool, true, false, not, ◌&&◌, ◌||◌, eqb, List, length, get_or, take, drop, set, sym, refl, ap, ◌∙◌, ap₂, arith, length-drop, length-set, length-take-le, get_or-drop, get_or-set_other, get_or-take, get_or-set_same, ext_get_or, pow_pos, eq-eqb, eqb-true}
+use Rattle.std.proofs.Common.{◌≡◌, ℕ, zero, suc, ◌+◌, ◌-◌, ◌*◌, ◌^◌, ◌<◌, ◌≤◌, min, Bool, true, false, ◌&&◌, ◌||◌, eqb, List, length, get_or, take, drop, sym, refl, ap, ◌∙◌, ap₂, arith, pow_pos, eq-eqb, eqb-true}
 use mathlib.Core.Bool.{and-true, or-true, or-false}
 use lib.ListN.{get_or-eq_default}
-use borrow.Author.Tests.{not-false}
-use Rattle.answer.proofs.Cases.{cases, either, same?, lt?}
+use Rattle.answer.proofs.Cases.{cases, either, lt?}
 use Rattle.choice.specs.Words.{free_in, born_free, word_of, words_agree}
 use Rattle.choice.proofs.Agree.{Agrees, agrees_iff}
 use Rattle.geometry.specs.declared.Geometry.{Geometry}
@@ -21,8 +20,10 @@ use Rattle.tables.specs.Ready.{Roomy}
 use Rattle.tables.proofs.Fields
 use Rattle.tables.proofs.Freeing.{waiting_length}
 use Rattle.soundness.specs.Waiting.{joined, joins?}
+use Rattle.soundness.proofs.Cells.{part_at, part_long}
 use Rattle.soundness.proofs.Joining.{Joins, one_test, joined_long, joined_bit, joined_fits, or_none, says_joins}
-use Rattle.soundness.proofs.Loops.{all_none, all_next, and_first, and_second, failed, passed}
+use Rattle.std.proofs.lemmas.Bool.{and_left, and_right}
+use Rattle.soundness.proofs.Loops.{all_none, all_next}
 
 -- words that are w, compared with those of a test
 words_are : (words : List ℕ) (w : ℕ → ℕ) (p : ℕ → Bool) (n m : ℕ) → ((k : ℕ) → k < m → get_or words k 0 ≡ w k) →
@@ -32,40 +33,6 @@ words_are words w p n zero h = sym (all_none _)
 words_are words w p n (suc m) h =
     ap₂ ◌&&◌ (words_are words w p n m (λ k l. h k (omega arith))) (ap (λ (x : ℕ). eqb x (word_of p (32 * m) (min 32 (n - 32 * m)))) (h m (omega arith))) ∙
     sym (all_next m (λ k. eqb (w k) (word_of p (32 * k) (min 32 (n - 32 * k)))))
-
--- n numbers of the tables from i on
-part_at : (t : List ℕ) (i n j : ℕ) → j < n → get_or (take n (drop i t)) j 0 ≡ get_or t (i + j) 0
-part_at t i n j h = get_or-take n (drop i t) j 0 h ∙ get_or-drop i t j 0
-
-part_long : (t : List ℕ) (i n : ℕ) → i + n ≤ length t → length (take n (drop i t)) ≡ n
-part_long t i n h = length-take-le n (drop i t) (omega (arith, length-drop i t))
-
--- ── a copy of the words ──
-
--- those before the k-th are copied
-pub record Copied (t words : List ℕ) (k : ℕ) : Type 0 where
-  pub to : k ≤ 64
-  pub size : length words ≡ 64
-  pub same : (j : ℕ) → j < k → get_or words j 0 ≡ get_or t (free_cell j) 0
-
-pub copied_none : (t words : List ℕ) → length words ≡ 64 → Copied t words 0
-copied_none t words h = record { to = omega arith; size = h; same = λ j l. absurd (let z : ⊥ = omega arith in z) }
-
-pub copied_next : (t words : List ℕ) (k : ℕ) → Copied t words k → k < 64 → Copied t (set words k (get_or t (free_cell k) 0)) (k + 1)
-copied_next t words k W h =
-    let v : ℕ = get_or t (free_cell k) 0 in
-    record {
-      to = omega arith;
-      size = length-set words k v ∙ W.size;
-      same = λ j l. cases (same? j k)
-          (λ e. rw e (get_or-set_same words k v 0 (omega (arith, W.size))))
-          (λ d. get_or-set_other words k j v 0 d ∙ W.same j (omega arith));
-    }
-
-pub copied_all : (t words : List ℕ) (k : ℕ) → 128 ≤ length t → Copied t words k → 64 ≤ k → words ≡ take 64 (drop 64 t)
-copied_all t words k r W h =
-    ext_get_or 0 words (take 64 (drop 64 t)) (W.size ∙ sym (part_long t 64 64 (omega arith)))
-    (λ j l. W.same j (omega (arith, W.size)) ∙ sym (part_at t 64 64 j (omega (arith, W.size))))
 
 -- ── the words with the blocks that wait and the queue's are those without a birth ──
 
@@ -246,16 +213,13 @@ module _ (g : Geometry) (t : List ℕ) (roomy : Roomy g t) where
         unfolding state_of
         tested = rw (en, ef, copied) at is.0
 
-        pub fit_fails : not set ≡ true → false ≡ Fit
-        fit_fails z = sym (and_first _ (failed tested z)) ∙ fit_of
+        pub fit_fails : set ≡ false → false ≡ Fit
+        fit_fails z = sym (and_left _ _ (sym tested ∙ z)) ∙ fit_of
 
-        module _ (z : not set ≡ false) where
+        module _ (z : set ≡ true) where
           left : after ≡ waiting_words
           unfolding state_of
-          left = rw (en, ef, copied) at (is.1 (not-false set z))
-
-          pub after_long : length after ≡ 64
-          after_long = ap length left ∙ joined_long (state_of g t).waiting free_words ∙ copy_long refl
+          left = rw (en, ef, copied) at (is.1 z)
 
           module _ {end : List ℕ} {also : Bool} {at m : ℕ} (em : m ≡ get_or t 10 0) (ea : at ≡ queue_cell g.records (blocks g) 0)
               (does : (also ≡ joins? (blocks g) after (numbers t at m)) × (also ≡ true → end ≡ joined after (numbers t at m))) where
@@ -263,15 +227,12 @@ module _ (g : Geometry) (t : List ℕ) (roomy : Roomy g t) where
             unfolding state_of queue_of
             also_tested = rw (em, ea, left) at does.0
 
-            also_left : not also ≡ false → end ≡ all_words_lem
+            also_left : also ≡ true → end ≡ all_words_lem
             unfolding state_of queue_of
-            also_left y = rw (em, ea, left) at (does.1 (not-false also y))
+            also_left y = rw (em, ea, left) at (does.1 y)
 
-            pub end_long : not also ≡ false → length end ≡ 64
-            end_long y = ap length (also_left y) ∙ joined_long (state_of g t).queue.list waiting_words ∙ sym (ap length left) ∙ after_long
+            pub fit_stops : also ≡ false → false ≡ Fit
+            fit_stops y = sym (and_right (joins? (blocks g) free_words (state_of g t).waiting) _ (and_left _ _ (sym also_tested ∙ y))) ∙ fit_of
 
-            pub fit_stops : not also ≡ true → false ≡ Fit
-            fit_stops y = sym (and_second (joins? (blocks g) free_words (state_of g t).waiting) (and_first _ (failed also_tested y))) ∙ fit_of
-
-            pub fit_is : not also ≡ false → {r : Bool} → r ≡ words_agree end (born_free births) (blocks g) 64 → r ≡ Fit
-            fit_is y e = rw (also_left y) at e ∙ sym (rw (passed tested z, passed also_tested y)) ∙ fit_of
+            pub fit_is : also ≡ true → {r : Bool} → r ≡ words_agree end (born_free births) (blocks g) 64 → r ≡ Fit
+            fit_is y e = rw (also_left y) at e ∙ sym (rw (sym tested ∙ z, sym also_tested ∙ y)) ∙ fit_of

@@ -156,12 +156,6 @@ module _ (N a n : ℕ) (t words₀ : List ℕ) where
   abbrev Answer : Bool → List ℕ → Type 0
   Answer r words = (r ≡ joins? N words₀ (numbers t a n)) × (r ≡ true → words ≡ joined words₀ (numbers t a n))
 
-  pub setting_starts : length words₀ ≡ 64 → Setting N a n t words₀ words₀ 0
-  setting_starts h =
-      let y : a + 0 ≡ a = omega arith in
-      let z : n - 0 ≡ n = omega arith in
-      record { to = omega arith; size = h; same = rw (y, z); sets = rw (y, z) }
-
   module _ {words : List ℕ} {i : ℕ} (W : Setting N a n t words₀ words i) where
     pub setting_ends : n ≤ i → Answer true words
     unfolding numbers joins? joined

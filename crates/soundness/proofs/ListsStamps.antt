@@ -37,9 +37,6 @@ module _ (g : Geometry) (t : List ℕ) (s count : ℕ) (gone₀ : List ℕ) (hs 
   abbrev pub Listed : Bool
   Listed = eqb (length ((view_of g t).list s)) count && takes? (stamps (suc s) (seen gone₀)) ((view_of g t).list s)
 
-  pub same_stamps : length gone₀ ≡ 2048 → (length gone₀ ≡ 2048) × ((b : ℕ) → seen gone₀ b ≤ seen gone₀ b)
-  same_stamps h = (h, λ b. omega arith)
-
   pub list_other : {n : ℕ} → n ≡ get_or t (length_cell s) 0 → (n ≡ count → ⊥) → false ≡ Listed
   list_other e d =
       let z : eqb (length ((view_of g t).list s)) count ≡ false = ne_eqb (length ((view_of g t).list s)) count (λ w. d (e ∙ sym (list_length g t s hs) ∙ w)) in
@@ -89,6 +86,7 @@ module _ (g : Geometry) (t : List ℕ) (s count : ℕ) (gone₀ : List ℕ) (hs 
           lower = λ c. cases (same? c b)
               (λ w. rw (w, get_or-set_same gone b 0 0 (omega (arith, W.size))) (omega arith))
               (λ w. rw (get_or-set_other gone b c 0 0 w) (W.lower c));
-          same = ap (λ (f : ℕ → ℕ). takes? (stamps (suc s) f) (numbers t (list_cell g.records s (i + 1)) (count - (i + 1)))) (seen_set gone b 0 (omega (arith, W.size))) ∙
+          same = ap (λ (f : ℕ → ℕ). takes? (stamps (suc s) f) (numbers t (list_cell g.records s (i + 1)) (count - (i + 1))))
+              (seen_set gone b 0 (omega (arith, W.size))) ∙
               sym (ap (takes? (stamps (suc s) (seen gone))) entry ∙ takes_one (suc s) (seen gone) b _ d (λ w. absurd (let y : ⊥ = omega arith in y))) ∙ W.same;
         }

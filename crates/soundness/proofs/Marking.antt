@@ -1,7 +1,8 @@
 -- The marks that the queue's blocks get, one after another, in a stranger's tables.
-use Rattle.std.proofs.Common.{◌≡◌, ℕ, suc, ◌+◌, ◌-◌, ◌<◌, ◌≤◌, Bool, true, false, not, ◌||◌, eqb, ltb, List, [], ◌∷◌, length, get_or, set, sym, refl, ap, ◌∙◌, inl, inr, arith, length-set, get_or-set_other, get_or-set_same, le-ltb, lt-ltb, eq-eqb, ne_eqb, le-leb}
+use Rattle.std.proofs.Common.{◌≡◌, ℕ, suc, ◌+◌, ◌-◌, ◌<◌, ◌≤◌, Bool, true, false, not, ◌&&◌, ◌||◌, eqb, ltb, leb, List, [], ◌∷◌, length, get_or, set, sym, refl, ap, ◌∙◌, inl, inr, arith, length-set, get_or-set_other, get_or-set_same, le-ltb, lt-ltb, eq-eqb, ne_eqb}
 use mathlib.Core.Bool.{and-false, or-false, or-true, or_assoc, false≢true}
-use borrow.Author.Tests.{lt-leb}
+use Rattle.std.proofs.lemmas.Bool.{and_parts}
+use Rattle.soundness.proofs.Loops.{and_both_no}
 use Rattle.answer.proofs.Cases.{cases, same?}
 use Rattle.geometry.specs.declared.Geometry.{Geometry}
 use Rattle.geometry.specs.Limits.{blocks}
@@ -101,12 +102,6 @@ module _ (g : Geometry) (t own₀ : List ℕ) (n last : ℕ) where
   abbrev Answer : Bool → List ℕ → Type 0
   Answer r own = (r ≡ marks? N f last own₀ (numbers t a n)) × (r ≡ true → own ≡ marking own₀ (numbers t a n))
 
-  pub marking_starts : length own₀ ≡ 2048 → Marking own₀ 0
-  marking_starts h =
-      let y : a + 0 ≡ a = omega arith in
-      let z : n - 0 ≡ n = omega arith in
-      record { to = omega arith; size = h; same = rw (y, z); sets = rw (y, z) }
-
   module _ {own : List ℕ} {i : ℕ} (W : Marking own i) where
     pub marking_ends : n ≤ i → Answer true own
     unfolding numbers marks? marking
@@ -139,30 +134,25 @@ module _ (g : Geometry) (t own₀ : List ℕ) (n last : ℕ) where
       birth_at : {at : ℕ} → at ≡ queue_birth_cell g.records (blocks g) 0 → b < N → f b ≡ get_or t (at + b) 0
       birth_at e k = Fields.queue_birth_is g t b k ∙ ap (λ j. get_or t j 0) (omega arith)
 
-      module _ {at : ℕ} (ea : at ≡ queue_birth_cell g.records (blocks g) 0) (k : b < N) (off : get_or own b 0 ≡ 0) where
-        -- one without a birth
-        pub marking_unborn : get_or t (at + b) 0 ≡ 0 → Answer false own
+      -- v is whether its birth is one from 1 to the last number
+      module _ {at : ℕ} (ea : at ≡ queue_birth_cell g.records (blocks g) 0) (k : b < N) (off : get_or own b 0 ≡ 0) {v : Bool}
+          (ev : v ≡ (leb 1 (get_or t (at + b) 0) && leb (get_or t (at + b) 0) last)) where
+        said : (ltb 0 (f b) && leb (f b) last) ≡ v
+        said = rw (birth_at ea k) (sym ev)
+
+        pub marking_unfit : v ≡ false → Answer false own
         unfolding marks?
-        marking_unborn z =
-            let w : f b ≡ 0 = birth_at ea k ∙ z in
-            fails (rw (lt-ltb b N k, eq-eqb (get_or own b 0) 0 off, w))
+        marking_unfit e =
+            fails (rw (lt-ltb b N k, eq-eqb (get_or own b 0) 0 off) (and_both_no (ltb 0 (f b)) (leb (f b) last) _ (said ∙ e)))
 
-        module _ (some : get_or t (at + b) 0 ≡ 0 → ⊥) {at₂ : ℕ} (ea₂ : at₂ ≡ queue_birth_cell g.records (blocks g) 0) where
-          positive : ltb 0 (f b) ≡ true
-          positive = lt-ltb 0 (f b) (rw (birth_at ea k) (omega (arith, some)))
-
-          -- one whose birth is above the last number
-          pub marking_late : last < get_or t (at₂ + b) 0 → Answer false own
-          unfolding marks?
-          marking_late z =
-              fails (rw (lt-ltb b N k, eq-eqb (get_or own b 0) 0 off, positive, lt-leb (f b) last (rw (birth_at ea₂ k) z)))
-
-          pub marking_goes : get_or t (at₂ + b) 0 ≤ last → Marking (set own b 1) (i + 1)
-          unfolding marks? marking
-          marking_goes z = record {
-            to = omega arith;
-            size = length-set own b 1 ∙ W.size;
-            same = sym (rw (lt-ltb b N k, eq-eqb (get_or own b 0) 0 off, positive, le-leb (f b) last (rw (birth_at ea₂ k) z))
-                at (ap (marks? N f last own) entry)) ∙ W.same;
-            sets = sym (ap (marking own) entry) ∙ W.sets;
-          }
+        pub marking_goes : v ≡ true → Marking (set own b 1) (i + 1)
+        unfolding marks? marking
+        marking_goes e =
+            let p : ltb 0 (f b) ≡ true = (and_parts (ltb 0 (f b)) (leb (f b) last) (said ∙ e)).0 in
+            let q : leb (f b) last ≡ true = (and_parts (ltb 0 (f b)) (leb (f b) last) (said ∙ e)).1 in
+            record {
+              to = omega arith;
+              size = length-set own b 1 ∙ W.size;
+              same = sym (rw (lt-ltb b N k, eq-eqb (get_or own b 0) 0 off, p, q) at (ap (marks? N f last own) entry)) ∙ W.same;
+              sets = sym (ap (marking own) entry) ∙ W.sets;
+            }

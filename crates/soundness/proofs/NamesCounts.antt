@@ -12,7 +12,8 @@ use Rattle.model.proofs.Tally.{tally_ext, tally_le}
 use Rattle.tables.specs.Ready.{Roomy}
 use Rattle.tables.proofs.Fields
 use Rattle.tables.proofs.TitleRows.{link_at}
-use Rattle.soundness.proofs.Loops.{all_at, all_same, and_first}
+use Rattle.std.proofs.lemmas.Bool.{and_left}
+use Rattle.soundness.proofs.Loops.{all_at, all_same}
 use Rattle.soundness.proofs.NamesRows.{row_linked}
 
 -- ── the rows of each link ──
@@ -93,7 +94,7 @@ module _ (g : Geometry) (t : List ℕ) where
   names_are = refl
 
   pub names_no : rowed ≡ false → false ≡ names? (view_of g t) (state_of g t).notes
-  names_no h = sym (names_are ∙ and_first counted h)
+  names_no h = sym (names_are ∙ and_left rowed counted h)
 
   pub names_rest : {r : Bool} → rowed ≡ true → r ≡ counted → r ≡ names? (view_of g t) (state_of g t).notes
   names_rest y e = e ∙ sym (names_are ∙ rw y)

@@ -1,81 +1,60 @@
 -- The rows of names of a stranger's tables: letters, two names beside each other, and what is asked of a row.
-use Rattle.std.proofs.Common.{◌≡◌, ℕ, suc, ◌+◌, ◌-◌, ◌<◌, ◌≤◌, Bool, true, false, not, ◌&&◌, eqb, ltb, leb, List, length, get_or, sym, ap, ◌∙◌, ap₂, arith, ltb-true, le-ltb, lt-ltb, eq-eqb, ne_eqb, le-leb}
-use mathlib.Core.Bool.{false≢true}
-use borrow.Author.Tests.{lt-leb, not-true, not-false}
+use Rattle.std.proofs.Common.{◌≡◌, ℕ, suc, ◌+◌, ◌-◌, ◌<◌, ◌≤◌, Bool, true, false, not, ◌&&◌, eqb, ltb, leb, List, [], ◌∷◌, length, get_or, take, drop, refl, sym, ap, ◌∙◌, ap₂, arith, ltb-true, le-ltb, lt-ltb, eq-eqb, ne_eqb}
+use Rattle.std.specs.Cmp.Lexicographic.{pointwise}
+use Rattle.std.specs.List.{list_all}
 use Rattle.answer.proofs.Cases.{cases, same?, pos}
 use Rattle.geometry.specs.declared.Geometry.{Geometry}
 use Rattle.model.specs.Table.{via, all}
 use Rattle.model.specs.View.{View}
-use Rattle.model.specs.Names.{Titles, letters, valid_name, same_name, same_letters}
+use Rattle.model.specs.Names.{Titles, letters, valid_name, same_name}
 use Rattle.model.specs.Layout.{num_cell, title_cell, letters_cell, field, numbers, view_of, titles_of}
 use Rattle.model.specs.Memory.{other_name?, row?}
 use Rattle.model.proofs.TabFacts.{via_suc}
 use Rattle.model.proofs.LayoutFacts.{length_numbers}
 use Rattle.model.proofs.NameBytes.{same_false}
-use Rattle.model.proofs.NameLetters.{letters_same}
 use Rattle.tables.proofs.Fields
-use Rattle.tables.proofs.TitleRows.{link_at, text_at, text_length, letter_at}
-use Rattle.soundness.proofs.Loops.{all_same, and_left}
+use Rattle.tables.proofs.TitleRows.{link_at, text_at, text_length}
+use Rattle.soundness.proofs.Cells.{part_is}
+use Rattle.std.proofs.lemmas.Bool.{and_parts}
 
--- ── whether n numbers from an address on are letters: those from the i-th on are just where all are ──
+-- ── n numbers from an address on: whether they are letters, and whether they are a valid name ──
 
-abbrev pub Lettered : List ℕ → ℕ → ℕ → ℕ → Type 0
-Lettered t at n i = letters (numbers t (at + i) (n - i)) ≡ letters (numbers t at n)
+-- what `is_letter` says
+abbrev pub letter? : ℕ → Bool
+letter? x = leb 97 x && leb x 122
 
-module _ (t : List ℕ) (at n : ℕ) where
-  pub letters_first : Lettered t at n 0
-  letters_first = ap₂ (λ a k. letters (numbers t a k)) (omega arith) (omega arith)
+letters_all : (l : List ℕ) → list_all letter? l ≡ letters l
+unfolding letters
+letters_all [] = refl
+letters_all (x ∷ l) = ap (λ (b : Bool). letter? x && b) (letters_all l)
 
-  module _ (i : ℕ) (L : Lettered t at n i) where
-    pub letters_end : n ≤ i → true ≡ letters (numbers t at n)
-    unfolding letters numbers
-    letters_end h = let d : n - i ≡ 0 = omega arith in rw d at L
-
-    -- r is what `is_letter` says of the i-th
-    module _ {r : Bool} (e : r ≡ (leb 97 (get_or t (at + i) 0) && leb (get_or t (at + i) 0) 122)) (h : i < n) where
-      next : letters (numbers t (at + i) (n - i)) ≡ (r && letters (numbers t (at + (i + 1)) (n - (i + 1))))
-      unfolding letters numbers
-      next =
-          let d : n - i ≡ suc (n - (i + 1)) = omega arith in
-          let k : suc (at + i) ≡ at + (i + 1) = omega arith in
-          rw (d, e, k)
-
-      pub letters_stop : not r ≡ true → false ≡ letters (numbers t at n)
-      letters_stop z = rw (next, not-true r z) at L
-
-      pub letters_go : not r ≡ false → Lettered t at n (i + 1)
-      letters_go z = rw (next, not-false r z) at L
-
--- ── the name in a row: n numbers from an address on ──
+pub letters_part : (t : List ℕ) (at n : ℕ) → at + n ≤ length t → list_all letter? (take n (drop at t)) ≡ letters (numbers t at n)
+letters_part t at n h = letters_all (take n (drop at t)) ∙ ap letters (part_is t at n h)
 
 module _ (t : List ℕ) (at n : ℕ) {m : ℕ} (em : m ≡ n) where
   abbrev name : List ℕ
   name = numbers t at n
 
-  pub name_none : m ≡ 0 → (false ≡ valid_name (numbers t at n)) × (false ≡ true → n ≤ 32)
-  unfolding valid_name
-  name_none z = (rw (le-ltb 0 (length name) (omega (arith, length_numbers t at n))), λ e. absurd (false≢true e))
+  -- v is whether its length is 1 to 32
+  bounds : {v : Bool} → v ≡ (leb 1 m && leb m 32) → (ltb 0 (length name) && leb (length name) 32) ≡ v
+  bounds ev = ap (λ (k : ℕ). leb 1 k && leb k 32) (length_numbers t at n ∙ sym em) ∙ sym ev
 
-  pub name_long : (m ≡ 0 → ⊥) → 32 < m → (false ≡ valid_name (numbers t at n)) × (false ≡ true → n ≤ 32)
+  pub name_no : {v : Bool} → v ≡ (leb 1 m && leb m 32) → v ≡ false → v ≡ valid_name (numbers t at n)
   unfolding valid_name
-  name_long d h = (
-    rw (lt-ltb 0 (length name) (omega (arith, length_numbers t at n)), lt-leb (length name) 32 (omega (arith, length_numbers t at n))),
-    λ e. absurd (false≢true e),
-  )
+  name_no ev z = let k : (ltb 0 (length name) && leb (length name) 32) ≡ false = bounds ev ∙ z in rw (k, z)
 
-  pub name_is : {r : Bool} → (m ≡ 0 → ⊥) → m ≤ 32 → r ≡ letters (numbers t at m) → (r ≡ valid_name (numbers t at n)) × (r ≡ true → n ≤ 32)
+  pub name_is : {v r : Bool} → v ≡ (leb 1 m && leb m 32) → v ≡ true → r ≡ letters (numbers t at m) → r ≡ valid_name (numbers t at n)
   unfolding valid_name
-  name_is d h e = (
-    rw (lt-ltb 0 (length name) (omega (arith, length_numbers t at n)), le-leb (length name) 32 (omega (arith, length_numbers t at n)))
-        (e ∙ ap (λ k. letters (numbers t at k)) em),
-    λ y. omega arith,
-  )
+  name_is ev y e = let k : (ltb 0 (length name) && leb (length name) 32) ≡ true = bounds ev ∙ y in rw k (e ∙ ap (λ k. letters (numbers t at k)) em)
 
 -- ── two rows beside each other ──
 
--- n numbers from a on are those from b on
-abbrev pub alike : List ℕ → ℕ → ℕ → ℕ → Bool
-alike t a b k = eqb (get_or t (a + k) 0) (get_or t (b + k) 0)
+same_pointwise : (l m : List ℕ) → same_name l m ≡ pointwise eqb l m
+unfolding same_name
+same_pointwise [] [] = refl
+same_pointwise [] (y ∷ m) = refl
+same_pointwise (x ∷ l) [] = refl
+same_pointwise (x ∷ l) (y ∷ m) = ap (λ (b : Bool). eqb x y && b) (same_pointwise l m)
 
 module _ (t : List ℕ) (i j : ℕ) (hi : i < 32) (hj : j < 32) (used : 0 < get_or t (title_cell i) 0) where
   abbrev X : Titles
@@ -99,25 +78,19 @@ module _ (t : List ℕ) (i j : ℕ) (hi : i < 32) (hj : j < 32) (used : 0 < get_
     unfolding other_name?
     other_length d = rw (in_use, same_false (X.text j) (X.text i) (λ e. d (sym length_j ∙ ap length e ∙ length_i)))
 
-    module _ (even : get_or t (title_cell j + 1) 0 ≡ get_or t (title_cell i + 1) 0) where
-      abbrev n : ℕ
-      n = get_or t (title_cell i + 1) 0
-
-      spelled : same_name (X.text j) (X.text i) ≡ all n (alike t (letters_cell j) (letters_cell i))
-      unfolding same_letters
-      spelled =
-          ap (λ k. same_name k (X.text i))
-          (text_at t j hj (let z : 0 < get_or t (title_cell j) 0 = omega arith in z) ∙ ap (numbers t (letters_cell j)) even) ∙
-          sym (letters_same t (letters_cell j) n (X.text i)) ∙
-          rw (eq-eqb n (length (X.text i)) (sym length_i))
-          (all_same n _ _ (λ k h. ap (eqb (get_or t (letters_cell j + k) 0)) (letter_at t i k hi used h)))
-
-      -- r is what `same_text` says, of m letters
-      pub other_letters : {m : ℕ} {r : Bool} → m ≡ get_or t (title_cell i + 1) 0 → r ≡ all m (alike t (letters_cell j) (letters_cell i)) →
-          not r ≡ other_name? (titles_of t) i j
-      unfolding other_name?
-      other_letters em er =
-          rw in_use (ap not (er ∙ ap (λ k. all k (alike t (letters_cell j) (letters_cell i))) em ∙ sym spelled))
+    -- r is what a comparison of the letters says, n from b on and as many from a on
+    pub other_letters : {n a b : ℕ} {r : Bool} → get_or t (title_cell j + 1) 0 ≡ get_or t (title_cell i + 1) 0 → n ≡ get_or t (title_cell i + 1) 0 →
+        a ≡ letters_cell i → b ≡ letters_cell j → a + n ≤ length t → b + n ≤ length t →
+        r ≡ not (pointwise eqb (take (b + n - b) (drop b t)) (take (a + n - a) (drop a t))) → r ≡ other_name? (titles_of t) i j
+    unfolding other_name?
+    other_letters {n} {a} {b} {r} even en ea eb la lb er =
+        let na : a + n - a ≡ n = omega arith in
+        let nb : b + n - b ≡ n = omega arith in
+        let ti : X.text i ≡ numbers t a n = text_at t i hi used ∙ ap₂ (numbers t) (sym ea) (sym en) in
+        let tj : X.text j ≡ numbers t b n =
+        text_at t j hj (let z : 0 < get_or t (title_cell j) 0 = omega arith in z) ∙ ap₂ (numbers t) (sym eb) (even ∙ sym en) in
+        let e : r ≡ not (pointwise eqb (numbers t b n) (numbers t a n)) = rw (na, nb, part_is t a n la, part_is t b n lb) at er in
+        rw (in_use, ti, tj, same_pointwise (numbers t b n) (numbers t a n)) e
 
 -- ── a row ──
 
@@ -155,13 +128,13 @@ module _ (g : Geometry) (t : List ℕ) (i : ℕ) (h : i < 32) where
         name_said : valid_name ((titles_of t).text i) ≡ v
         name_said = ap valid_name (text_at t i h (let z : 0 < get_or t (title_cell i) 0 = omega arith in z)) ∙ sym ev
 
-        pub row_misnamed : not v ≡ true → false ≡ row? (view_of g t) (titles_of t) i
+        pub row_misnamed : v ≡ false → false ≡ row? (view_of g t) (titles_of t) i
         unfolding row?
-        row_misnamed n = rw (filled, living, name_said ∙ not-true v n)
+        row_misnamed n = rw (filled, living, name_said ∙ n)
 
-        pub row_named : {r : Bool} → not v ≡ false → r ≡ all i (other_name? (titles_of t) i) → r ≡ row? (view_of g t) (titles_of t) i
+        pub row_named : {r : Bool} → v ≡ true → r ≡ all i (other_name? (titles_of t) i) → r ≡ row? (view_of g t) (titles_of t) i
         unfolding row?
-        row_named n e = rw (filled, living, name_said ∙ not-false v n) e
+        row_named n e = rw (filled, living, name_said ∙ n) e
 
   -- the link of a row that fits leads into the table
   pub row_linked : row? (view_of g t) (titles_of t) i ≡ true → get_or t (title_cell i) 0 ≤ g.records
@@ -170,6 +143,6 @@ module _ (g : Geometry) (t : List ℕ) (i : ℕ) (h : i < 32) where
       cases (same? ((titles_of t).owner i) 0) (λ z. omega (arith, link_at t i h)) (λ n.
       let (s, d) = pos ((titles_of t).owner i) (let z : 0 < (titles_of t).owner i = omega arith in z) in
       let e' = rw (ne_eqb ((titles_of t).owner i) 0 n) at e in
-      let l = ltb-true 0 (via K.num ((titles_of t).owner i)) (and_left _ _ (and_left _ _ e')) in
+      let l = ltb-true 0 (via K.num ((titles_of t).owner i)) (and_parts _ _ (and_parts _ _ e').0).0 in
       let k = Fields.num_in g t s (omega (arith, l, ap (via K.num) d, via_suc K.num s)) in
       omega (arith, k, link_at t i h))

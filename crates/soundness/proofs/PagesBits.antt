@@ -26,7 +26,8 @@ unfolding count_trailing_zeros
 less_bit zero q h k i = absurd (let z : ⊥ = omega arith in z)
 less_bit (suc d) q h k i = go (q % 2) refl (λ p. less_bit d (q / 2) p (half_lt (2 ^ d) q (rw (pow-suc 2 d) at k))) i
   where
-    go : (r : ℕ) → q % 2 ≡ r → (0 < q / 2 → (i : ℕ) → Less (q / 2) (count_trailing_zeros d (q / 2)) i) → (i : ℕ) → Less q (under r (count_trailing_zeros d (q / 2))) i
+    go : (r : ℕ) → q % 2 ≡ r → (0 < q / 2 → (i : ℕ) → Less (q / 2) (count_trailing_zeros d (q / 2)) i) → (i : ℕ) → Less q
+        (under r (count_trailing_zeros d (q / 2))) i
     go zero e f zero = (λ z. absurd (let y : ⊥ = omega arith in y), λ z. absurd (let y : ⊥ = omega arith in y))
     go zero e f (suc i) =
         let u = even_less q h e in
@@ -46,7 +47,8 @@ and_same false = refl
 module _ (d q : ℕ) (some : 0 < q) (fits : q < 2 ^ d) where
   pub off_at : bit (bit_and q (q - 1)) (count_trailing_zeros d q) ≡ false
   off_at =
-      bit_and_lem (count_trailing_zeros d q) q (q - 1) ∙ ap (λ (b : Bool). bit q (count_trailing_zeros d q) && b) ((less_bit d q some fits (count_trailing_zeros d q)).0 refl)
+      bit_and_lem (count_trailing_zeros d q) q (q - 1) ∙ ap (λ (b : Bool). bit q (count_trailing_zeros d q) && b)
+      ((less_bit d q some fits (count_trailing_zeros d q)).0 refl)
       ∙ and-false (bit q (count_trailing_zeros d q))
 
   pub off_below : (i : ℕ) → i < count_trailing_zeros d q → bit (bit_and q (q - 1)) i ≡ false

@@ -1,5 +1,5 @@
 -- A slot: its walk and its deadlist together; and all slots.
-use Rattle.std.proofs.Common.{◌≡◌, ℕ, suc, ◌+◌, ◌-◌, ◌<◌, ◌≤◌, Bool, true, false, cond, not, ◌&&◌, eqb, ltb, List, [], ◌∷◌, length, get_or, replicate, sym, refl, ap, ◌∙◌, add-one, arith, le-ltb, lt-ltb}
+use Rattle.std.proofs.Common.{Option, Some, None, ◌≡◌, ℕ, suc, ◌+◌, ◌-◌, ◌<◌, ◌≤◌, Bool, true, false, cond, not, ◌&&◌, eqb, ltb, List, [], ◌∷◌, length, get_or, replicate, sym, refl, ap, ◌∙◌, add-one, arith, le-ltb, lt-ltb}
 use lib.ListN.{get_or-replicate, length-replicate, get_or-eq_default}
 use borrow.Author.Tests.{not-true, not-false}
 use Rattle.answer.proofs.Cases.{cases, same?, lt?}
@@ -13,8 +13,6 @@ use Rattle.model.proofs.TabFacts.{put_at, put_other}
 use Rattle.model.specs.Stamps.{stamped, stamps}
 use Rattle.model.proofs.Marking.{takes_alike, stamps_fresh, marks_rows}
 use Rattle.tables.proofs.Fields.{num_is, list_length}
-use Rattle.soundness.specs.declared.pages.Walk.{Walk}
-use Rattle.soundness.specs.declared.pages.Walk.TheVariants.{Fits, Fails}
 use Rattle.soundness.specs.Pages.{seen, left_at, walk, Rest, rest_from, rest_of, Walked, slot_fits}
 use Rattle.soundness.proofs.PagesWalk.{both_true, walk_all, walk_next, walk_stops, walk_none, rest_end}
 
@@ -73,8 +71,8 @@ module _ (K : View) (s : ℕ) (own₀ gone₀ : List ℕ) (on : ltb 0 (K.num s) 
       let e : 0 + length (rows (left_at K s) 0 K.pages) ≡ length (rows (left_at K s) 0 K.pages) = omega arith in
       rw (z, e, all_owns, walk_all (page? K s) (own_at K s) (seen own₀) K.pages)
 
-  module _ {r : Walk} {own gone' : List ℕ} (done : Walked K s own₀ gone₀ 0 0 r own gone' K.pages) where
-    pub slot_fails : r ≡ Fails → false ≡ (slot_fits K s && once? (seen own₀) (owns K s))
+  module _ {r : Option ℕ} {own gone' : List ℕ} (done : Walked K s own₀ gone₀ 0 0 r own gone' K.pages) where
+    pub slot_fails : r ≡ None → false ≡ (slot_fits K s && once? (seen own₀) (owns K s))
     slot_fails e =
         let d : (all K.pages (page? K s) && once? (seen own₀) (owns K s)) ≡ false = sym (ap (λ (q : Rest). q.fits) whole_is) ∙ done.fails e in
         rw in_use (sym (mid (all K.pages (page? K s)) (list? K s) (once? (seen own₀) (owns K s)) d))
@@ -84,7 +82,7 @@ module _ (K : View) (s : ℕ) (own₀ gone₀ : List ℕ) (on : ltb 0 (K.num s) 
         mid true false c d = refl
         mid false b c d = refl
 
-    module _ {n : ℕ} (e : r ≡ Fits n) where
+    module _ {n : ℕ} (e : r ≡ Some n) where
       came : record { fits = true; own = seen own; gone = seen gone'; count = n } ≡ rest_of K s own₀ gone₀ 0 0
       came = sym (rest_end K s own gone' n) ∙ done.fits n e
 
@@ -110,7 +108,8 @@ module _ (K : View) (s : ℕ) (own₀ gone₀ : List ℕ) (on : ltb 0 (K.num s) 
           let c : n ≡ length (gone K s) = ap (λ (q : Rest). q.count) came_to in
           let f : takes? (stamps (suc s) (seen gone')) (K.list s) ≡ takes? (marks_of (λ b. 0) (gone K s)) (K.list s) =
           takes_alike (stamps (suc s) (seen gone')) (marks_of (λ b. 0) (gone K s)) (K.list s)
-          (λ b. ap (λ (f : ℕ → ℕ). ltb 0 (stamps (suc s) f b)) stamps_are ∙ stamps_fresh (suc s) (seen gone₀) (gone K s) (λ d w. absurd (let y : ⊥ = omega (arith, low d) in y)) b) in
+          (λ b. ap (λ (f : ℕ → ℕ). ltb 0 (stamps (suc s) f b)) stamps_are ∙ stamps_fresh (suc s) (seen gone₀) (gone K s)
+          (λ d w. absurd (let y : ⊥ = omega (arith, low d) in y)) b) in
           h ∙ rw (in_use, t.0, t.1, f, c) (sym (last (list? K s)))
         where
           last : (a : Bool) → ((true && a) && true) ≡ a
@@ -164,7 +163,8 @@ module _ (K : View) (own₀ : List ℕ) where
           let d = walk_stops (slot_fits K) (owns K) (seen own) s (K.slots - suc s) (sym e ∙ not-true r n) in
           sym (sym whole_fits ∙ sym W.fits ∙ ap (walk (slot_fits K) (owns K) (seen own) s) z ∙ d)
 
-      pub slots_go : {own' gone' : List ℕ} → not r ≡ false → length own' ≡ 2048 → length gone' ≡ 2048 → (r ≡ true → seen own' ≡ marks_of (seen own) (owns K s)) →
+      pub slots_go : {own' gone' : List ℕ} → not r ≡ false → length own' ≡ 2048 → length gone' ≡ 2048 →
+          (r ≡ true → seen own' ≡ marks_of (seen own) (owns K s)) →
           (r ≡ true → (b : ℕ) → seen gone' b ≤ s + 1) → Slots K own₀ own' gone' (s + 1)
       slots_go {own'} {gone'} n os gs m l =
           let y : r ≡ true = not-false r n in
@@ -176,13 +176,15 @@ module _ (K : View) (own₀ : List ℕ) where
             gone_size = gs;
             low = l y;
             fits = rw (add-one s, m y) (f ∙ ap (walk (slot_fits K) (owns K) (seen own) s) (sym z) ∙ W.fits);
-            marks = rw (add-one s, m y) (sym (marks_rows (owns K) (seen own) s (K.slots - suc s)) ∙ ap (λ (k : ℕ). marks_of (seen own) (rows (owns K) s k)) (sym z) ∙ W.marks);
+            marks = rw (add-one s, m y) (sym (marks_rows (owns K) (seen own) s (K.slots - suc s)) ∙ ap
+                (λ (k : ℕ). marks_of (seen own) (rows (owns K) s k)) (sym z) ∙ W.marks);
           }
 
     pub slots_end : K.slots ≤ s → (true ≡ AllFit) × ((b : ℕ) → get_or own b 0 ≡ marks_of (seen own₀) (all_own K) b)
     unfolding rows marks_of
     slots_end h =
         let z : K.slots - s ≡ 0 = omega arith in
-        let a : true ≡ AllFit = sym (sym whole_fits ∙ sym W.fits ∙ ap (walk (slot_fits K) (owns K) (seen own) s) z ∙ walk_none (slot_fits K) (owns K) (seen own) s) in
+        let a : true ≡ AllFit = sym (sym whole_fits ∙ sym W.fits ∙ ap (walk (slot_fits K) (owns K) (seen own) s) z ∙ walk_none (slot_fits K) (owns K)
+        (seen own) s) in
         let m : seen own ≡ marks_of (seen own₀) (all_own K) = (rw z at W.marks) in
         (a, λ b. ap (λ (f : ℕ → ℕ). f b) m)

@@ -1,5 +1,5 @@
 -- The walk over a record's pages as the code goes it: a page that differs, the pages between, a word of pages, a row.
-use Rattle.std.proofs.Common.{◌≡◌, ℕ, suc, ◌+◌, ◌-◌, ◌*◌, ◌^◌, ◌<◌, ◌≤◌, min, Bool, true, false, not, ◌&&◌, ltb, List, length, get_or, set, sym, refl, ap, ◌∙◌, lt_of_lt_of_le, lt_of_le_of_lt, arith, get_or-set_other, get_or-set_same, pow_mono, ltb-false, ltb-true}
+use Rattle.std.proofs.Common.{Option, Some, None, ◌≡◌, ℕ, suc, ◌+◌, ◌-◌, ◌*◌, ◌^◌, ◌<◌, ◌≤◌, min, Bool, true, false, not, ◌&&◌, ltb, List, length, get_or, set, sym, refl, ap, ◌∙◌, lt_of_lt_of_le, lt_of_le_of_lt, arith, get_or-set_other, get_or-set_same, pow_mono, ltb-false, ltb-true}
 use lib.Bits.{bit_and, and_le_l}
 use lib.Count.{count_trailing_zeros}
 use borrow.Author.Tests.{not-true, not-false}
@@ -17,8 +17,6 @@ use Rattle.model.specs.Stamps.{stamped}
 use Rattle.tables.specs.Rows.{differs}
 use Rattle.tables.proofs.Fields.{page_is}
 use Rattle.soundness.specs.declared.pages.Kin.{Kin}
-use Rattle.soundness.specs.declared.pages.Walk.{Walk}
-use Rattle.soundness.specs.declared.pages.Walk.TheVariants.{Fits, Fails}
 use Rattle.soundness.specs.Pages.{reached, kin_of, younger, seen, left_at, Rest, rest_of, Walked, RowWords}
 use Rattle.soundness.proofs.PagesBits.{off_at, off_below, off_above}
 use Rattle.soundness.proofs.PagesLinks.{reached_in, reached_out, page_reached}
@@ -27,7 +25,7 @@ use Rattle.soundness.proofs.PagesWalk.{left_apart, left_first, rest_fails, rest_
 -- ── the two answers ──
 
 module _ {K : View} {s : ℕ} {own gone : List ℕ} {n x : ℕ} {own' gone' : List ℕ} {y : ℕ} (os : length own' ≡ 2048) (gs : length gone' ≡ 2048) where
-  walked_no : (rest_of K s own gone n x).fits ≡ false → Walked K s own gone n x Fails own' gone' y
+  walked_no : (rest_of K s own gone n x).fits ≡ false → Walked K s own gone n x None own' gone' y
   walked_no e = record {
     own_size = os;
     gone_size = gs;
@@ -36,7 +34,7 @@ module _ {K : View} {s : ℕ} {own gone : List ℕ} {n x : ℕ} {own' gone' : Li
     fits = λ k d. absurd (let z : ◌≡◌ {A = ℕ} 0 1 = cc in let w : ⊥ = omega arith in w);
   }
 
-  walked_yes : (k : ℕ) → k ≤ y → rest_of K s own' gone' k y ≡ rest_of K s own gone n x → Walked K s own gone n x (Fits k) own' gone' y
+  walked_yes : (k : ℕ) → k ≤ y → rest_of K s own' gone' k y ≡ rest_of K s own gone n x → Walked K s own gone n x (Some k) own' gone' y
   walked_yes k l e = record {
     own_size = os;
     gone_size = gs;
@@ -71,12 +69,13 @@ module _ (g : Geometry) (t : List ℕ) (s : ℕ) {kin : Kin} (ek : kin ≡ kin_o
     its_fit : r ≡ (fits? (view_of g t) s ((view_of g t).page s x) && once? (seen own) (on_page ((view_of g t).page s x)))
     its_fit = rw link_said at er
 
-    pub page_stops : length gone ≡ 2048 → not r ≡ true → Walked (view_of g t) s own gone n x Fails own' gone (x + 1)
+    pub page_stops : length gone ≡ 2048 → not r ≡ true → Walked (view_of g t) s own gone n x None own' gone (x + 1)
     unfolding view_of
     page_stops gs e = walked_no os gs (rest_fails (view_of g t) s own gone n x hx d (sym (not-true r e) ∙ its_fit))
 
-    page_goes : (gone' : List ℕ) (k : ℕ) → length gone' ≡ 2048 → k ≤ x + 1 → not r ≡ false → seen gone' ≡ stamped (suc s) (seen gone) (left_at (view_of g t) s x) →
-        k ≡ n + length (left_at (view_of g t) s x) → Walked (view_of g t) s own gone n x (Fits k) own' gone' (x + 1)
+    page_goes : (gone' : List ℕ) (k : ℕ) → length gone' ≡ 2048 → k ≤ x + 1 → not r ≡ false → seen gone' ≡ stamped (suc s) (seen gone)
+        (left_at (view_of g t) s x) →
+        k ≡ n + length (left_at (view_of g t) s x) → Walked (view_of g t) s own gone n x (Some k) own' gone' (x + 1)
     unfolding view_of
     page_goes gone' k gs l e eg ek =
         let m : seen own' ≡ marks_of (seen own) (on_page ((view_of g t).page s x)) = rw link_said at (em (not-false r e)) in
@@ -84,7 +83,7 @@ module _ (g : Geometry) (t : List ℕ) (s : ℕ) {kin : Kin} (ek : kin ≡ kin_o
         (rest_next (view_of g t) s own gone n x hx d own' gone' k (sym (not-false r e) ∙ its_fit) m eg ek)
 
     -- no record is before it: nothing is gone
-    pub page_first : length gone ≡ 2048 → not r ≡ false → kin.listing ≡ false → Walked (view_of g t) s own gone n x (Fits n) own' gone (x + 1)
+    pub page_first : length gone ≡ 2048 → not r ≡ false → kin.listing ≡ false → Walked (view_of g t) s own gone n x (Some n) own' gone (x + 1)
     unfolding stamped
     page_first gs e f =
         let z : (view_of g t).prev s ≡ 0 = below (ltb-false 0 ((view_of g t).prev s) (sym listing_is ∙ f)) in
@@ -97,7 +96,7 @@ module _ (g : Geometry) (t : List ℕ) (s : ℕ) {kin : Kin} (ek : kin ≡ kin_o
     -- what was on the page of the record before is stamped, if it is gone
     pub page_next : (gone' : List ℕ) {was more : ℕ} → length gone' ≡ 2048 → not r ≡ false → kin.listing ≡ true → was ≡ page_of (view_of g t) kin.pred x →
         more ≡ length (younger (view_of g t) s was) → seen gone' ≡ stamped (suc s) (seen gone) (younger (view_of g t) s was) → more ≤ 1 →
-        Walked (view_of g t) s own gone n x (Fits (n + more)) own' gone' (x + 1)
+        Walked (view_of g t) s own gone n x (Some (n + more)) own' gone' (x + 1)
     page_next gone' {was} {more} gs e f ew ec eg one =
         let z : 0 < (view_of g t).prev s = ltb-true 0 ((view_of g t).prev s) (sym listing_is ∙ f) in
         let l : left_at (view_of g t) s x ≡ younger (view_of g t) s was =
@@ -163,7 +162,7 @@ module _ (g : Geometry) (t : List ℕ) (s : ℕ) {kin : Kin} (ek : kin ≡ kin_o
           ∙ W.same
 
       -- no page is left that differs
-      pub word_ends : rest ≡ 0 → Walked (view_of g t) s own₀ gone₀ count x (Fits found) own gone (x + n)
+      pub word_ends : rest ≡ 0 → Walked (view_of g t) s own₀ gone₀ count x (Some found) own gone (x + n)
       word_ends z =
           let e : W.y + (x + n - W.y) ≡ x + n = omega (arith, W.to) in
           let r = skip (x + n - W.y) (omega (arith, W.to)) (λ j h. rw z (no_bit (W.y - x + j))) in
@@ -207,11 +206,12 @@ module _ (g : Geometry) (t : List ℕ) (s : ℕ) {kin : Kin} (ek : kin ≡ kin_o
             let r = skip k (omega (arith, not_used, word_inside)) (λ j h. tz_below 32 rest (W.y - x + j) (omega (arith, W.from, not_used))) in
             rw e at r
 
-        module _ {r : Walk} {own' gone' : List ℕ} (done : Walked (view_of g t) s own gone found (x + count_trailing_zeros 32 rest) r own' gone' (x + count_trailing_zeros 32 rest + 1)) where
-          pub word_stops : r ≡ Fails → Walked (view_of g t) s own₀ gone₀ count x Fails own' gone' (x + n)
+        module _ {r : Option ℕ} {own' gone' : List ℕ} (done : Walked (view_of g t) s own gone found (x + count_trailing_zeros 32 rest) r own' gone'
+            (x + count_trailing_zeros 32 rest + 1)) where
+          pub word_stops : r ≡ None → Walked (view_of g t) s own₀ gone₀ count x None own' gone' (x + n)
           word_stops e = walked_no done.own_size done.gone_size (sym (ap (λ (q : Rest). q.fits) skipped) ∙ done.fails e)
 
-          pub word_goes : {k : ℕ} → r ≡ Fits k → Walking (view_of g t) s kin.pred x n own₀ gone₀ count own' gone' (bit_and rest (rest - 1)) k
+          pub word_goes : {k : ℕ} → r ≡ Some k → Walking (view_of g t) s kin.pred x n own₀ gone₀ count own' gone' (bit_and rest (rest - 1)) k
           word_goes {k} e =
               record {
                 y = x + count_trailing_zeros 32 rest + 1;
@@ -252,15 +252,9 @@ pub record Rowing (K : View) (s : ℕ) (own₀ gone₀ own gone : List ℕ) (fou
   pub same : rest_of K s own gone found x ≡ rest_of K s own₀ gone₀ 0 0
 
 module _ (K : View) (s : ℕ) (own₀ gone₀ : List ℕ) where
-  pub row_starts : length own₀ ≡ 2048 → length gone₀ ≡ 2048 → Rowing K s own₀ gone₀ own₀ gone₀ 0 0
-  row_starts os gs = record { to = omega arith; few = omega arith; own_size = os; gone_size = gs; same = refl }
-
   module _ {own gone : List ℕ} {found x : ℕ} (W : Rowing K s own₀ gone₀ own gone found x) where
-    module _ {r : Walk} {own' gone' : List ℕ} {y : ℕ} (done : Walked K s own gone found x r own' gone' y) where
-      pub row_stops : r ≡ Fails → Walked K s own₀ gone₀ 0 0 Fails own' gone' K.pages
-      row_stops e = walked_no done.own_size done.gone_size (sym (ap (λ (q : Rest). q.fits) W.same) ∙ done.fails e)
-
-      pub row_goes : {k : ℕ} → r ≡ Fits k → y ≤ K.pages → Rowing K s own₀ gone₀ own' gone' k y
+    module _ {r : Option ℕ} {own' gone' : List ℕ} {y : ℕ} (done : Walked K s own gone found x r own' gone' y) where
+      pub row_goes : {k : ℕ} → r ≡ Some k → y ≤ K.pages → Rowing K s own₀ gone₀ own' gone' k y
       row_goes {k} e h = record {
         to = h;
         few = done.few k e;
@@ -268,8 +262,3 @@ module _ (K : View) (s : ℕ) (own₀ gone₀ : List ℕ) where
         gone_size = done.gone_size;
         same = done.fits k e ∙ W.same;
       }
-
-    pub row_ends : K.pages ≤ x → Walked K s own₀ gone₀ 0 0 (Fits found) own gone K.pages
-    row_ends h =
-        let e : x ≡ K.pages = omega arith in
-        walked_yes W.own_size W.gone_size found (omega arith) (rw e at W.same)

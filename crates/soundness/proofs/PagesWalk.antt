@@ -115,7 +115,8 @@ module _ (K : View) (s x : ℕ) (d : like? K s x ≡ false) where
   unfolding like?
   apart = eqb-false (K.page s x) (page_of K (parent K s) x) d
 
-  before_apart : (p q : ℕ) → (p ≡ 0 → ⊥) → (K.page s x ≡ page_of K (first_link p q) x → ⊥) → gone_at K s x (page_of K p x) ≡ younger K s (page_of K (first_link p q) x)
+  before_apart : (p q : ℕ) → (p ≡ 0 → ⊥) → (K.page s x ≡ page_of K (first_link p q) x → ⊥) → gone_at K s x (page_of K p x) ≡ younger K s
+      (page_of K (first_link p q) x)
   unfolding via first_link
   before_apart zero q m n = absurd (m refl)
   before_apart (suc p) q m n = gone_young (K.page p x) n
@@ -146,7 +147,8 @@ module _ (K : View) (s : ℕ) where
       rest_from K s (marks_of f (own_at K s x)) (stamped (suc s) h (left_at K s x)) (n + length (left_at K s x)) (suc x) m ≡ rest_from K s f h n x (suc m)
   unfolding rest_from walk rows
   rest_one f h n x m a b =
-      sym (rest_is (rw (a, b)) (marks_append f (own_at K s x) (rows (own_at K s) (suc x) m)) (stamped_append (suc s) h (left_at K s x) (rows (left_at K s) (suc x) m))
+      sym (rest_is (rw (a, b)) (marks_append f (own_at K s x) (rows (own_at K s) (suc x) m))
+      (stamped_append (suc s) h (left_at K s x) (rows (left_at K s) (suc x) m))
       (sums n (left_at K s x) (rows (left_at K s) (suc x) m)))
     where
       sums : (n : ℕ) (l m : List ℕ) → n + length (l ++ m) ≡ n + length l + length m
@@ -167,7 +169,8 @@ module _ (K : View) (s : ℕ) where
   rest_skip f h n x (suc k) l a =
       let e : x + suc k ≡ suc (x + k) = omega arith in
       let d : K.pages - (x + k) ≡ suc (K.pages - suc (x + k)) = omega arith in
-      rw e (rest_like f h n (x + k) (K.pages - suc (x + k)) (a k (omega arith)) ∙ ap (rest_from K s f h n (x + k)) (sym d) ∙ rest_skip f h n x k (omega arith) (λ j i. a j (omega arith)))
+      rw e (rest_like f h n (x + k) (K.pages - suc (x + k)) (a k (omega arith)) ∙ ap (rest_from K s f h n (x + k)) (sym d) ∙ rest_skip f h n x k
+      (omega arith) (λ j i. a j (omega arith)))
 
   module _ (own gone : List ℕ) (n x : ℕ) (h : x < K.pages) (d : like? K s x ≡ false) where
     -- one that is not, and does not fit

@@ -2,7 +2,7 @@
 use Rattle.std.proofs.Common.{◌≡◌, ℕ, zero, suc, ◌+◌, ◌<◌, ◌≤◌, Bool, true, false, not, ◌&&◌, ◌||◌, eqb, List, length, get_or, sym, refl, ap, ◌∙◌, ap₂, add-one, arith, eq-eqb, ne_eqb, eqb-true}
 use mathlib.Core.Bool.{false≢true}
 use mir.Val.{bool_byte}
-use borrow.Author.Tests.{not-true, not-false}
+use borrow.Author.Tests.{not-false}
 use Rattle.answer.proofs.Cases.{cases, either, same?, lt?}
 use Rattle.geometry.specs.declared.Geometry.{Geometry}
 use Rattle.geometry.specs.Limits.{blocks}
@@ -20,7 +20,7 @@ use Rattle.tables.proofs.Fields
 use Rattle.soundness.specs.Queue.{marking, marks?}
 use Rattle.soundness.proofs.Joining.{one_test}
 use Rattle.soundness.proofs.Marking.{Marks, marking_bit, says_marks}
-use Rattle.soundness.proofs.Loops.{and_first}
+use Rattle.std.proofs.lemmas.Bool.{and_left}
 
 -- ── counting ──
 
@@ -60,14 +60,15 @@ module _ (g : Geometry) (t : List ℕ) where
   byte_bit true = refl
   byte_bit false = refl
 
-  module _ {from count b : ℕ} (h : b < blocks g) (ef : from ≡ queue_birth_cell g.records (blocks g) 0) (e : count ≡ tally (queued (state_of g t)) b) where
-    pub counted_next : count + bool_byte (not (eqb (get_or t (from + b) 0) 0)) ≡ tally (queued (state_of g t)) (b + 1)
+  module _ {from count b x : ℕ} (h : b < blocks g) (ef : from ≡ queue_birth_cell g.records (blocks g) 0) (ex : x ≡ get_or t (from + b) 0)
+      (e : count ≡ tally (queued (state_of g t)) b) where
+    pub counted_next : count + bool_byte (not (eqb x 0)) ≡ tally (queued (state_of g t)) (b + 1)
     unfolding tally queued
     counted_next =
-        let x : (state_of g t).queue.birth b ≡ get_or t (from + b) 0 = Fields.queue_birth_is g t b h ∙ ap (λ j. get_or t j 0) (omega arith) in
-        rw (add-one b, x) (omega (arith, e, byte_bit (not (eqb (get_or t (from + b) 0) 0))))
+        let k : (state_of g t).queue.birth b ≡ x = Fields.queue_birth_is g t b h ∙ ap (λ j. get_or t j 0) (omega arith) ∙ sym ex in
+        rw (add-one b, k) (omega (arith, e, byte_bit (not (eqb x 0))))
 
-    pub counted_most : count + bool_byte (not (eqb (get_or t (from + b) 0) 0)) ≤ b + 1
+    pub counted_most : count + bool_byte (not (eqb x 0)) ≤ b + 1
     counted_most = omega (arith, counted_next, tally_le (queued (state_of g t)) (b + 1))
 
 -- ── the test of the queue ──
@@ -183,14 +184,14 @@ module _ (g : Geometry) (t own : List ℕ) (few : blocks g ≤ 2048) (size : len
     unfolding state_of view_of
     whole = rw (tested, sym (Fields.queue_length_lem g t)) (queue_is T own (omega arith) (Fields.queue_birth_out g t) pages)
 
-    pub queue_unmarked : not set ≡ true → Fits false marks
-    queue_unmarked z = unfit marks (sym whole ∙ and_first _ (not-true set z))
+    pub queue_unmarked : set ≡ false → Fits set marks
+    queue_unmarked z = rw z (unfit marks (sym whole ∙ and_left _ _ z))
 
-    pub queue_counted : not set ≡ false → {count : ℕ} → count ≡ tally (queued T) (blocks g) → Fits (eqb count n) marks
+    pub queue_counted : set ≡ true → {count : ℕ} → count ≡ tally (queued T) (blocks g) → Fits (eqb count n) marks
     unfolding state_of view_of queue_of
     queue_counted z {count} e =
-        let q : eqb count n ≡ queue? T = rw (e, en) (sym (rw (not-false set z)) ∙ whole) in (
+        let q : eqb count n ≡ queue? T = rw (e, en) (sym (rw z) ∙ whole) in (
           q,
-          λ y b h. ap (λ (m : List ℕ). held_in m b) (rw en at (is.1 (not-false set z))) ∙
+          λ y b h. ap (λ (m : List ℕ). held_in m b) (rw en at (is.1 z)) ∙
               held_is T own (omega arith) (Fields.queue_birth_out g t) pages (sym q ∙ y) b h,
         )

@@ -1,10 +1,9 @@
 -- The header, the log, and the whole test.
-use Rattle.std.proofs.Common.{◌≡◌, ℕ, ◌*◌, ◌≤◌, Bool, true, false, cond, not, ◌&&◌, eqb, ltb, leb, List, get_or, take, replicate, sym, refl, ap, ◌∙◌, ap₂, arith, le-ltb, lt-ltb, eq-eqb, ne_eqb, leb-true}
+use Rattle.std.proofs.Common.{◌≡◌, ℕ, ◌*◌, ◌≤◌, Bool, true, false, cond, not, ◌&&◌, eqb, ltb, leb, List, get_or, take, replicate, sym, refl, ap, ◌∙◌, ap₂, arith, leb-true}
 use mathlib.Core.Path.{fun_ext}
 use mathlib.Core.Bool.{and-false}
 use lib.ListN.{get_or-replicate, length-replicate, get_or-eq_default}
-use borrow.Author.Tests.{not-true, not-false}
-use Rattle.answer.proofs.Cases.{cases, same?, lt?}
+use Rattle.answer.proofs.Cases.{cases, lt?}
 use Rattle.geometry.specs.declared.Geometry.{Geometry}
 use Rattle.geometry.specs.Limits.{blocks}
 use Rattle.alloc_log.specs.Marks.{held_in}
@@ -18,7 +17,8 @@ use Rattle.model.specs.Check.{imp, same, linked?, page?, list?, slot?, empty?, o
 use Rattle.model.specs.Memory.{numbers?, range?, queue?, waiting?, windows?, names?, free?, log_holds?, sound?}
 use Rattle.soundness.specs.Pairs.{linked_to?}
 use Rattle.soundness.proofs.Pairing.{pairs_exact}
-use Rattle.soundness.proofs.Loops.{all_both, all_same, and_first, and_second, and_left, and_right}
+use Rattle.std.proofs.lemmas.Bool.{and_parts, and_left, and_right}
+use Rattle.soundness.proofs.Loops.{positive, all_both, all_same}
 
 module _ (g : Geometry) (t : List ℕ) where
   pub range_is : {last counter writes used : ℕ} {marks : Bool} → last ≡ get_or t 6 0 →
@@ -36,21 +36,21 @@ module _ (g : Geometry) (t : List ℕ) where
       let m = all g.arenas (λ a. ltb ((state_of g t).mark a) g.per) in
       let l = leb (get_or t 6 0) 999999 in
       leb-true (get_or t 9 0) g.words
-      (and_right w u (and_right k (w && u) (and_right m (k && (w && u)) (and_right l (m && (k && (w && u))) (range_is refl refl refl refl refl ∙ h)))))
+      (and_parts w u (and_parts k (w && u) (and_parts m (k && (w && u)) (and_parts l (m && (k && (w && u))) (range_is refl refl refl refl refl ∙ h)).1).1).1).1
 
   module _ (log : List ℕ) {used : ℕ} (u : used ≡ get_or t 9 0) {ok : Bool} {marks : List ℕ}
       (read : ◌≡◌ {A = Result} (ok, marks) (read_log g.arenas g.per (take (8 * used) log))) where
-    pub log_unread : not ok ≡ true → false ≡ log_holds? g (state_of g t) log
+    pub log_unread : ok ≡ false → ok ≡ log_holds? g (state_of g t) log
     unfolding log_holds? readable state_of
     log_unread z =
-        let r : (read_log g.arenas g.per (take (8 * get_or t 9 0) log)).0 ≡ false = sym (ap (λ (x : Result). x.0) (rw u at read)) ∙ not-true ok z in
-        rw r
+        let r : (read_log g.arenas g.per (take (8 * get_or t 9 0) log)).0 ≡ false = sym (ap (λ (x : Result). x.0) (rw u at read)) ∙ z in
+        rw (r, z)
 
-    pub log_read : {r : Bool} → not ok ≡ false → r ≡ all (blocks g) (λ b. same (held_in marks b) (held (state_of g t) b)) →
+    pub log_read : {r : Bool} → ok ≡ true → r ≡ all (blocks g) (λ b. same (held_in marks b) (held (state_of g t) b)) →
         r ≡ log_holds? g (state_of g t) log
     unfolding log_holds? readable marks_of state_of
     log_read z e =
-        let s : (read_log g.arenas g.per (take (8 * get_or t 9 0) log)).0 ≡ true = sym (ap (λ (x : Result). x.0) (rw u at read)) ∙ not-false ok z in
+        let s : (read_log g.arenas g.per (take (8 * get_or t 9 0) log)).0 ≡ true = sym (ap (λ (x : Result). x.0) (rw u at read)) ∙ z in
         let m : (read_log g.arenas g.per (take (8 * get_or t 9 0) log)).1 ≡ marks = sym (ap (λ (x : Result). x.1) (rw u at read)) in
         rw (s, m) e
 
@@ -74,15 +74,27 @@ slot_parts true true pages list none = refl
 slot_parts true false pages list none = refl
 slot_parts false links pages list none = refl
 
-marked_is : (x : ℕ) → not (eqb x 0) ≡ ltb 0 x
-marked_is x = cases (same? x 0) (λ e. rw (eq-eqb x 0 e, le-ltb 0 x (omega arith))) (λ d. rw (ne_eqb x 0 d, lt-ltb 0 x (omega arith)))
-
 -- the first of five tests beside the fourth
 moved : (a b c d e : Bool) → a && (b && (c && (d && e))) ≡ (a && d) && (b && (c && e))
 moved true true true d e = refl
 moved true true false d e = sym (and-false d)
 moved true false c d e = sym (and-false d)
 moved false b c d e = refl
+
+-- eleven tests, as `sound?` joins them, and as the code does
+regroup : (n r l p s b q w i m h : Bool) → n && (r && ((((l && p) && s) && b) && (q && (w && (i && (m && h)))))) ≡
+    ((n && r) && l) && (((((((p && s) && b) && q) && w) && i) && m) && h)
+regroup false r l p s b q w i m h = refl
+regroup true false l p s b q w i m h = refl
+regroup true true false p s b q w i m h = refl
+regroup true true true p s b q w i m h = go ((p && s) && b) q w i m h
+  where
+    go : (g q w i m h : Bool) → g && (q && (w && (i && (m && h)))) ≡ ((((g && q) && w) && i) && m) && h
+    go false q w i m h = refl
+    go true false w i m h = refl
+    go true true false i m h = refl
+    go true true true false m h = refl
+    go true true true true m h = refl
 
 same_turned : (a b : Bool) → same a b ≡ same b a
 same_turned true true = refl
@@ -129,90 +141,66 @@ module _ (g : Geometry) (t : List ℕ) where
   abbrev pub names : Bool
   names = names? (view_of g t) (state_of g t).notes
 
-  marked : ℕ → ℕ
+  abbrev pub marked : ℕ → ℕ
   marked = check.marks_of (λ c. 0) (all_own (view_of g t))
 
-  born : Bool
+  abbrev pub born : Bool
   born = all (blocks g) (λ b. same (ltb 0 ((view_of g t).birth b)) (ltb 0 (marked b)))
 
   good_is : good? (view_of g t) ≡ ((links && paged) && single (λ c. 0)) && born
-  unfolding good? slot? view_of marked born
+  unfolding good? slot? view_of
   good_is =
       ap (λ (x : Bool). (x && single (λ c. 0)) && born)
       (all_both g.records _ _ _
       (λ s. slot_parts (ltb 0 ((view_of g t).num s)) (linked? (view_of g t) s) (all g.pages (page? (view_of g t) s)) (list? (view_of g t) s)
       (empty? (view_of g t) s)))
 
+  -- what is asked of the header and of the records, and of the rest but for the log
+  abbrev pub head : Bool
+  head = (numbers? g t && range? g (state_of g t)) && pairs
+
+  abbrev pub rest : Bool
+  rest = (((((paged && single (λ c. 0)) && born) && queues) && words) && windows) && names
+
   module _ (log : List ℕ) where
     -- the whole test, from its parts
-    abbrev joined : Bool → Bool → Bool
-    joined good words =
-        numbers? g t && (range? g (state_of g t) && (good && (queues && (words && (windows && (names && log_holds? g (state_of g t) log))))))
-
-    sound_is : sound? g t log ≡ joined (((links && paged) && single (λ c. 0)) && born) words
+    sound_is : sound? g t log ≡
+        (numbers? g t && (range? g (state_of g t) && ((((links && paged) && single (λ c. 0)) && born) &&
+        (queues && (words && (windows && (names && log_holds? g (state_of g t) log)))))))
     unfolding sound? state_of
     sound_is =
         ap (λ (x : Bool). numbers? g t && (range? g (state_of g t) && x))
         (ap₂ (λ (x y : Bool). x && (queues && y)) good_is
         (moved (waiting? (state_of g t)) windows names (free? (state_of g t) t) (log_holds? g (state_of g t) log)))
 
-    pub sound_no_numbers : numbers? g t ≡ false → false ≡ sound? g t log
-    sound_no_numbers h = sym (sound_is ∙ and_first _ h)
+    sound_parts : sound? g t log ≡ head && (rest && log_holds? g (state_of g t) log)
+    sound_parts =
+        sound_is ∙
+        regroup (numbers? g t) (range? g (state_of g t)) links paged (single (λ c. 0)) born queues words windows names (log_holds? g (state_of g t) log) ∙
+        ap (λ (x : Bool). ((numbers? g t && range? g (state_of g t)) && x) && (rest && log_holds? g (state_of g t) log)) (sym pairs_are)
 
-    pub sound_no_range : range? g (state_of g t) ≡ false → false ≡ sound? g t log
-    sound_no_range h = sym (sound_is ∙ and_second (numbers? g t) (and_first _ h))
+    module _ {h : Bool} (head_is : h ≡ head) where
+      pub sound_unheaded : h ≡ false → false ≡ sound? g t log
+      sound_unheaded z = let n = sym head_is ∙ z in sym (sound_parts ∙ and_left _ _ n)
 
-    no_good : ((links && paged) && single (λ c. 0)) && born ≡ false → false ≡ sound? g t log
-    no_good h = sym (sound_is ∙ and_second (numbers? g t) (and_second (range? g (state_of g t)) (and_first _ h)))
+      module _ (y : h ≡ true) {v : Bool} (rest_is : v ≡ rest) where
+        pub sound_unrested : v ≡ false → v ≡ sound? g t log
+        sound_unrested z = let n = sym rest_is ∙ z in z ∙ sym (sound_parts ∙ and_right head _ (and_left _ _ n))
 
-    pub sound_no_links : pairs ≡ false → false ≡ sound? g t log
-    sound_no_links h = no_good (and_first born (and_first (single (λ c. 0)) (and_first paged (sym pairs_are ∙ h))))
+        pub sound_logged : v ≡ true → {r : Bool} → r ≡ log_holds? g (state_of g t) log → r ≡ sound? g t log
+        sound_logged z e =
+            let p : head ≡ true = sym head_is ∙ y in
+            let q : rest ≡ true = sym rest_is ∙ z in
+            e ∙ sym (sound_parts ∙ rw (p, q))
 
-    no_rest : queues && (words && (windows && (names && log_holds? g (state_of g t) log))) ≡ false → false ≡ sound? g t log
-    no_rest h = sym
-        (sound_is ∙ and_second (numbers? g t) (and_second (range? g (state_of g t)) (and_second (((links && paged) && single (λ c. 0)) && born) h)))
+  -- marks z, all 0, and the marks m of the own blocks on top of them
+  module _ (z : List ℕ) (empty : seen z ≡ (λ c. 0)) where
+    pub paged_is : paged && single (seen z) ≡ paged && single (λ c. 0)
+    paged_is = ap (λ (f : ℕ → ℕ). paged && single f) empty
 
-    pub sound_no_queue : queues ≡ false → false ≡ sound? g t log
-    sound_no_queue h = no_rest (and_first _ h)
-
-    pub sound_no_words : words ≡ false → false ≡ sound? g t log
-    sound_no_words h = no_rest (and_second queues (and_first _ h))
-
-    pub sound_no_windows : windows ≡ false → false ≡ sound? g t log
-    sound_no_windows h = no_rest (and_second queues (and_second words (and_first _ h)))
-
-    pub sound_no_names : names ≡ false → false ≡ sound? g t log
-    sound_no_names h = no_rest (and_second queues (and_second words (and_second windows (and_first _ h))))
-
-    -- marks z, all 0, and the marks m of the own blocks on top of them
-    module _ (z : List ℕ) (empty : seen z ≡ (λ c. 0)) where
-      regrouped : paged && single (seen z) ≡ paged && single (λ c. 0)
-      regrouped = ap (λ (f : ℕ → ℕ). paged && single f) empty
-
-      pub sound_no_pages : paged && single (seen z) ≡ false → false ≡ sound? g t log
-      sound_no_pages h = no_good (and_first born (go links paged (single (λ c. 0)) (sym regrouped ∙ h)))
-        where
-          go : (a b c : Bool) → b && c ≡ false → (a && b) && c ≡ false
-          go false b c h = refl
-          go true b c h = h
-
-      module _ (m : List ℕ) (is : (b : ℕ) → get_or m b 0 ≡ check.marks_of (seen z) (all_own (view_of g t)) b) where
-        own_is : (b : ℕ) → get_or m b 0 ≡ marked b
-        unfolding marked
-        own_is b = is b ∙ ap (λ (f : ℕ → ℕ). check.marks_of f (all_own (view_of g t)) b) empty
-
-        born_is : agrees m ≡ born
-        unfolding born held_in on_pages
-        born_is = all_same (blocks g) _ _ (λ b l.
-            ap₂ same (ap (λ (x : ℕ). not (eqb x 0)) (own_is b) ∙ marked_is (marked b)) (marked_is ((view_of g t).birth b)) ∙
-            same_turned (ltb 0 (marked b)) (ltb 0 ((view_of g t).birth b)))
-
-        pub sound_no_births : agrees m ≡ false → false ≡ sound? g t log
-        sound_no_births h = no_good (and_second ((links && paged) && single (λ c. 0)) (sym born_is ∙ h))
-
-        pub sound_yes : {r : Bool} → numbers? g t ≡ true → range? g (state_of g t) ≡ true → pairs ≡ true → paged && single (seen z) ≡ true →
-            agrees m ≡ true → queues ≡ true → words ≡ true → windows ≡ true → names ≡ true → r ≡ log_holds? g (state_of g t) log → r ≡ sound? g t log
-        sound_yes a b c d e q f w n h =
-            let d' : paged && single (λ c. 0) ≡ true = sym regrouped ∙ d in
-            h ∙ sym (sound_is ∙ rw
-            (a, b, sym pairs_are ∙ c, and_left paged (single (λ c. 0)) d', and_right paged (single (λ c. 0)) d', sym born_is ∙ e, q, f, w, n))
+    pub born_is : (m : List ℕ) → ((b : ℕ) → get_or m b 0 ≡ check.marks_of (seen z) (all_own (view_of g t)) b) → agrees m ≡ born
+    unfolding held_in on_pages
+    born_is m is = all_same (blocks g) _ _ (λ b l.
+        let own_is : get_or m b 0 ≡ marked b = is b ∙ ap (λ (f : ℕ → ℕ). check.marks_of f (all_own (view_of g t)) b) empty in
+        ap₂ same (ap (λ (x : ℕ). not (eqb x 0)) own_is ∙ positive (marked b)) (positive ((view_of g t).birth b)) ∙
+        same_turned (ltb 0 (marked b)) (ltb 0 ((view_of g t).birth b)))

@@ -1,5 +1,5 @@
 -- The walk over the pages and deadlists of a stranger's tables.
-use Rattle.std.specs.Prelude.{◌≡◌, ℕ, zero, suc, ◌+◌, ◌-◌, ◌*◌, ◌<◌, ◌≤◌, min, Bool, true, false, cond, ◌&&◌, List, [], ◌∷◌, length, nat_le, nat_lt, slice_index}
+use Rattle.std.specs.Prelude.{◌≡◌, ℕ, zero, suc, ◌+◌, ◌-◌, ◌*◌, ◌<◌, ◌≤◌, min, Bool, true, false, cond, ◌&&◌, List, [], ◌∷◌, length, nat_le, nat_lt, slice_index, Option, Some, None}
 use Rattle.choice.specs.Words.{word_of}
 use Rattle.model.specs.Table.{all}
 use Rattle.model.specs.Lists.{rows}
@@ -8,8 +8,6 @@ use Rattle.model.specs.Check.{marks_of, once?, page?, own_at, gone_at, list?, em
 use Rattle.model.specs.Stamps.{stamped}
 use Rattle.tables.specs.Rows.{differs}
 use Rattle.soundness.specs.declared.pages.Kin.{Kin}
-use Rattle.soundness.specs.declared.pages.Walk.{Walk}
-use Rattle.soundness.specs.declared.pages.Walk.TheVariants.{Fits, Fails}
 
 -- ── what is asked of a record at each of its pages ──
 
@@ -66,13 +64,13 @@ rest_from K s f h n x m = record {
 abbrev pub rest_of : View → ℕ → List ℕ → List ℕ → ℕ → ℕ → Rest
 rest_of K s own gone n x = rest_from K s (seen own) (seen gone) n x (K.pages - x)
 
--- the pages of s from x up to y were walked, with the answer r: where it fails the pages from x on do not fit, else those from y on come to the same
-pub record Walked (K : View) (s : ℕ) (own₀ gone₀ : List ℕ) (n x : ℕ) (r : Walk) (own gone : List ℕ) (y : ℕ) : Type 0 where
+-- the pages of s from x up to y were walked, with the answer r: where it is none the pages from x on do not fit, else those from y on come to the same
+pub record Walked (K : View) (s : ℕ) (own₀ gone₀ : List ℕ) (n x : ℕ) (r : Option ℕ) (own gone : List ℕ) (y : ℕ) : Type 0 where
   pub own_size : length own ≡ 2048
   pub gone_size : length gone ≡ 2048
-  pub fails : r ≡ Fails → (rest_of K s own₀ gone₀ n x).fits ≡ false
-  pub few : (k : ℕ) → r ≡ Fits k → k ≤ y
-  pub fits : (k : ℕ) → r ≡ Fits k → rest_of K s own gone k y ≡ rest_of K s own₀ gone₀ n x
+  pub fails : r ≡ None → (rest_of K s own₀ gone₀ n x).fits ≡ false
+  pub few : (k : ℕ) → r ≡ Some k → k ≤ y
+  pub fits : (k : ℕ) → r ≡ Some k → rest_of K s own gone k y ≡ rest_of K s own₀ gone₀ n x
 
 -- the words of a row: 32 pages of s each, where they differ from those of the record behind the link l
 pub record RowWords (K : View) (s l : ℕ) (words : List ℕ) : Type 0 where

@@ -28,15 +28,7 @@ fn marks_fit(g: Geometry, t: &[u32]) -> bool
     requires { Roomy g t.now }
     ensures { result ≡ all g.arenas (λ a. nat_lt ((state_of g t.now).mark a) g.per) }
 {
-    let mut a: usize = 0;
-    while a < g.arenas {
-        let mark = header_number(g, t, MARKS + a);
-        if g.per <= mark {
-            return false;
-        }
-        a += 1;
-    }
-    true
+    (0..g.arenas).all(|a| header_number(g, t, MARKS + a) < g.per)
 }
 
 // Each number of the header that has a range lies in it.

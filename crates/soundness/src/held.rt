@@ -1,6 +1,6 @@
 // Which blocks are held: the births agree with marks, the queue has other blocks, and both agree with the free words and the blocks that wait, and with
 // what the log reads to.
-ghost use Rattle.std.specs.Prelude.{◌≡◌, ◌+◌, ◌≤◌, true, ◌&&◌, length, take, drop, slice_index};
+ghost use Rattle.std.specs.Prelude.{◌≡◌, ◌+◌, ℕ, ◌<◌, ◌≤◌, Bool, true, ◌&&◌, length, slice_index};
 ghost use Rattle.geometry.specs.Limits.{blocks};
 ghost use Rattle.alloc_log.specs.Marks.{held_in};
 ghost use Rattle.model.specs.Table.{all};
@@ -21,20 +21,27 @@ use tables::births::{queue_at, queue_births_at, waiting_at};
 use tables::cells::{FREE, LAST, PAGES, QUEUED, ROWS, USED, WAITS};
 use tables::find::wide;
 
-// A block has a mark just where it has a birth. It looks at all blocks, several in one instruction.
+// Of the first n blocks, those have a mark that pass a test, and no others. It looks at all of them, several in one instruction.
+fn marks_agree<F: Fn(usize) -> bool>(marks: &[u8; 2048], n: usize, passes: F) -> bool
+    requires few { n ≤ 2048 }
+    requires asked { (b : ℕ) → b < n → F.pre passes b }
+    ensures { (test : ℕ → Bool) → ((b : ℕ) (r : Bool) → b < n → F.post passes b r → r ≡ test b) →
+        result ≡ all n (λ b. same (held_in marks.now b) (test b)) }
+{
+    let mut agree = true;
+    for b in 0..n {
+        agree &= (marks[b] != 0) == passes(b);
+    }
+    agree
+}
+
+// A block has a mark just where it has a birth.
 pub fn births_agree(g: Geometry, t: &[u32], marks: &[u8; 2048]) -> bool
     requires { Roomy g t.now }
     ensures { result ≡ all (blocks g) (λ b. same (held_in marks.now b) (on_pages (view_of g t.now) b)) }
 {
-    let mut agree = true;
-    let mut b: usize = 0;
-    while b < g.arenas * g.per {
-        let marked = marks[b] != 0;
-        let born = t[PAGES + ROWS * g.records + b] != 0;
-        agree = agree & ((marked & born) | (!marked & !born));
-        b += 1;
-    }
-    agree
+    let births = PAGES + ROWS * g.records;
+    marks_agree(marks, g.arenas * g.per, |b| t[births + b] != 0)
 }
 
 // Each of the n queued blocks is a block without a mark, and gets one: it is on no page, and not queued twice. Its birth in the queue is a number from 1 to
@@ -44,23 +51,20 @@ fn mark_queued(g: Geometry, t: &[u32], own: &mut [u8; 2048], n: usize, last: u32
     ensures is { result ≡ marks? (blocks g) (state_of g t.now).queue.birth last own.old (first_queued g t.now n) }
     ensures marked { result ≡ true → own.new ≡ marking own.old (first_queued g t.now n) }
 {
-    let mut i: usize = 0;
-    while i < n {
-        let b = wide(t[queue_at(g) + i]);
+    let queue = queue_at(g);
+    let births = queue_births_at(g);
+    for x in &t[queue..queue + n] {
+        let b = wide(*x);
         if g.arenas * g.per <= b {
             return false;
         }
         if own[b] != 0 {
             return false;
         }
-        if t[queue_births_at(g) + b] == 0 {
-            return false;
-        }
-        if last < t[queue_births_at(g) + b] {
+        if !(1..=last).contains(&t[births + b]) {
             return false;
         }
         own[b] = 1;
-        i += 1;
     }
     true
 }
@@ -70,12 +74,10 @@ fn count_queued(g: Geometry, t: &[u32]) -> usize
     requires { Roomy g t.now }
     ensures { result ≡ tally (queued (state_of g t.now)) (blocks g) }
 {
-    let from = queue_births_at(g);
+    let births = queue_births_at(g);
     let mut count: u32 = 0;
-    let mut b: usize = 0;
-    while b < g.arenas * g.per {
-        count += (t[from + b] != 0) as u32;
-        b += 1;
+    for birth in &t[births..births + g.arenas * g.per] {
+        count += u32::from(*birth != 0);
     }
     wide(count)
 }
@@ -90,22 +92,7 @@ pub fn queue_fits(g: Geometry, t: &[u32], own: &mut [u8; 2048]) -> bool
     if g.arenas * g.per < n {
         return false;
     }
-    if !mark_queued(g, t, own, n, t[LAST]) {
-        return false;
-    }
-    count_queued(g, t) == n
-}
-
-// A copy of the free words.
-fn copy_words(t: &[u32], words: &mut [u32; 64])
-    requires { (128 ≤ length t.now) × (length words.old ≡ 64) }
-    ensures { words.new ≡ take 64 (drop 64 t.now) }
-{
-    let mut k: usize = 0;
-    while k < 64 {
-        words[k] = t[FREE + k];
-        k += 1;
-    }
+    mark_queued(g, t, own, n, t[LAST]) && count_queued(g, t) == n
 }
 
 // Sets the bit of each of the n blocks of the list that begins at `from`. Each must be a block, and its bit not set before.
@@ -114,9 +101,8 @@ fn set_listed(g: Geometry, t: &[u32], words: &mut [u32; 64], from: usize, n: usi
     ensures is { result ≡ joins? (blocks g) words.old (numbers t.now from n) }
     ensures set { result ≡ true → words.new ≡ joined words.old (numbers t.now from n) }
 {
-    let mut i: usize = 0;
-    while i < n {
-        let b = wide(t[from + i]);
+    for x in &t[from..from + n] {
+        let b = wide(*x);
         if g.arenas * g.per <= b {
             return false;
         }
@@ -126,7 +112,6 @@ fn set_listed(g: Geometry, t: &[u32], words: &mut [u32; 64], from: usize, n: usi
             return false;
         }
         words[b >> 5] = word | bit;
-        i += 1;
     }
     true
 }
@@ -142,31 +127,11 @@ pub fn words_fit(g: Geometry, t: &[u32]) -> bool
         return false;
     }
     let mut words = [0u32; 64];
-    copy_words(t, &mut words);
-    if !set_listed(g, t, &mut words, waiting_at(g), n) {
-        return false;
-    }
-    if !set_listed(g, t, &mut words, queue_at(g), header_number(g, t, QUEUED)) {
-        return false;
-    }
+    words.copy_from_slice(&t[FREE..FREE + 64]);
     let births = PAGES + ROWS * g.records;
-    words_agree(&words, &t[births..], g.arenas * g.per)
-}
-
-// Two tables of marks agree on n blocks. It looks at all of them, several in one instruction.
-fn marks_agree(marks: &[u8; 2048], others: &[u8; 2048], n: usize) -> bool
-    requires { n ≤ 2048 }
-    ensures { result ≡ all n (λ b. same (held_in marks.now b) (held_in others.now b)) }
-{
-    let mut agree = true;
-    let mut b: usize = 0;
-    while b < n {
-        let marked = marks[b] != 0;
-        let other = others[b] != 0;
-        agree = agree & ((marked & other) | (!marked & !other));
-        b += 1;
-    }
-    agree
+    set_listed(g, t, &mut words, waiting_at(g), n)
+        && set_listed(g, t, &mut words, queue_at(g), header_number(g, t, QUEUED))
+        && words_agree(&words, &t[births..], g.arenas * g.per)
 }
 
 // The log reads to the held blocks, on pages or queued, which are those with a mark in `own`.
@@ -176,10 +141,8 @@ pub fn log_holds(g: Geometry, t: &[u32], log: &[u8], own: &[u8; 2048]) -> bool
 {
     let used = header_number(g, t, USED);
     let end = 8 * used;
-    let held = read_log(&log[..end], g.arenas, g.per);
-    if !held.ok {
+    let Some(marks) = read_log(&log[..end], g.arenas, g.per) else {
         return false;
-    }
-    let marks = held.marks;
-    marks_agree(&marks, own, g.arenas * g.per)
+    };
+    marks_agree(&marks, g.arenas * g.per, |b| own[b] != 0)
 }

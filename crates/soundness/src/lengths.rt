@@ -12,11 +12,7 @@ pub fn is_short(g: Geometry, tables: &[u32], log: &[u8], out: &[u32]) -> bool
     ensures { result ≡ short? g (lent tables.now log.now out.now) }
 {
     let blocks = g.arenas * g.per;
-    if tables.len() < PAGES + ROWS * g.records + 4 * blocks {
-        return true;
-    }
-    if log.len() < 8 * g.words {
-        return true;
-    }
-    out.len() < 2 * blocks + 64
+    tables.len() < PAGES + ROWS * g.records + 4 * blocks
+        || log.len() < 8 * g.words
+        || out.len() < 2 * blocks + 64
 }

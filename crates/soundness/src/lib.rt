@@ -27,33 +27,15 @@ pub fn is_sound(g: Geometry, t: &[u32], log: &[u8]) -> bool
     requires { Roomy g t.now × LogLong g log.now }
     ensures { result ≡ sound? g t.now log.now }
 {
-    if !numbers_fit(g, t) {
-        return false;
-    }
-    if !ranges_fit(g, t) {
-        return false;
-    }
-    if !records_fit(g, t) {
+    if !(numbers_fit(g, t) && ranges_fit(g, t) && records_fit(g, t)) {
         return false;
     }
     let mut own = [0u8; 2048];
-    if !pages_fit(g, t, &mut own) {
-        return false;
-    }
-    if !births_agree(g, t, &own) {
-        return false;
-    }
-    if !queue_fits(g, t, &mut own) {
-        return false;
-    }
-    if !words_fit(g, t) {
-        return false;
-    }
-    if !windows_fit(g, t) {
-        return false;
-    }
-    if !names_fit(g, t) {
-        return false;
-    }
-    log_holds(g, t, log, &own)
+    pages_fit(g, t, &mut own)
+        && births_agree(g, t, &own)
+        && queue_fits(g, t, &mut own)
+        && words_fit(g, t)
+        && windows_fit(g, t)
+        && names_fit(g, t)
+        && log_holds(g, t, log, &own)
 }

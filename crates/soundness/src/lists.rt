@@ -10,13 +10,6 @@ use geometry::Geometry;
 use tables::cells::{LENGTH, PAGES, ROW};
 use tables::find::wide;
 
-// A stamp as a number.
-fn stamp(x: u8) -> usize
-    ensures { result ≡ x }
-{
-    x as usize
-}
-
 // The deadlist of slot s has `count` entries, each with the stamp of the slot, which it takes off.
 pub fn list_fits(g: Geometry, t: &[u32], gone: &mut [u8; 2048], s: usize, count: usize) -> bool
     requires { Roomy g t.now × (s < g.records) × (count ≤ 256) × (length gone.old ≡ 2048) }
@@ -26,17 +19,16 @@ pub fn list_fits(g: Geometry, t: &[u32], gone: &mut [u8; 2048], s: usize, count:
     if wide(t[LENGTH + s]) != count {
         return false;
     }
-    let mut i: usize = 0;
-    while i < count {
-        let b = wide(t[PAGES + ROW * g.records + ROW * s + i]);
+    let list = PAGES + ROW * g.records + ROW * s;
+    for x in &t[list..list + count] {
+        let b = wide(*x);
         if 2048 <= b {
             return false;
         }
-        if stamp(gone[b]) != s + 1 {
+        if usize::from(gone[b]) != s + 1 {
             return false;
         }
         gone[b] = 0;
-        i += 1;
     }
     true
 }

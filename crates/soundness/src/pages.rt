@@ -1,6 +1,6 @@
 // The pages of a record against its pred's: a page that differs has a block of the record's own; what was there before it may be gone.
-ghost use Rattle.std.specs.Prelude.{◌≡◌, ℕ, suc, ◌+◌, ◌-◌, ◌*◌, ◌<◌, ◌≤◌, min, true, false, ◌&&◌, length, if◌then◌else◌, nat_lt, slice_index};
-ghost use Rattle.model.specs.Table.{all, via};
+ghost use Rattle.std.specs.Prelude.{◌≡◌, ℕ, suc, ◌+◌, ◌-◌, ◌*◌, ◌<◌, ◌≤◌, true, false, ◌&&◌, length, if◌then◌else◌, nat_lt, slice_index};
+ghost use Rattle.model.specs.Table.{all};
 ghost use Rattle.model.specs.Lists.{on_page};
 ghost use Rattle.model.specs.View.{base_num, page_of};
 ghost use Rattle.model.specs.Check.{marks_of, once?, page?, like?, fits?, list?, empty?, all_own, owns};
@@ -17,6 +17,7 @@ use std::num::wrapping_sub_usize;
 use tables::cells::{BASE, LENGTH, NUMBER, PAGES, PREV, ROW, ROWS};
 use tables::differ::{differing, differing_whole};
 use tables::find::wide;
+use tables::links::number_behind;
 
 // What the walk over a record's pages asks of the record each time: its number, a link to its pred, the pred's number, whether a record is before
 // it in its line, and the number of its line's base.
@@ -29,30 +30,12 @@ pub struct Kin {
     pub root: usize,
 }
 
-// How a walk ends: with so many blocks that are gone, or at a page that does not fit.
-#[derive(Clone, Copy)]
-pub enum Walk {
-    Fits(usize),
-    Fails,
-}
-
 // A link of a stranger's tables, or 0 where it is none to a slot.
 fn reach(g: Geometry, link: usize) -> usize
     ensures is { result ≡ reached g.records link }
     ensures range { result ≤ g.records }
 {
     if link <= g.records { link } else { 0 }
-}
-
-// The number of the record behind a link.
-fn number_behind(g: Geometry, t: &[u32], link: usize) -> usize
-    requires { Roomy g t.now × (link ≤ g.records) }
-    ensures { result ≡ via (view_of g t.now).num link }
-{
-    if link == 0 {
-        return 0;
-    }
-    wide(t[NUMBER + (link - 1)])
 }
 
 // Page x of the record behind a link.
@@ -73,24 +56,13 @@ fn kin_of(g: Geometry, t: &[u32], s: usize) -> Kin
 {
     let prev = wide(t[PREV + s]);
     let base = reach(g, wide(t[BASE + s]));
-    let root = number_behind(g, t, base);
-    if prev == 0 {
-        return Kin {
-            number: wide(t[NUMBER + s]),
-            pred: base,
-            older: root,
-            listing: false,
-            root,
-        };
-    }
-    let pred = reach(g, prev);
-    let older = number_behind(g, t, pred);
+    let pred = if prev == 0 { base } else { reach(g, prev) };
     Kin {
         number: wide(t[NUMBER + s]),
         pred,
-        older,
-        listing: true,
-        root,
+        older: wide(number_behind(t, g, pred)),
+        listing: prev != 0,
+        root: wide(number_behind(t, g, base)),
     }
 }
 
@@ -148,7 +120,7 @@ fn mark_gone(
     1
 }
 
-// Page x of slot s, which differs from the pred's.
+// Page x of slot s, which differs from the pred's. A walk returns how many blocks are gone, on top of `count`, or `None` at a page that does not fit.
 fn page_walk(
     g: Geometry,
     t: &[u32],
@@ -158,20 +130,21 @@ fn page_walk(
     kin: Kin,
     x: usize,
     count: usize,
-) -> Walk
-    requires { Roomy g t.now × (s < g.records) × (x < g.pages) × (count ≤ x) × (kin ≡ kin_of (view_of g t.now) s) × (like? (view_of g t.now) s x ≡ false) × (length own.old ≡ 2048) × (length gone.old ≡ 2048) }
+) -> Option<usize>
+    requires { Roomy g t.now × (s < g.records) × (x < g.pages) × (count ≤ x) × (kin ≡ kin_of (view_of g t.now) s) ×
+        (like? (view_of g t.now) s x ≡ false) × (length own.old ≡ 2048) × (length gone.old ≡ 2048) }
     ensures { Walked (view_of g t.now) s own.old gone.old count x result own.new gone.new (x + 1) }
 {
     let link = wide(t[PAGES + ROW * s + x]);
     if !page_fits(g, t, own, s, kin, link) {
-        return Walk::Fails;
+        return None;
     }
     if kin.listing {
         let was = page_behind(g, t, kin.pred, x);
         let more = mark_gone(g, t, gone, s, kin.root, was);
-        return Walk::Fits(count + more);
+        return Some(count + more);
     }
-    Walk::Fits(count)
+    Some(count)
 }
 
 // The n pages of slot s from x on, by the bits of their word, the lowest first: each turn of the loop takes one off.
@@ -186,68 +159,57 @@ fn word_walk(
     n: usize,
     word: u32,
     count: usize,
-) -> Walk
-    requires { Roomy g t.now × (s < g.records) × (n ≤ 32) × (x + n ≤ g.pages) × (count ≤ x) × (kin ≡ kin_of (view_of g t.now) s) × (length own.old ≡ 2048) × (length gone.old ≡ 2048) × (word ≡ word_of (differs (view_of g t.now) s kin.pred) x n) }
+) -> Option<usize>
+    requires { Roomy g t.now × (s < g.records) × (n ≤ 32) × (x + n ≤ g.pages) × (count ≤ x) × (kin ≡ kin_of (view_of g t.now) s) ×
+        (length own.old ≡ 2048) × (length gone.old ≡ 2048) × (word ≡ word_of (differs (view_of g t.now) s kin.pred) x n) }
     ensures { Walked (view_of g t.now) s own.old gone.old count x result own.new gone.new (x + n) }
 {
     let mut rest = word;
     let mut found = count;
+    // Kept: it counts no index, and an iterator over the bits of a word would be no plainer.
     while rest != 0 {
-        let y = x + (u32::trailing_zeros(rest) as usize);
-        let walked = page_walk(g, t, own, gone, s, kin, y, found);
-        let Walk::Fits(k) = walked else {
-            return Walk::Fails;
-        };
-        found = k;
-        rest = rest & (rest - 1);
+        let y = x + (rest.trailing_zeros() as usize);
+        found = page_walk(g, t, own, gone, s, kin, y, found)?;
+        rest &= rest - 1;
     }
-    Walk::Fits(found)
+    Some(found)
 }
 
-// How many pages word k of a row is for.
-fn width(g: Geometry, k: usize) -> usize
-    requires { 32 * k < g.pages }
-    ensures { result ≡ min 32 (g.pages - 32 * k) }
+// The words of a row: where the pages of slot s differ from those of the record behind the link.
+fn row_words(g: Geometry, t: &[u32], s: usize, link: usize) -> [u32; 8]
+    requires { Roomy g t.now × (s < g.records) × (link ≤ g.records) }
+    ensures { RowWords (view_of g t.now) s link result }
 {
-    let left = g.pages - 32 * k;
-    if left < 32 { left } else { 32 }
-}
-
-// Puts the words of a row: where the pages of slot s differ from those of the record behind the link.
-fn row_words(g: Geometry, t: &[u32], words: &mut [u32; 8], s: usize, link: usize)
-    requires { Roomy g t.now × (s < g.records) × (link ≤ g.records) × (length words.old ≡ 8) }
-    ensures { RowWords (view_of g t.now) s link words.new }
-{
-    let mut k: usize = 0;
-    while 32 * k + 32 <= g.pages {
+    let mut words = [0u32; 8];
+    let whole = g.pages / 32;
+    for k in 0..whole {
         words[k] = differing_whole(g, t, s, link, 32 * k);
-        k += 1;
     }
-    if 32 * k < g.pages {
-        words[k] = differing(g, t, s, link, 32 * k, g.pages - 32 * k);
+    if 32 * whole < g.pages {
+        words[whole] = differing(g, t, s, link, 32 * whole, g.pages - 32 * whole);
     }
+    words
 }
 
 // All pages of slot s. The words stand ready before the first page is looked at: no page waits for the word of the next.
-fn row_walk(g: Geometry, t: &[u32], own: &mut [u8; 2048], gone: &mut [u8; 2048], s: usize) -> Walk
+fn row_walk(
+    g: Geometry,
+    t: &[u32],
+    own: &mut [u8; 2048],
+    gone: &mut [u8; 2048],
+    s: usize,
+) -> Option<usize>
     requires { Roomy g t.now × (s < g.records) × (length own.old ≡ 2048) × (length gone.old ≡ 2048) }
     ensures { Walked (view_of g t.now) s own.old gone.old 0 0 result own.new gone.new g.pages }
 {
     let kin = kin_of(g, t, s);
-    let mut words = [0u32; 8];
-    row_words(g, t, &mut words, s, kin.pred);
-    let mut found: usize = 0;
-    let mut k: usize = 0;
-    while 32 * k < g.pages {
-        let n = width(g, k);
-        let walked = word_walk(g, t, own, gone, s, kin, 32 * k, n, words[k], found);
-        let Walk::Fits(more) = walked else {
-            return Walk::Fails;
-        };
-        found = more;
-        k += 1;
+    let words = row_words(g, t, s, kin.pred);
+    let mut found = 0;
+    for k in 0..g.pages.div_ceil(32) {
+        let n = (g.pages - 32 * k).min(32);
+        found = word_walk(g, t, own, gone, s, kin, 32 * k, n, words[k], found)?;
     }
-    Walk::Fits(found)
+    Some(found)
 }
 
 // The pages and the deadlist of slot s, or that an empty slot has no deadlist.
@@ -260,8 +222,7 @@ fn slot_fits(g: Geometry, t: &[u32], own: &mut [u8; 2048], gone: &mut [u8; 2048]
     if t[NUMBER + s] == 0 {
         return t[LENGTH + s] == 0;
     }
-    let walked = row_walk(g, t, own, gone, s);
-    let Walk::Fits(n) = walked else {
+    let Some(n) = row_walk(g, t, own, gone, s) else {
         return false;
     };
     list_fits(g, t, gone, s, n)
@@ -270,17 +231,16 @@ fn slot_fits(g: Geometry, t: &[u32], own: &mut [u8; 2048], gone: &mut [u8; 2048]
 // The pages and deadlists of all slots. Marks in `own` each block that is some record's own: on a page of it and not on the pred's same page.
 pub fn pages_fit(g: Geometry, t: &[u32], own: &mut [u8; 2048]) -> bool
     requires { Roomy g t.now × (length own.old ≡ 2048) }
-    ensures passes { result ≡ (all g.records (λ s. (if nat_lt 0 ((view_of g t.now).num s) then all g.pages (page? (view_of g t.now) s) && list? (view_of g t.now) s else empty? (view_of g t.now) s)) && once? (λ b. slice_index own.old b) (all_own (view_of g t.now))) }
+    ensures passes { result ≡ (all g.records (λ s. (if nat_lt 0 ((view_of g t.now).num s) then all g.pages (page? (view_of g t.now) s) &&
+        list? (view_of g t.now) s else empty? (view_of g t.now) s)) && once? (λ b. slice_index own.old b) (all_own (view_of g t.now))) }
     ensures marked { result ≡ true → (b : ℕ) → slice_index own.new b ≡ marks_of (λ b. slice_index own.old b) (all_own (view_of g t.now)) b }
     ensures size { length own.new ≡ 2048 }
 {
     let mut gone = [0u8; 2048];
-    let mut s: usize = 0;
-    while s < g.records {
+    for s in 0..g.records {
         if !slot_fits(g, t, own, &mut gone, s) {
             return false;
         }
-        s += 1;
     }
     true
 }

@@ -54,7 +54,7 @@ fn prev_fits(g: Geometry, t: &[u32], s: usize) -> bool
 fn two_fit(number: u32, prev: u32, other: u32, others: u32) -> bool
     ensures { result ≡ imp (nat_lt 0 other) (not (number == other) && not (nat_lt 0 prev && prev == others)) }
 {
-    let apart = !(number == other);
+    let apart = number != other;
     let one = !((0 < prev) & (prev == others));
     !(0 < other) | (apart & one)
 }
@@ -67,10 +67,8 @@ fn others_fit(g: Geometry, t: &[u32], s: usize) -> bool
     let number = t[NUMBER + s];
     let prev = t[PREV + s];
     let mut fit = true;
-    let mut k: usize = 0;
-    while k < s {
-        fit = fit & two_fit(number, prev, t[NUMBER + k], t[PREV + k]);
-        k += 1;
+    for k in 0..s {
+        fit &= two_fit(number, prev, t[NUMBER + k], t[PREV + k]);
     }
     fit
 }
@@ -96,14 +94,7 @@ pub fn records_fit(g: Geometry, t: &[u32]) -> bool
     requires { Roomy g t.now }
     ensures { result ≡ all g.records (λ s. imp (nat_lt 0 ((view_of g t.now).num s)) (linked_to? (view_of g t.now) s s)) }
 {
-    let mut s: usize = 0;
-    while s < g.records {
-        if !record_fits(g, t, s) {
-            return false;
-        }
-        s += 1;
-    }
-    true
+    (0..g.records).all(|s| record_fits(g, t, s))
 }
 
 // The window of one slot: of an open record it is at most 62.
@@ -119,10 +110,8 @@ pub fn windows_fit(g: Geometry, t: &[u32]) -> bool
     ensures { result ≡ windows? (view_of g t.now) (state_of g t.now).notes }
 {
     let mut fit = true;
-    let mut s: usize = 0;
-    while s < g.records {
-        fit = fit & window_fits(t[NUMBER + s], t[OPEN + s], t[WINDOW + s]);
-        s += 1;
+    for s in 0..g.records {
+        fit &= window_fits(t[NUMBER + s], t[OPEN + s], t[WINDOW + s]);
     }
     fit
 }

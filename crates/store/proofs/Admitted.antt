@@ -1,19 +1,20 @@
--- The promises of `call`, return by return: what each refusal leaves, and what the engine's promises on a sound store come to.
+-- The promises of a call: what each refusal leaves, and what the engine's promises on a sound store come to.
 use mathlib.Core.Path.{◌≡◌, sym, ap, ◌∙◌, subst}
 use mathlib.Core.Bool.{Bool, true, false, not}
 use mathlib.Core.List.{List}
 use Prim.Native.Nat.{ℕ}
 use lib.Seq.{sets}
 use borrow.Author.Tests.{not-true, not-false}
-use Rattle.answer.specs.declared.Answer.{Answer}
-use Rattle.answer.specs.declared.Answer.TheVariants.{Refused}
+use Rattle.std.specs.Prelude.{Result, Ok, Err}
+use Rattle.answer.specs.declared.Refusal.{Refusal}
+use Rattle.answer.specs.declared.Refusal.TheVariants.{TooShort, NotSound}
 use Rattle.answer.specs.Reply.{Reply, refused, reply_of}
 use Rattle.answer.specs.Refusal.{leaves}
 use Rattle.geometry.specs.declared.Geometry.{Geometry}
-use Rattle.geometry.specs.Limits.{Inside, fits}
+use Rattle.geometry.specs.Limits.{Inside, making_of}
 use Rattle.geometry.proofs.Made.{inside_fits}
 use Rattle.alloc_log.specs.Word.{write_at, bytes_of}
-use Rattle.alloc_log.proofs.Tools.{MadeOf}
+use Rattle.alloc_log.proofs.Tools.{MadeOf, outside}
 use Rattle.model.specs.Calls.{result, written}
 use Rattle.model.specs.Layout.{state_of}
 use Rattle.model.specs.Memory.{Memory, short?, sound?, written_at, reply, stored_by, after}
@@ -24,6 +25,7 @@ use Rattle.model.proofs.Keeps.{Long, is_long, sound_fine}
 use Rattle.model.proofs.Replies.{reply_sound}
 use Rattle.tables.specs.Ready.{Roomy, Ready, OutLong, LogLong}
 use Rattle.tables.specs.Outcome.{replied, tables_left, log_left, out_left}
+use Rattle.store.specs.Admitted.{Admits}
 
 -- ── a sound store ──
 
@@ -64,77 +66,77 @@ module _ (g : Geometry) (M : Memory) (c : Command) (i : Inside g) (L : Long g M)
 -- ── a call ──
 
 -- the four promises of a call: its answer, and the tables, the log and the result buffer that it leaves
-abbrev pub Answered : Answer → List ℕ → List ℕ → List ℕ → Geometry → Memory → Command → Type 0
+abbrev pub Answered : Result ℕ Refusal → List ℕ → List ℕ → List ℕ → Geometry → Memory → Command → Type 0
 Answered r t log out g M c =
     (reply_of r out ≡ reply g M c) × ((t ≡ (after g M c).tables) × ((log ≡ (after g M c).log) × (out ≡ (after g M c).out)))
 
-module _ (M : Memory) (c : Command) where
-  -- a refusal changes nothing
-  refuses : (g : Geometry) (n : ℕ) → reply g M c ≡ refused n → Answered (Refused n) M.tables M.log M.out g M c
-  unfolding reply_of after
-  refuses g n e =
-      let T = state_of g M.tables in (
-        sym e,
+-- a refusal changes nothing
+pub refused_call : (g : Geometry) (M : Memory) (c : Command) (r : Refusal) → Admits g M (Err r) → Answered (Err r) M.tables M.log M.out g M c
+unfolding reply_of after
+refused_call g M c r a =
+    let T = state_of g M.tables in
+    let e = a c in (
+      sym e,
+      (
+        sym (ap (λ (r : Reply). leaves r M.tables (stored_by g M.tables c)) e),
         (
-          sym (ap (λ (r : Reply). leaves r M.tables (stored_by g M.tables c)) e),
+          sym (ap (λ (r : Reply). leaves r M.log (write_at M.log (written_at T c) (bytes_of (written g T c)))) e),
+          sym (ap (λ (r : Reply). leaves r M.out (sets M.out 0 (result g T c))) e),
+        ),
+      ),
+    )
+
+-- ── the three tests ──
+
+pub admits_outside : (six : Geometry) (M : Memory) {r : Refusal} →
+    Err r ≡ making_of six.arenas six.per six.pages six.records six.turn six.words → Admits six M (Err r)
+unfolding reply
+admits_outside six M e c = let o = outside six e in rw (o.0, o.1)
+
+module _ (M : Memory) {six g : Geometry} (m : MadeOf six g) {short : Bool} (lengths : short ≡ short? g M) where
+  pub admits_short : short ≡ true → Admits six M (Err TooShort)
+  unfolding reply
+  admits_short s c = subst (λ k. reply k M c ≡ refused 3) m.is (rw (inside_fits g m.inside, sym lengths ∙ s))
+
+  module _ (fine : short ≡ false) where
+    long : Long g M
+    long = is_long g M (sym lengths ∙ fine)
+
+    pub sound_requires : Roomy g M.tables × LogLong g M.log
+    sound_requires = (record { inside = m.inside; room = long.tables }, long.log)
+
+    module _ {ok : Bool} (tested : ok ≡ sound? g M.tables M.log) where
+      pub admits_unsound : not ok ≡ true → Admits six M (Err NotSound)
+      unfolding reply
+      admits_unsound n c =
+          subst (λ k. reply k M c ≡ refused 4) m.is (rw (inside_fits g m.inside, sym lengths ∙ fine, sym tested ∙ not-true ok n))
+
+      pub admits_sound : not ok ≡ false → Admits six M (Ok g)
+      admits_sound n = (m.is, m.inside, sym lengths ∙ fine, sym tested ∙ not-false ok n)
+
+-- ── a call that is admitted ──
+
+module _ {six g : Geometry} (M : Memory) (a : Admits six M (Ok g)) where
+  enough : Long g M
+  enough = is_long g M a.2
+
+  sound : SoundStore g M.tables M.log
+  sound = (sound_iff g a.1 M.tables M.log).0 a.3
+
+  pub calls_require : Ready g M.tables × LogLong g M.log × OutLong g M.out
+  calls_require = (sound_ready g M.tables M.log (record { inside = a.1; room = enough.tables }) sound, enough.log, enough.out)
+
+  -- what the engine promises is what `call` promises
+  pub call_done : (c : Command) (r : Result ℕ Refusal) (t log out : List ℕ) → (reply_of r out ≡ replied g M.tables c) × ((t ≡ tables_left g M.tables c) ×
+      ((log ≡ log_left g M.tables M.log c) × (out ≡ out_left g M.tables M.out c))) → Answered r t log out six M c
+  call_done c r t log out p =
+      subst (λ k. Answered r t log out k M c) a.0 (
+        p.0 ∙ sym (reply_is g M c a.1 enough sound),
+        (
+          p.1.0 ∙ sym (tables_are g M c a.1 enough sound),
           (
-            sym (ap (λ (r : Reply). leaves r M.log (write_at M.log (written_at T c) (bytes_of (written g T c)))) e),
-            sym (ap (λ (r : Reply). leaves r M.out (sets M.out 0 (result g T c))) e),
+            p.1.1.0 ∙ sym (log_is g M c a.1 enough sound),
+            p.1.1.1 ∙ sym (out_is g M c a.1 enough sound),
           ),
         ),
       )
-
-  pub call_2 : (g : Geometry) → fits g ≡ false → Answered (Refused 2) M.tables M.log M.out g M c
-  unfolding reply
-  call_2 g f = refuses g 2 (rw f)
-
-  refused_3 : (g : Geometry) → fits g ≡ true → short? g M ≡ true → Answered (Refused 3) M.tables M.log M.out g M c
-  unfolding reply
-  refused_3 g f s = refuses g 3 (rw (f, s))
-
-  refused_4 : (g : Geometry) → fits g ≡ true → short? g M ≡ false → sound? g M.tables M.log ≡ false →
-      Answered (Refused 4) M.tables M.log M.out g M c
-  unfolding reply
-  refused_4 g f s u = refuses g 4 (rw (f, s, u))
-
-  module _ {six g : Geometry} (m : MadeOf six g) where
-    -- what holds of the made geometry holds of the six numbers
-    of_made : (r : Answer) (t log out : List ℕ) → Answered r t log out g M c → Answered r t log out six M c
-    of_made r t log out = subst (λ k. Answered r t log out k M c) m.is
-
-    pub call_3 : {short : Bool} → short ≡ short? g M → short ≡ true → Answered (Refused 3) M.tables M.log M.out six M c
-    call_3 e s = of_made _ _ _ _ (refused_3 g (inside_fits g m.inside) (sym e ∙ s))
-
-    module _ {short : Bool} (lengths : short ≡ short? g M) (fine : short ≡ false) where
-      long : Long g M
-      long = is_long g M (sym lengths ∙ fine)
-
-      pub sound_requires : Roomy g M.tables × LogLong g M.log
-      sound_requires = (record { inside = m.inside; room = long.tables }, long.log)
-
-      module _ {ok : Bool} (tested : ok ≡ sound? g M.tables M.log) where
-        pub call_4 : not ok ≡ true → Answered (Refused 4) M.tables M.log M.out six M c
-        call_4 n = of_made _ _ _ _ (refused_4 g (inside_fits g m.inside) (sym lengths ∙ fine) (sym tested ∙ not-true ok n))
-
-        module _ (n : not ok ≡ false) where
-          sound : SoundStore g M.tables M.log
-          sound = (sound_iff g m.inside M.tables M.log).0 (sym tested ∙ not-false ok n)
-
-          pub perform_requires_of : Ready g M.tables × LogLong g M.log × OutLong g M.out
-          perform_requires_of = (sound_ready g M.tables M.log sound_requires.0 sound, long.log, long.out)
-
-          -- what the engine promises is what `call` promises
-          pub call_done : (r : Answer) (t log out : List ℕ) → (reply_of r out ≡ replied g M.tables c) × ((t ≡ tables_left g M.tables c) ×
-              ((log ≡ log_left g M.tables M.log c) × (out ≡ out_left g M.tables M.out c))) → Answered r t log out six M c
-          call_done r t log out p =
-              let i = m.inside in
-              of_made r t log out (
-                p.0 ∙ sym (reply_is g M c i long sound),
-                (
-                  p.1.0 ∙ sym (tables_are g M c i long sound),
-                  (
-                    p.1.1.0 ∙ sym (log_is g M c i long sound),
-                    p.1.1.1 ∙ sym (out_is g M c i long sound),
-                  ),
-                ),
-              )

@@ -1,17 +1,15 @@
 -- The tables of a fresh store as the code writes them: zeros, then the free words, then the six numbers.
 use mathlib.Core.Path.{◌≡◌, refl, sym, ap, ◌∙◌}
 use mathlib.Core.Logic.{◌⊎◌, inl, inr}
-use mathlib.Core.List.{List}
-use Prim.Native.Nat.{ℕ, zero, suc, ◌+◌, ◌-◌, ◌*◌, ◌%◌, ◌^◌, ◌≤◌, ◌<◌, min}
+use mathlib.Core.List.{List, ◌++◌}
+use Prim.Native.Nat.{ℕ, zero, suc, ◌+◌, ◌-◌, ◌*◌, ◌^◌, ◌≤◌, ◌<◌, min}
 use native.Mathlib.Omega.{arith}
 use lib.ListN.{length, get_or, set, take, drop, replicate, length-set, length-replicate, get_or-replicate, get_or-append}
-use lib.Pow.{pow_pos}
 use lib.Seq.{sets, sets-eq, length-sets, get_or-set_same, get_or-set_other, ext_get_or}
 use Rattle.answer.proofs.Cases.{cases, same?, lt?}
 use Rattle.geometry.specs.declared.Geometry.{Geometry}
 use Rattle.geometry.specs.Limits.{Inside, blocks}
 use Rattle.choice.specs.Words.{word_of}
-use Rattle.choice.proofs.Bit.{one_shl}
 use Rattle.model.specs.Lists.{elem}
 use Rattle.model.specs.State.{fresh}
 use Rattle.model.specs.Held.{waits, available}
@@ -20,10 +18,12 @@ use Rattle.model.proofs.LayoutFacts.{stored_beyond}
 use Rattle.model.proofs.MadeFacts.{NoWord, made_zero, made_free, made_for, made_length}
 use Rattle.store.specs.Fresh.{full_word, six_numbers}
 
--- one zero more
-pub zeros_next : (t : List ℕ) (a n : ℕ) → set (sets t a (replicate n 0)) (a + n) 0 ≡ sets t a (replicate (suc n) 0)
-zeros_next t a zero = ap (λ k. set t k 0) (omega arith)
-zeros_next t a (suc n) = ap (λ k. set (sets (set t a 0) (suc a) (replicate n 0)) k 0) (omega arith) ∙ zeros_next (set t a 0) (suc a) n
+-- zeros in place of the first n numbers
+pub zeroed : (t ys : List ℕ) (n : ℕ) → n ≤ length t → ys ≡ replicate n 0 → ys ++ drop n t ≡ sets t 0 (replicate n 0)
+zeroed t ys n h e =
+    let k : length (replicate {A = ℕ} n 0) ≡ n = length-replicate n 0 in
+    ap (λ l. l ++ drop n t) e ∙ ap (λ i. replicate n 0 ++ drop i t) (let z : n ≡ 0 + length (replicate {A = ℕ} n 0) = omega arith in z) ∙
+    sym (sets-eq (replicate n 0) t 0 (omega arith))
 
 pub listed_none : (f : ℕ → ℕ) (t : List ℕ) (a i : ℕ) → t ≡ sets t a (listed f i 0)
 unfolding listed
@@ -74,24 +74,6 @@ module _ (g : Geometry) where
   full_is : (k : ℕ) → free_word (fresh g) k ≡ full_word (blocks g) k
   unfolding free_word full_word fresh
   full_is k = all_free (32 * k) (min 32 (blocks g - 32 * k))
-
--- word k by where the blocks end: before it, inside it, behind it
-module _ (n k : ℕ) where
-  pub full_none : n ≤ 32 * k → 0 ≡ full_word n k
-  unfolding full_word
-  full_none h = ap (λ m. 2 ^ m - 1) (let e : 0 ≡ min 32 (n - 32 * k) = omega arith in e)
-
-  pub full_one : 32 * k < n → n < 32 * k + 32 → 1 ≤ 1 * 2 ^ (n - 32 * k) % 2 ^ 32
-  full_one l h = rw (one_shl (n - 32 * k) (omega arith)) (pow_pos (n - 32 * k))
-
-  pub full_some : 32 * k < n → n < 32 * k + 32 → 1 * 2 ^ (n - 32 * k) % 2 ^ 32 - 1 ≡ full_word n k
-  unfolding full_word
-  full_some l h =
-      ap (λ m. m - 1) (one_shl (n - 32 * k) (omega arith)) ∙ ap (λ m. 2 ^ m - 1) (let e : n - 32 * k ≡ min 32 (n - 32 * k) = omega arith in e)
-
-  pub full_all : 32 * k + 32 ≤ n → 4294967295 ≡ full_word n k
-  unfolding full_word
-  full_all h = ap (λ m. 2 ^ m - 1) (let e : 32 ≡ min 32 (n - 32 * k) = omega arith in e)
 
 module _ (g : Geometry) (inside : Inside g) (t : List ℕ) (room : need g ≤ length t) where
   abbrev zeros : List ℕ

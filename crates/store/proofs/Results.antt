@@ -5,7 +5,7 @@ use Prim.Native.Nat.{ℕ, ◌≤◌, ◌<◌}
 use native.Mathlib.Omega.{arith}
 use lib.ListN.{length, take}
 use lib.Seq.{take_all, length-take-le}
-use Rattle.answer.specs.declared.Answer.TheVariants.{Done}
+use Rattle.std.specs.Prelude.{Ok}
 use Rattle.answer.specs.Reply.{reply_of}
 use Rattle.answer.proofs.Cases.{cases, lt?}
 use Rattle.geometry.specs.declared.Geometry.{Geometry}
@@ -22,7 +22,7 @@ number_of n out l e k =
     (λ a. absurd (let z : ⊥ = omega (arith, ap length (sym (take_all n out a) ∙ e)) in z))
 
 -- the number that an answer names
-pub done_le : (n : ℕ) (out : List ℕ) (g : Geometry) (M : Memory) (c : Command) → reply_of (Done n) out ≡ reply g M c → 4160 ≤ length out → n ≤ 4097
+pub done_le : (n : ℕ) (out : List ℕ) (g : Geometry) (M : Memory) (c : Command) → reply_of (Ok n) out ≡ reply g M c → 4160 ≤ length out → n ≤ 4097
 unfolding reply_of
 done_le n out g M c e k =
     let i = (accepted_is g M c (take n out) (sym e)).0.inside in

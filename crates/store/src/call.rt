@@ -4,12 +4,10 @@ ghost use Rattle.model.specs.Command.{command};
 ghost use Rattle.model.specs.Memory.{lent};
 ghost use Rattle.store.specs.Called.{Called};
 
+use crate::admit::admitted;
 use answer::Answer;
 use engine::{perform, record_of};
-use geometry::{Geometry, Making};
 use model::Call;
-use soundness::is_sound;
-use soundness::lengths::is_short;
 use tables::find::slot_of;
 
 pub fn call(
@@ -28,16 +26,7 @@ pub fn call(
         (lent tables.old log.old out.old) (command c) result
         (lent tables.new log.new out.new) }
 {
-    let made = Geometry::new(arenas, per, pages, records, turn, words);
-    let Making::Made(g) = made else {
-        return Answer::Refused(2);
-    };
-    if is_short(g, tables, log, out) {
-        return Answer::Refused(3);
-    }
-    if !is_sound(g, tables, log) {
-        return Answer::Refused(4);
-    }
+    let g = admitted(arenas, per, pages, records, turn, words, tables, log, out)?;
     let link = slot_of(tables, g, record_of(c));
     perform(g, tables, log, out, c, link)
 }

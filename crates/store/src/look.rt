@@ -5,12 +5,10 @@ ghost use Rattle.model.specs.Memory.{lent};
 ghost use Rattle.engine.specs.Looks.{look_call};
 ghost use Rattle.store.specs.Called.{Called};
 
+use crate::admit::admitted;
 use answer::Answer;
 use engine::looks;
 use engine::looks::record_seen;
-use geometry::{Geometry, Making};
-use soundness::is_sound;
-use soundness::lengths::is_short;
 use tables::find::slot_of;
 
 pub fn look(
@@ -29,16 +27,7 @@ pub fn look(
         (lent tables.now log.now out.old) (command (look_call c)) result
         (lent tables.now log.now out.new) }
 {
-    let made = Geometry::new(arenas, per, pages, records, turn, words);
-    let Making::Made(g) = made else {
-        return Answer::Refused(2);
-    };
-    if is_short(g, tables, log, out) {
-        return Answer::Refused(3);
-    }
-    if !is_sound(g, tables, log) {
-        return Answer::Refused(4);
-    }
+    let g = admitted(arenas, per, pages, records, turn, words, tables, log, out)?;
     let link = slot_of(tables, g, record_seen(c));
     engine::look(g, tables, out, c, link)
 }

@@ -7,35 +7,18 @@ ghost use Rattle.model.specs.Layout.{need, made, listed};
 ghost use Rattle.model.specs.Memory.{make_reply, make_after, lent};
 ghost use Rattle.store.specs.Fresh.{full_word, six_numbers};
 
-use answer::Answer;
-use geometry::{Geometry, Making};
+use answer::{Answer, Refusal};
+use geometry::Geometry;
 use soundness::lengths::is_short;
 use tables::cells::{FREE, PAGES, ROWS};
-
-// The first n numbers become 0.
-fn clear(t: &mut [u32], n: usize)
-    requires { n ≤ length t.old }
-    ensures { t.new ≡ sets t.old 0 (replicate n 0) }
-{
-    let mut i: usize = 0;
-    while i < n {
-        t[i] = 0;
-        i += 1;
-    }
-}
 
 // The free word k of n blocks that may all be given: a bit for each of them.
 fn full_word(n: usize, k: usize) -> u32
     requires { (n ≤ 2048) × (k < 64) }
     ensures { result ≡ full_word n k }
 {
-    if n <= 32 * k {
-        return 0;
-    }
-    if n < 32 * k + 32 {
-        return (1u32 << ((n - 32 * k) as u32)) - 1;
-    }
-    0xffff_ffff
+    let blocks = n.saturating_sub(32 * k).min(32);
+    ((1u64 << blocks) - 1) as u32
 }
 
 // The free words of n blocks that may all be given.
@@ -43,10 +26,8 @@ fn fill_words(t: &mut [u32], n: usize)
     requires { (128 ≤ length t.old) × (n ≤ 2048) }
     ensures { t.new ≡ sets t.old 64 (listed (full_word n) 0 64) }
 {
-    let mut k: usize = 0;
-    while k < 64 {
+    for k in 0..64 {
         t[FREE + k] = full_word(n, k);
-        k += 1;
     }
 }
 
@@ -69,7 +50,7 @@ fn fill(t: &mut [u32], g: Geometry)
     ensures { t.new ≡ made g t.old }
 {
     let blocks = g.arenas * g.per;
-    clear(t, PAGES + ROWS * g.records + 4 * blocks);
+    t[..PAGES + ROWS * g.records + 4 * blocks].fill(0);
     fill_words(t, blocks);
     put_six(t, g);
 }
@@ -88,13 +69,10 @@ pub fn make(
     ensures reply { reply_of result out.now ≡ make_reply (geometry_of arenas per pages records turn words) (lent tables.old log.now out.now) }
     ensures tables { tables.new ≡ (make_after (geometry_of arenas per pages records turn words) (lent tables.old log.now out.now)).tables }
 {
-    let made = Geometry::new(arenas, per, pages, records, turn, words);
-    let Making::Made(g) = made else {
-        return Answer::Refused(2);
-    };
+    let g = Geometry::new(arenas, per, pages, records, turn, words)?;
     if is_short(g, tables, log, out) {
-        return Answer::Refused(3);
+        return Err(Refusal::TooShort);
     }
     fill(tables, g);
-    Answer::Done(0)
+    Ok(0)
 }

@@ -4,10 +4,8 @@ ghost use Rattle.model.specs.Command.{Attach, Detach, Resolve};
 ghost use Rattle.model.specs.Memory.{lent};
 ghost use Rattle.store.specs.Called.{Called};
 
+use crate::admit::admitted;
 use answer::Answer;
-use geometry::{Geometry, Making};
-use soundness::is_sound;
-use soundness::lengths::is_short;
 use tables::find::slot_of;
 
 // N: the name goes on the record of that number.
@@ -28,16 +26,7 @@ pub fn attach(
         (lent tables.old log.now out.now) (Attach name.now number) result
         (lent tables.new log.now out.now) }
 {
-    let made = Geometry::new(arenas, per, pages, records, turn, words);
-    let Making::Made(g) = made else {
-        return Answer::Refused(2);
-    };
-    if is_short(g, tables, log, out) {
-        return Answer::Refused(3);
-    }
-    if !is_sound(g, tables, log) {
-        return Answer::Refused(4);
-    }
+    let g = admitted(arenas, per, pages, records, turn, words, tables, log, out)?;
     let link = slot_of(tables, g, number);
     naming::attach(g, tables, name, number, link)
 }
@@ -59,16 +48,7 @@ pub fn detach(
         (lent tables.old log.now out.now) (Detach name.now) result
         (lent tables.new log.now out.now) }
 {
-    let made = Geometry::new(arenas, per, pages, records, turn, words);
-    let Making::Made(g) = made else {
-        return Answer::Refused(2);
-    };
-    if is_short(g, tables, log, out) {
-        return Answer::Refused(3);
-    }
-    if !is_sound(g, tables, log) {
-        return Answer::Refused(4);
-    }
+    let g = admitted(arenas, per, pages, records, turn, words, tables, log, out)?;
     naming::detach(g, tables, name)
 }
 
@@ -89,15 +69,6 @@ pub fn resolve(
         (lent tables.now log.now out.old) (Resolve name.now) result
         (lent tables.now log.now out.new) }
 {
-    let made = Geometry::new(arenas, per, pages, records, turn, words);
-    let Making::Made(g) = made else {
-        return Answer::Refused(2);
-    };
-    if is_short(g, tables, log, out) {
-        return Answer::Refused(3);
-    }
-    if !is_sound(g, tables, log) {
-        return Answer::Refused(4);
-    }
+    let g = admitted(arenas, per, pages, records, turn, words, tables, log, out)?;
     naming::resolve(g, tables, out, name)
 }

@@ -1,53 +1,19 @@
 -- The first empty one of 64 slots, by the bits of two words of 32.
 use mathlib.Core.Path.{◌≡◌, refl, sym, ap, ◌∙◌}
-use mathlib.Core.Bool.{Bool, true, false, cond}
-use mathlib.Core.List.{List}
+use mathlib.Core.Bool.{Bool, true}
 use Prim.Native.Nat.{ℕ, zero, suc, ◌+◌, ◌*◌, ◌%◌, ◌^◌, ◌≤◌, ◌<◌}
-use native.Mathlib.Nat.{lt_of_lt_of_le, zero-add, zero-mul, add-mul, mul_comm}
-use native.Mathlib.Numerals.{add-one}
+use native.Mathlib.Nat.{zero-add, zero-mul, add-mul, mul_comm}
 use native.Mathlib.Omega.{arith}
 use lib.Bits.{bit_or, or_shifted_r}
-use lib.Count.{count_trailing_zeros, trailing_le}
-use lib.Dec.{eqb}
-use lib.ListN.{get_or}
-use lib.Pow.{pow-add, pow_mono, shl_exact}
-use mir.Val.{Fits}
-use mir.Syntax.{w64}
-use borrow.Author.Tests.{eq-eqb, ne_eqb}
-use Rattle.answer.proofs.Cases.{cases, either, same?, lt?}
+use lib.Count.{count_trailing_zeros}
+use lib.Pow.{pow-add, shl_exact}
+use Rattle.answer.proofs.Cases.{cases, either, lt?}
 use Rattle.choice.specs.Words.{bit, word_of}
-use Rattle.choice.proofs.Bit.{one_shl, no_bit, tz_below, tz_at}
-use Rattle.choice.proofs.Births.{word_yes, word_no, word_lt, word_step, word_bit}
+use Rattle.choice.proofs.Bit.{no_bit, tz_below, tz_at}
+use Rattle.choice.proofs.Births.{word_yes, word_no, word_lt, word_bit}
 use Rattle.choice.proofs.Finds.{true_false}
 use Rattle.model.specs.Table.{seek}
 use Rattle.model.proofs.TabFacts.{seek_found, seek_none, seek_first}
-use Rattle.tables.specs.Columns.{empty_in}
-
--- ── `mark_empty` ──
-
-pub mark_this : (word k n : ℕ) → k < 32 → n ≡ 0 → bit_or word (1 * 2 ^ k % 2 ^ 32) ≡ cond (eqb n 0) (bit_or word (2 ^ k)) word
-mark_this word k n h e = rw (one_shl k h, eq-eqb n 0 e)
-
-pub mark_other : (word k n : ℕ) → (n ≡ 0 → ⊥) → word ≡ cond (eqb n 0) (bit_or word (2 ^ k)) word
-mark_other word k n d = rw (ne_eqb n 0 d)
-
--- ── a word of the slots from i on, one slot more ──
-
-word_more : (p : ℕ → Bool) (i k word r : ℕ) → word ≡ word_of p i k → r ≡ cond (p (i + k)) (bit_or word (2 ^ k)) word → r ≡ word_of p i (k + 1)
-word_more p i k word r e d =
-    cases (either (p (i + k)))
-    (λ y. d ∙ rw (y, e, add-one k) (word_step p i k y))
-    (λ n. d ∙ rw (n, e, add-one k) (sym (word_no p i k n)))
-
-pub mark_next : (t : List ℕ) (i k at word r : ℕ) → at ≡ 192 + (i + k) → word ≡ word_of (empty_in t) i k →
-    r ≡ cond (eqb (get_or t at 0) 0) (bit_or word (2 ^ k)) word → r ≡ word_of (empty_in t) i (k + 1)
-unfolding empty_in
-mark_next t i k at word r a e d =
-    word_more (empty_in t) i k word r e (d ∙ ap (λ (x : ℕ). cond (eqb (get_or t x 0) 0) (bit_or word (2 ^ k)) word) a)
-
--- it fits in 32 bits
-pub word_small : (p : ℕ → Bool) (i k w : ℕ) → k ≤ 32 → w ≡ word_of p i k → w < 2 ^ 32
-word_small p i k w h e = rw e (lt_of_lt_of_le (word_lt p i k) (pow_mono h))
 
 -- ── two words, one behind the other ──
 
@@ -104,18 +70,3 @@ module _ (p : ℕ → Bool) where
         let l : w < 2 ^ n = rw e (word_lt p 0 n) in
         let a = tz_at n w h l in
         (by_link (seek p 0 n) refl (λ _. (a.0, bit_is (count_trailing_zeros n w) a.0 ∙ a.1)) h, omega (arith, a.0))
-
--- its place and its link fit
-pub zeros_fit : (q : ℕ) → Fits w64 (count_trailing_zeros 64 q)
-zeros_fit q = omega (arith, trailing_le 64 q)
-
-pub link_fits : (q : ℕ) → Fits w64 (count_trailing_zeros 64 q + 1)
-link_fits q = omega (arith, trailing_le 64 q)
-
--- ── `any_is` ──
-
--- one number more that is not v
-pub none_more : (t : List ℕ) (a v k : ℕ) (any : Bool) → (any ≡ false → (j : ℕ) → j < k → get_or t (a + j) 0 ≡ v → ⊥) → (get_or t (a + k) 0 ≡ v → ⊥) →
-    any ≡ false → (j : ℕ) → j < k + 1 → get_or t (a + j) 0 ≡ v → ⊥
-none_more t a v k any h n e j l d =
-    cases (same? j k) (λ s. n (ap (λ (x : ℕ). get_or t (a + x) 0) (sym s) ∙ d)) (λ s. h e j (omega arith) d)

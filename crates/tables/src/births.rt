@@ -82,7 +82,7 @@ fn raise(t: &mut [u32], b: usize)
     requires { (128 ≤ length t.old) × (b < 2048) }
     ensures { t.new ≡ raised t.old b }
 {
-    t[FREE + (b >> 5)] = t[FREE + (b >> 5)] | bit_of(b);
+    t[FREE + (b >> 5)] |= bit_of(b);
 }
 
 // The blocks that wait may be given from now on, and none waits.
@@ -91,11 +91,9 @@ pub fn release(t: &mut [u32], g: Geometry)
     ensures { t.new ≡ stored g (synced (state_of g t.old)) t.old }
 {
     let n = wide(t[WAITS]);
-    let mut i: usize = 0;
-    while i < n {
+    for i in 0..n {
         let b = wide(t[waiting_at(g) + i]);
         raise(t, b);
-        i += 1;
     }
     t[WAITS] = 0;
 }

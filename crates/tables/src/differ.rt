@@ -3,92 +3,36 @@ ghost use Rattle.std.specs.Prelude.{◌≡◌, ◌+◌, ◌≤◌, ◌<◌, leng
 ghost use Rattle.choice.specs.Words.{word_of};
 ghost use Rattle.model.specs.Layout.{view_of};
 ghost use Rattle.tables.specs.Ready.{Roomy};
-ghost use Rattle.tables.specs.Rows.{apart, filled, differs};
+ghost use Rattle.tables.specs.Rows.{differs};
 
 use crate::cells::{PAGES, ROW};
+use choice::word_where;
 use geometry::Geometry;
 
-// 32 places, from a and from b on. The bound is a constant: the loop is compiled to wide steps.
-fn differ_word(t: &[u32], a: usize, b: usize) -> u32
-    requires { (a + 32 ≤ length t.now) × (b + 32 ≤ length t.now) }
-    ensures { result ≡ word_of (apart t.now a b) 0 32 }
-{
-    let mut word: u32 = 0;
-    let mut k: usize = 0;
-    while k < 32 {
-        if t[a + k] != t[b + k] {
-            word = word | (1u32 << (k as u32));
-        }
-        k += 1;
-    }
-    word
-}
-
-// 32 places from a on: where they are not 0.
-fn filled_word(t: &[u32], a: usize) -> u32
-    requires { a + 32 ≤ length t.now }
-    ensures { result ≡ word_of (filled t.now a) 0 32 }
-{
-    let mut word: u32 = 0;
-    let mut k: usize = 0;
-    while k < 32 {
-        if t[a + k] != 0 {
-            word = word | (1u32 << (k as u32));
-        }
-        k += 1;
-    }
-    word
-}
-
-// n places: for the last pages of a row.
-fn differ_few(t: &[u32], a: usize, b: usize, n: usize) -> u32
-    requires { (n ≤ 32) × (a + n ≤ length t.now) × (b + n ≤ length t.now) }
-    ensures { result ≡ word_of (apart t.now a b) 0 n }
-{
-    let mut word: u32 = 0;
-    let mut k: usize = 0;
-    while k < n {
-        if t[a + k] != t[b + k] {
-            word = word | (1u32 << (k as u32));
-        }
-        k += 1;
-    }
-    word
-}
-
-// The n places from a on that are not 0.
-fn filled_few(t: &[u32], a: usize, n: usize) -> u32
-    requires { (n ≤ 32) × (a + n ≤ length t.now) }
-    ensures { result ≡ word_of (filled t.now a) 0 n }
-{
-    let mut word: u32 = 0;
-    let mut k: usize = 0;
-    while k < n {
-        if t[a + k] != 0 {
-            word = word | (1u32 << (k as u32));
-        }
-        k += 1;
-    }
-    word
-}
-
 // The n pages of slot s from x on that differ from those of the record behind the link; with no record there, those that have a block.
-pub fn differing(g: Geometry, t: &[u32], s: usize, link: usize, x: usize, n: usize) -> u32
+// Callers say 32 for a whole word: with a constant it is compiled to wide steps.
+#[inline(always)]
+fn pages_word(g: Geometry, t: &[u32], s: usize, link: usize, x: usize, n: usize) -> u32
     requires { Roomy g t.now × (s < g.records) × (link ≤ g.records) × (n ≤ 32) × (x + n ≤ g.pages) }
     ensures { result ≡ word_of (differs (view_of g t.now) s link) x n }
 {
     let a = PAGES + ROW * s + x;
     if link == 0 {
-        if n == 32 {
-            return filled_word(t, a);
-        }
-        return filled_few(t, a, n);
+        return word_where(n, |k| t[a + k] != 0);
     }
     let b = PAGES + ROW * (link - 1) + x;
+    word_where(n, |k| t[a + k] != t[b + k])
+}
+
+// The same, with a whole word told apart from the last pages of a row.
+pub fn differing(g: Geometry, t: &[u32], s: usize, link: usize, x: usize, n: usize) -> u32
+    requires { Roomy g t.now × (s < g.records) × (link ≤ g.records) × (n ≤ 32) × (x + n ≤ g.pages) }
+    ensures { result ≡ word_of (differs (view_of g t.now) s link) x n }
+{
     if n == 32 {
-        return differ_word(t, a, b);
+        return pages_word(g, t, s, link, x, 32);
     }
-    differ_few(t, a, b, n)
+    pages_word(g, t, s, link, x, n)
 }
 
 // The same of 32 pages: for the check of a stranger's rows, whose loop over whole words has nothing of the last pages in it.
@@ -96,16 +40,12 @@ pub fn differing_whole(g: Geometry, t: &[u32], s: usize, link: usize, x: usize) 
     requires { Roomy g t.now × (s < g.records) × (link ≤ g.records) × (x + 32 ≤ g.pages) }
     ensures { result ≡ word_of (differs (view_of g t.now) s link) x 32 }
 {
-    let a = PAGES + ROW * s + x;
-    if link == 0 {
-        return filled_word(t, a);
-    }
-    differ_word(t, a, PAGES + ROW * (link - 1) + x)
+    pages_word(g, t, s, link, x, 32)
 }
 
 // How many pages the next word of a row is for, of those that are left.
 pub fn stretch(left: usize) -> usize
     ensures { (result ≤ left) × (result ≤ 32) × (0 < left → 0 < result) }
 {
-    if left < 32 { left } else { 32 }
+    left.min(32)
 }

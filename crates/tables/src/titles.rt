@@ -11,12 +11,10 @@ pub fn row_with(t: &[u32], link: u32) -> usize
     ensures is { result ≡ row_with (titles_of t.now) link }
     ensures range { result ≤ 32 }
 {
-    let mut i: usize = 0;
-    while i < 32 {
+    for i in 0..32 {
         if t[TITLES + TITLE * i] == link {
             return i + 1;
         }
-        i += 1;
     }
     0
 }
@@ -25,5 +23,5 @@ pub fn row_with(t: &[u32], link: u32) -> usize
 pub fn is_letter(x: u32) -> bool
     ensures { result ≡ (leb 97 x && leb x 122) }
 {
-    (97 <= x) & (x <= 122)
+    (97..=122).contains(&x)
 }

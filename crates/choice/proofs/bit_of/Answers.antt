@@ -6,9 +6,6 @@ use lib.Bits.{and_mask, mask_lt}
 use Rattle.choice.proofs.Bit.{one_shl}
 use Rattle.choice.proofs.bit_of.Goals as goal
 
-pub overflow_cast-result : goal.overflow_cast-result
-overflow_cast-result c = omega (arith, mask_lt c.args.b 5)
-
 pub overflow_shl-result : goal.overflow_shl-result
 overflow_shl-result c = omega (arith, mask_lt c.args.b 5)
 

@@ -76,8 +76,8 @@ look-near-requires c =
     let w = c.requires.words_long in
     (omega arith, omega arith)
 
-pub overflow_add-found : goal.overflow_add-found
-overflow_add-found c = let d = c.before.before in omega (arith, d.loop-at.invariant.end_inside, c.requires.per_most)
+pub overflow_add-offset : goal.overflow_add-offset
+overflow_add-offset c = let d = c.before.before in omega (arith, d.loop-at.invariant.end_inside, c.requires.per_most)
 
 pub overflow_mul-arenas : goal.overflow_mul-arenas
 overflow_mul-arenas c =

@@ -1,21 +1,22 @@
 -- The bits are 0 only where each word that was read is 0.
 use borrow.Author.Tests.{eqb-true}
-use Prim.Native.Nat.{◌/◌}
-use Rattle.choice.proofs.Skips.{one_more_lem}
-use lib.ListN.{get_or}
-use Rattle.choice.proofs.Gap.{word_none}
+use Prim.Native.Nat.{◌+◌, ◌/◌}
 use native.Mathlib.Omega.{arith}
+use lib.ListN.{get_or}
+use Rattle.std.proofs.Common.{length-take}
+use Rattle.std.proofs.lemmas.List.{get_or-take}
+use Rattle.choice.proofs.Gap.{word_none}
+use Rattle.choice.proofs.Skips.{one_more_lem}
 use Rattle.choice.proofs.none_free.Goals as goal
 
-pub loop-k-init : goal.loop-k-init
-loop-k-init c = (omega arith, λ e i h. absurd (omega arith))
-
-pub loop-k-preserved : goal.loop-k-preserved
-loop-k-preserved c = let d = c.before.before in
-    let s = d.args in
-    (omega arith, λ e. one_more_lem (λ i. get_or s.words.now i 0) d.loop-k.invariant.1 e)
+pub loop-word-preserved : goal.loop-word-preserved
+loop-word-preserved c =
+    let n = (c.args.all + 31) / 32 in
+    let words = c.args.words.now in
+    let same = get_or-take n words c.loop-word.word-index 0 (omega (arith, length-take n words)) in
+    λ e. one_more_lem (λ i. get_or words i 0) c.loop-word.invariant (rw same at e)
 
 pub returns : goal.returns
-returns c = let d = c.before in
-    let s = d.args in
-    λ e b h. word_none s.words.now b (d.loop-k.invariant.1 (eqb-true d.loop-k.bits 0 e) (b / 32) (omega arith))
+returns c = λ e b h.
+    word_none c.args.words.now b
+    (c.loop-word.invariant (eqb-true c.loop-word.bits 0 e) (b / 32) (omega (arith, length-take ((c.args.all + 31) / 32) c.args.words.now)))

@@ -1,11 +1,8 @@
 -- The bits are 0 only where each word that was read is 0.
-use Prim.Native.Nat.{ℕ, ◌-◌, ◌≤◌, ◌<◌}
+use Prim.Native.Nat.{ℕ, ◌<◌}
 use mathlib.Core.Path.{◌≡◌}
 use lib.ListN.{get_or}
 use Rattle.choice.proofs.none_free.Given as goal
 
-abbrev pub invariant-loop-k : goal.invariant-loop-k
-invariant-loop-k l = (l.k ≤ l.n) × (l.bits ≡ 0 → (i : ℕ) → i < l.k → get_or l.words i 0 ≡ 0)
-
-abbrev pub decreases-loop-k : goal.decreases-loop-k
-decreases-loop-k l = l.n - l.k
+abbrev pub invariant-loop-word : goal.invariant-loop-word
+invariant-loop-word l = l.bits ≡ 0 → (i : ℕ) → i < l.word-index → get_or l.words i 0 ≡ 0

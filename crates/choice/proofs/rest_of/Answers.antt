@@ -6,9 +6,6 @@ use lib.Bits.{and_mask, mask_lt}
 use Rattle.choice.proofs.Gap.{rest_fits}
 use Rattle.choice.proofs.rest_of.Goals as goal
 
-pub overflow_cast-result : goal.overflow_cast-result
-overflow_cast-result c = omega (arith, mask_lt c.args.b 5)
-
 pub overflow_shr-result : goal.overflow_shr-result
 overflow_shr-result c = omega (arith, mask_lt c.args.b 5)
 

@@ -1,6 +1,6 @@
 -- Blocks lose their births in the queue and wait, one after another.
 use native.Mathlib.Omega.{arith}
-use mathlib.Core.Path.{◌≡◌, refl, ap, ◌∙◌}
+use mathlib.Core.Path.{◌≡◌, ap, ◌∙◌}
 use Prim.Native.Nat.{◌<◌}
 use lib.ListN.{length-set}
 use Rattle.geometry.specs.Limits.{blocks}
@@ -11,7 +11,7 @@ use Rattle.reclaiming.proofs.free_queued.Goals as goal
 
 pub loop-i-init : goal.loop-i-init
 loop-i-init c =
-    (refl, omega arith, Ending.end_none _ _ _ c.args.out.now, omega arith)
+    (Ending.end_none _ _ _ c.args.out.now, omega arith)
 
 pub overflow_add-t : goal.overflow_add-t
 overflow_add-t c =
@@ -37,19 +37,17 @@ wait_block-requires c =
     omega (arith, c.wide-b.ensures, c.requires.2 turn.i c.loop-i-test.true)) in
     let turn = c.loop-i in
     let waits = Ending.cleared_waits _ _ turn.t _ c.wide-b.result c.queue_births_at.ensures in (
-      Ending.roomy_as (length-set turn.t _ 0 ∙ turn.invariant.0) c.requires.0,
+      Ending.roomy_as (length-set turn.t _ 0 ∙ turn.auto.t) c.requires.0,
       block_in_lem,
-      omega (arith, waits, turn.invariant.3, c.requires.3),
+      omega (arith, waits, turn.invariant.1, c.requires.3),
     )
 
 pub loop-i-preserved : goal.loop-i-preserved
 loop-i-preserved c =
     let turn = c.loop-i in
     let made = Ending.end_made _ _ turn.t _ _ _ c.queue_births_at.ensures c.wait_block.ensures in (
-      Ending.end_long _ _ turn.t _ _ made ∙ turn.invariant.0,
-      omega arith,
-      Ending.end_turn _ _ turn.t _ _ made c.args.t.now c.args.out.now turn.i (omega arith) turn.invariant.2 c.wide-b.ensures,
-      Ending.end_waits _ _ turn.t _ _ made turn.i _ (omega (arith, c.requires.0.room, turn.invariant.0)) turn.invariant.3,
+      Ending.end_turn _ _ turn.t _ _ made c.args.t.now c.args.out.now turn.i (omega arith) turn.invariant.0 c.wide-b.ensures,
+      Ending.end_waits _ _ turn.t _ _ made turn.i _ (omega (arith, c.requires.0.room, turn.auto.t)) turn.invariant.1,
     )
 
 pub returns : goal.returns
@@ -57,4 +55,4 @@ returns c =
     let a = c.args in
     let turn = c.loop-i in
     let e : turn.i ≡ a.n = omega arith in
-    turn.invariant.2 ∙ ap (λ j. ended_all a.g.records (blocks a.g) a.t.now (firsts j a.out.now)) e
+    turn.invariant.0 ∙ ap (λ j. ended_all a.g.records (blocks a.g) a.t.now (firsts j a.out.now)) e

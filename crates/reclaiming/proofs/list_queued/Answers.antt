@@ -1,6 +1,6 @@
 -- The first blocks of the queue are listed, each with its birth, block after block.
 use native.Mathlib.Omega.{arith}
-use mathlib.Core.Path.{◌≡◌, refl, ap, ◌∙◌}
+use mathlib.Core.Path.{◌≡◌, ap, ◌∙◌}
 use Prim.Native.Nat.{◌+◌, ◌<◌}
 use lib.ListN.{get_or, take, length-set}
 use lib.Seq.{sets}
@@ -12,8 +12,7 @@ use Rattle.reclaiming.proofs.Listing
 use Rattle.reclaiming.proofs.list_queued.Goals as goal
 
 pub loop-i-init : goal.loop-i-init
-loop-i-init c =
-    (refl, omega arith, Listing.list_start c.requires.0 c.args.out.now)
+loop-i-init c = Listing.list_start c.requires.0 c.args.out.now
 
 pub bounds-t-queue_at : goal.bounds-t-queue_at
 bounds-t-queue_at c =
@@ -45,17 +44,14 @@ bounds-out-i-in-loop-i c = simp length-set (omega arith)
 
 pub loop-i-preserved : goal.loop-i-preserved
 loop-i-preserved c =
-    let turn = c.loop-i in (
-      simp length-set turn.invariant.0,
-      omega arith,
-      Listing.list_turn c.requires.0 turn.i (omega (arith, c.requires.1)) _ c.queue_at.ensures c.args.out.now turn.out _ _
-          turn.invariant.2 c.queue_births_at.ensures c.wide.ensures,
-    )
+    let turn = c.loop-i in
+    Listing.list_turn c.requires.0 turn.i (omega (arith, c.requires.1)) _ c.queue_at.ensures c.args.out.now turn.out _ _
+    turn.invariant c.queue_births_at.ensures c.wide.ensures
 
 pub returns : goal.returns
 returns c =
     let a = c.args in
     let turn = c.loop-i in
     let e : turn.i ≡ a.n = omega arith in
-    turn.invariant.2 ∙
+    turn.invariant ∙
     ap (λ j. sets a.out.now 0 (paired (state_of a.g a.t.now).queue.birth (take j (state_of a.g a.t.now).queue.list))) e

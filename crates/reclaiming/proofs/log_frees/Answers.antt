@@ -1,6 +1,6 @@
 -- The words of the freed blocks join the log, word after word.
 use native.Mathlib.Omega.{arith}
-use mathlib.Core.Path.{refl, ap, ◌∙◌}
+use mathlib.Core.Path.{ap}
 use Prim.Native.Nat.{◌+◌, ◌*◌}
 use lib.ListN.{set, length-set}
 use Rattle.reclaiming.proofs.Logging
@@ -8,8 +8,7 @@ use Rattle.reclaiming.proofs.Logging.{freed}
 use Rattle.reclaiming.proofs.log_frees.Goals as goal
 
 pub loop-i-init : goal.loop-i-init
-loop-i-init c =
-    (omega arith, refl, Logging.freed_start c.args.log.now c.args.out.now (8 * c.wide-used.result))
+loop-i-init c = (Logging.freed_start c.args.log.now c.args.out.now (8 * c.wide-used.result))
 
 pub overflow_mul-wide : goal.overflow_mul-wide
 overflow_mul-wide c = omega (arith, c.shared_slice_known-in-loop-i-1.given (2 * c.loop-i.i))
@@ -19,18 +18,11 @@ overflow_add-wide c = omega (arith, c.shared_slice_known-in-loop-i-1.given (2 * 
 
 pub loop-i-preserved : goal.loop-i-preserved
 loop-i-preserved c =
-    let turn = c.loop-i in (
-      omega arith,
-      Logging.turn_length _ _ _ _ (omega arith) c.append.ensures.1 ∙ turn.invariant.1,
-      Logging.freed_turn _ _ _ _ _ turn.i (omega arith) (omega arith) turn.invariant.2 _ c.wide.ensures
-          c.append.ensures.1,
-    )
+    let turn = c.loop-i in
+    Logging.freed_turn _ _ _ _ _ turn.i (omega arith) (omega arith) turn.invariant _ c.wide.ensures c.append.ensures.1
 
 pub shape_of-t : goal.shape_of-t
 shape_of-t c = simp length-set
-
-pub shape_of-log : goal.shape_of-log
-shape_of-log c = c.loop-i.invariant.1
 
 pub returns : goal.returns
 returns c =
@@ -38,5 +30,5 @@ returns c =
     let link = c.wide-used.ensures in
     record {
       tables = ap (λ u. set c.args.t.now 9 (u + c.args.n)) link;
-      log = Logging.freed_end _ _ _ _ _ _ _ link turn.invariant.0 (omega arith) turn.invariant.2;
+      log = Logging.freed_end _ _ _ _ _ _ _ link (omega arith) (omega arith) turn.invariant;
     }

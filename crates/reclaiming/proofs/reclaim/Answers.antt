@@ -1,21 +1,12 @@
 -- The call T: a refusal leaves everything, and an accepted call does what the model says.
 use native.Mathlib.Omega.{arith}
-use mathlib.Core.Path.{◌≡◌, ap, ◌∙◌}
-use Rattle.reclaiming.specs.Stages.{turn}
+use Rattle.std.proofs.lemmas.Bool.Decides.{nat_tests}
 use Rattle.reclaiming.proofs.Answers
 use Rattle.reclaiming.proofs.Answers.{Accepts}
 use Rattle.reclaiming.proofs.reclaim.Goals as goal
 
-pub returns-then-k-eq0 : goal.returns-then-k-eq0
-returns-then-k-eq0 c = let both = Answers.none _ _ _ c.if-k-eq0.true _ _ in record {
-  reply = both.0;
-  tables = both.1.0;
-  log = both.1.1.0;
-  out = both.1.1.1;
-}
-
-pub returns-then-k-gt64 : goal.returns-then-k-gt64
-returns-then-k-gt64 c = let both = Answers.large _ _ _ c.if-k-eq0.false c.if-k-gt64.true _ _ in record {
+pub returns-then-not-contains : goal.returns-then-not-contains
+returns-then-not-contains c = let both = Answers.outside _ _ c.args.k (λ a b. grind (arith, nat_tests)) _ _ in record {
   reply = both.0;
   tables = both.1.0;
   log = both.1.1.0;
@@ -28,9 +19,9 @@ overflow_sub-g c =
 
 pub returns-then-g-wide : goal.returns-then-g-wide
 returns-then-g-wide c =
-    let counted : (c.turn_of-n.result ≡ turn c.args.t.now c.args.k) = (c.turn_of-n.ensures ∙ ap (turn c.args.t.now) c.wide.ensures) in
-    let both = Answers.short _ _ _ c.if-k-eq0.false c.if-k-gt64.false _ _ (counted)
-    c.wide-2.ensures c.if-g-wide.true _ _ in record {
+    let both =
+    Answers.short _ _ _ (grind (arith, nat_tests)) (grind (arith, nat_tests)) _ _ _ c.turn_of-n.ensures c.wide.ensures c.wide-2.ensures
+    c.if-g-wide.true _ _ in record {
       reply = both.0;
       tables = both.1.0;
       log = both.1.1.0;
@@ -39,18 +30,16 @@ returns-then-g-wide c =
 
 pub list_queued-requires : goal.list_queued-requires
 list_queued-requires c =
-    let counted : (c.turn_of-n.result ≡ turn c.args.t.now c.args.k) = (c.turn_of-n.ensures ∙ ap (turn c.args.t.now) c.wide.ensures) in
-    let accepting : (Accepts c.args.g c.args.t.now c.args.k c.turn_of-n.result) = (Answers.accepts _ _ _ c.requires.0 c.if-k-eq0.false c.if-k-gt64.false (counted)
-    c.wide-2.ensures c.if-g-wide.false) in
-    let A = accepting in
+    let A =
+    Answers.accepts _ _ _ _ c.requires.0 (grind (arith, nat_tests)) (grind (arith, nat_tests)) c.turn_of-n.ensures c.wide.ensures
+    c.wide-2.ensures c.if-g-wide.false in
     (c.requires.0, Answers.accept_in A, Answers.accept_out A c.args.out.now c.requires.2)
 
 pub log_frees-requires : goal.log_frees-requires
 log_frees-requires c =
-    let counted : (c.turn_of-n.result ≡ turn c.args.t.now c.args.k) = (c.turn_of-n.ensures ∙ ap (turn c.args.t.now) c.wide.ensures) in
-    let accepting : (Accepts c.args.g c.args.t.now c.args.k c.turn_of-n.result) = (Answers.accepts _ _ _ c.requires.0 c.if-k-eq0.false c.if-k-gt64.false (counted)
-    c.wide-2.ensures c.if-g-wide.false) in
-    let A = accepting in (
+    let A =
+    Answers.accepts _ _ _ _ c.requires.0 (grind (arith, nat_tests)) (grind (arith, nat_tests)) c.turn_of-n.ensures c.wide.ensures
+    c.wide-2.ensures c.if-g-wide.false in (
       omega (arith, c.requires.0.roomy.room),
       Answers.accept_room A c.args.out.now c.requires.2 _ c.list_queued.ensures,
       omega (arith, A.enough, c.requires.1),
@@ -59,10 +48,9 @@ log_frees-requires c =
 
 pub free_queued-requires : goal.free_queued-requires
 free_queued-requires c =
-    let counted : (c.turn_of-n.result ≡ turn c.args.t.now c.args.k) = (c.turn_of-n.ensures ∙ ap (turn c.args.t.now) c.wide.ensures) in
-    let accepting : (Accepts c.args.g c.args.t.now c.args.k c.turn_of-n.result) = (Answers.accepts _ _ _ c.requires.0 c.if-k-eq0.false c.if-k-gt64.false (counted)
-    c.wide-2.ensures c.if-g-wide.false) in
-    let A = accepting in
+    let A =
+    Answers.accepts _ _ _ _ c.requires.0 (grind (arith, nat_tests)) (grind (arith, nat_tests)) c.turn_of-n.ensures c.wide.ensures
+    c.wide-2.ensures c.if-g-wide.false in
     let listed = c.list_queued.ensures in
     let logged = c.log_frees.ensures.tables in (
       Answers.accept_roomy A c.args.out.now c.requires.2 _ listed _ logged,
@@ -73,10 +61,9 @@ free_queued-requires c =
 
 pub shorten_queue-requires : goal.shorten_queue-requires
 shorten_queue-requires c =
-    let counted : (c.turn_of-n.result ≡ turn c.args.t.now c.args.k) = (c.turn_of-n.ensures ∙ ap (turn c.args.t.now) c.wide.ensures) in
-    let accepting : (Accepts c.args.g c.args.t.now c.args.k c.turn_of-n.result) = (Answers.accepts _ _ _ c.requires.0 c.if-k-eq0.false c.if-k-gt64.false (counted)
-    c.wide-2.ensures c.if-g-wide.false) in
-    let A = accepting in
+    let A =
+    Answers.accepts _ _ _ _ c.requires.0 (grind (arith, nat_tests)) (grind (arith, nat_tests)) c.turn_of-n.ensures c.wide.ensures
+    c.wide-2.ensures c.if-g-wide.false in
     let listed = c.list_queued.ensures in
     let logged = c.log_frees.ensures.tables in
     let ended = c.free_queued.ensures in (
@@ -87,17 +74,16 @@ shorten_queue-requires c =
 
 pub overflow_mul-result : goal.overflow_mul-result
 overflow_mul-result c =
-    let counted : (c.turn_of-n.result ≡ turn c.args.t.now c.args.k) = (c.turn_of-n.ensures ∙ ap (turn c.args.t.now) c.wide.ensures) in
-    let accepting : (Accepts c.args.g c.args.t.now c.args.k c.turn_of-n.result) = (Answers.accepts _ _ _ c.requires.0 c.if-k-eq0.false c.if-k-gt64.false (counted)
-    c.wide-2.ensures c.if-g-wide.false) in
-    omega (arith, Answers.accept_few (accepting))
+    let A =
+    Answers.accepts _ _ _ _ c.requires.0 (grind (arith, nat_tests)) (grind (arith, nat_tests)) c.turn_of-n.ensures c.wide.ensures
+    c.wide-2.ensures c.if-g-wide.false in
+    omega (arith, Answers.accept_few A)
 
 pub returns : goal.returns
 returns c =
-    let counted : (c.turn_of-n.result ≡ turn c.args.t.now c.args.k) = (c.turn_of-n.ensures ∙ ap (turn c.args.t.now) c.wide.ensures) in
-    let accepting : (Accepts c.args.g c.args.t.now c.args.k c.turn_of-n.result) = (Answers.accepts _ _ _ c.requires.0 c.if-k-eq0.false c.if-k-gt64.false (counted)
-    c.wide-2.ensures c.if-g-wide.false) in
-    let A = accepting in
+    let A =
+    Answers.accepts _ _ _ _ c.requires.0 (grind (arith, nat_tests)) (grind (arith, nat_tests)) c.turn_of-n.ensures c.wide.ensures
+    c.wide-2.ensures c.if-g-wide.false in
     let listed = c.list_queued.ensures in
     let logged = c.log_frees.ensures in
     let ended = c.free_queued.ensures in

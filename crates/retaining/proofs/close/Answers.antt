@@ -16,7 +16,7 @@ delete_oldest-requires c =
 
 pub returns : goal.returns
 returns c = let both = Closing.closed_left c.requires.0 _ _ _ c.requires.2 _ c.seal_at.ensures.is _ _ c.line_of-count.ensures c.requires.3
-    _ c.surplus.ensures _ c.delete_oldest.ensures c.args.out.now c.requires.1
+    _ c.saturating_sub.ensures _ c.delete_oldest.ensures c.args.out.now c.requires.1
     _ c.seal_at.ensures.number in record {
       reply = both.0;
       tables = both.1.0;

@@ -1,5 +1,5 @@
 -- `store_line`: six numbers outside their limits, or an answer of `make`: each is one law of `Stepping`.
-use mathlib.Core.Path.{◌≡◌}
+use mathlib.Core.Path.{◌≡◌, sym, ◌∙◌}
 use Rattle.geometry.specs.Limits.{making_of}
 use Rattle.alloc_log.proofs.Tools.{made_of, outside}
 use Rattle.session.specs.Step.{geometry_in}
@@ -15,7 +15,7 @@ returns-in_default c =
     let a = s.args in
     stepping_as c.refuse.ensures
     (store_outside a.s a.t.now a.log.now a.out.now s.requires a.x
-    (outside (geometry_in a.x) _ (is_new) c.in_default.is))
+    (outside (geometry_in a.x) (sym c.in_default.is ∙ is_new)).1)
 
 pub returns-in_default-answer : goal.returns-in_default-answer
 returns-in_default-answer c =
@@ -25,7 +25,7 @@ returns-in_default-answer c =
     let s = c in
     let a = s.args in
     let e = c.make-answer.ensures in
-    let m = made_of (geometry_in a.x) _ (is_new) c.in-Made.is in
+    let m = made_of (geometry_in a.x) _ (sym c.in-Ok.is ∙ is_new) in
     store_refused a.s a.t.now a.log.now a.out.now s.requires a.x _ m.is _ _ e.reply e.tables _ c.in_default-answer.is
 
 pub returns : goal.returns
@@ -36,5 +36,5 @@ returns c =
     let s = c in
     let a = s.args in
     let e = c.make-answer.ensures in
-    let m = made_of (geometry_in a.x) _ (is_new) c.in-Made.is in
-    store_done a.s a.t.now a.log.now a.out.now s.requires a.x _ m.is _ _ e.reply e.tables _ c.in-Done.is
+    let m = made_of (geometry_in a.x) _ (sym c.in-Ok.is ∙ is_new) in
+    store_done a.s a.t.now a.log.now a.out.now s.requires a.x _ m.is _ _ e.reply e.tables _ c.in-Ok-answer.is

@@ -1,9 +1,13 @@
 -- `sogvect_log_compare`: what `compare` promises, coded.
-use Rattle.sogvect.proofs.Coding.{compared}
+use Rattle.std.proofs.Common.{◌≡◌, arith, rules}
+use Rattle.sogvect.specs.Coded.{verdict_code, alike_after}
+use Rattle.alloc_log.specs.Tool.{verdict_of}
 use Rattle.sogvect.proofs.sogvect_log_compare.Goals as goal
 
-pub returns : goal.returns
-returns c = let both = compared _ _ _ _ _ c.compare-c.ensures (c.judge.ensures.code, c.judge.ensures.alike) in record {
-  code = both.0;
-  alike = both.1;
-}
+pub returns-clause-code : goal.returns-clause-code
+unfolding verdict_code verdict_of
+returns-clause-code c = rw (← c.compare-answer.ensures) (grind arith)
+
+pub returns-clause-alike : goal.returns-clause-alike
+unfolding alike_after verdict_of
+returns-clause-alike c = rw (← c.compare-answer.ensures) (grind arith)

@@ -1,78 +1,151 @@
--- `is_sound`: each return is one law of `Whole`, from the tests that led there.
-use Rattle.std.proofs.Common.{ℕ, replicate}
-use lib.ListN.{length-replicate}
-use borrow.Author.Tests.{not-false}
+-- `is_sound`: each test of the chain is one part of the whole test.
+use Rattle.std.proofs.Common.{◌≡◌, ◌&&◌, true, replicate, sym, ◌∙◌}
+use mathlib.Core.Bool.{false≢true}
+use Rattle.model.specs.Memory.{numbers?, range?}
+use Rattle.model.specs.Layout.{state_of}
 use Rattle.soundness.proofs.Clauses.{own_are}
 use Rattle.soundness.proofs.Queued.{queue_says}
-use Rattle.soundness.proofs.Loops.{failed, passed}
-use Rattle.soundness.proofs.Whole.{range_known, seen_none, sound_no_numbers, sound_no_range, sound_no_links, sound_no_pages, sound_no_births}
-use Rattle.soundness.proofs.Whole.{sound_no_queue, sound_no_words, sound_no_windows, sound_no_names, sound_yes}
+use Rattle.soundness.proofs.Loops.{and_met, and_unmet}
+use Rattle.soundness.proofs.Whole.{range_known, seen_none, pairs, paged, single, born, queues, words, windows, rest, paged_is, born_is}
+use Rattle.soundness.proofs.Whole.{sound_unheaded, sound_unrested, sound_logged}
 use Rattle.soundness.proofs.is_sound.Goals as goal
-
-pub returns-then-not-numbers_fit : goal.returns-then-not-numbers_fit
-returns-then-not-numbers_fit c = sound_no_numbers _ _ _ (failed c.numbers_fit.ensures c.if-not-numbers_fit.true-raw)
-
-pub returns-then-not-ranges_fit : goal.returns-then-not-ranges_fit
-returns-then-not-ranges_fit c = sound_no_range _ _ _ (failed c.ranges_fit.ensures c.if-not-ranges_fit.true-raw)
+use Rattle.soundness.proofs.is_sound.Goals.{then-numbers_fit, else-numbers_fit, then-ranges_fit, else-ranges_fit, then-pages_fit, else-pages_fit}
+use Rattle.soundness.proofs.is_sound.Goals.{then-births_agree, else-births_agree, then-queue_fits, else-queue_fits, then-words_fit, else-words_fit}
+use Rattle.soundness.proofs.is_sound.Goals.{then-windows_fit, else-windows_fit}
 
 pub returns-then-not-records_fit : goal.returns-then-not-records_fit
-returns-then-not-records_fit c = sound_no_links _ _ _ (failed c.records_fit.ensures c.if-not-records_fit.true-raw)
-
-pub pages_fit-requires : goal.pages_fit-requires
-pages_fit-requires c = (c.requires.0, length-replicate {A = ℕ} 2048 0)
-
-pub returns-then-not-pages_fit : goal.returns-then-not-pages_fit
-returns-then-not-pages_fit c = sound_no_pages _ _ _ (replicate 2048 0) (seen_none 2048) (failed c.pages_fit.ensures.passes c.if-not-pages_fit.true-raw)
-
-pub returns-then-not-births_agree : goal.returns-then-not-births_agree
-returns-then-not-births_agree c =
-    let p = c.pages_fit in
-    sound_no_births _ _ _ (replicate 2048 0) (seen_none 2048) p.new.own (p.ensures.marked (not-false _ c.if-not-pages_fit.false-raw))
-    (failed c.births_agree.ensures c.if-not-births_agree.true-raw)
+returns-then-not-records_fit c =
+    let g = c.args.g in
+    let t = c.args.t.now in
+    let first : c.if-numbers_fit.value ≡ (numbers? g t && range? g (state_of g t)) = elim c.if-numbers_fit.branch [
+      | then-numbers_fit w ↦ and_met c.numbers_fit.ensures w.if-numbers_fit.true (w.value-is ∙ w.ranges_fit.ensures)
+      | else-numbers_fit w ↦ and_unmet _ c.numbers_fit.ensures w.if-numbers_fit.false w.value-is
+    ] in
+    let head : c.if-ranges_fit.value ≡ ((numbers? g t && range? g (state_of g t)) && pairs g t) = elim c.if-ranges_fit.branch [
+      | then-ranges_fit w ↦ and_met first w.if-ranges_fit.true (w.value-is ∙ w.records_fit.ensures)
+      | else-ranges_fit w ↦ and_unmet _ first w.if-ranges_fit.false w.value-is
+    ] in
+    sound_unheaded g t _ head c.if-not-records_fit.true
 
 pub queue_fits-requires : goal.queue_fits-requires
 queue_fits-requires c = (
   c.requires.0,
   c.pages_fit.ensures.size,
-  own_are c.args.g c.args.t.now _ (passed c.births_agree.ensures c.if-not-births_agree.false-raw),
+  elim c.if-pages_fit.branch [
+    | then-pages_fit w ↦ own_are c.args.g c.args.t.now _ (sym w.births_agree.ensures ∙ sym w.value-is ∙ c.if-births_agree.true)
+    | else-pages_fit w ↦ absurd (false≢true (sym (w.value-is ∙ w.if-pages_fit.false) ∙ c.if-births_agree.true))
+  ],
 )
-
-pub returns-then-not-queue_fits : goal.returns-then-not-queue_fits
-returns-then-not-queue_fits c = sound_no_queue _ _ _ (failed c.queue_fits.ensures.is c.if-not-queue_fits.true-raw)
 
 pub words_fit-requires : goal.words_fit-requires
-words_fit-requires c =
-    (c.requires.0, (queue_says c.args.g c.args.t.now).holds (passed c.queue_fits.ensures.is c.if-not-queue_fits.false-raw))
-
-pub returns-then-not-words_fit : goal.returns-then-not-words_fit
-returns-then-not-words_fit c = sound_no_words _ _ _ (failed c.words_fit.ensures c.if-not-words_fit.true-raw)
-
-pub returns-then-not-windows_fit : goal.returns-then-not-windows_fit
-returns-then-not-windows_fit c = sound_no_windows _ _ _ (failed c.windows_fit.ensures c.if-not-windows_fit.true-raw)
-
-pub returns-then-not-names_fit : goal.returns-then-not-names_fit
-returns-then-not-names_fit c = sound_no_names _ _ _ (failed c.names_fit.ensures c.if-not-names_fit.true-raw)
-
-pub log_holds-requires : goal.log_holds-requires
-log_holds-requires c = (
+words_fit-requires c = (
   c.requires.0,
-  c.requires.1,
-  range_known _ _ (passed c.ranges_fit.ensures c.if-not-ranges_fit.false-raw),
-  c.queue_fits.ensures.marked (not-false _ c.if-not-queue_fits.false-raw),
+  elim c.if-births_agree.branch [
+    | then-births_agree w ↦ (queue_says c.args.g c.args.t.now).holds (sym w.queue_fits.ensures.is ∙ sym w.value-is ∙ c.if-queue_fits.true)
+    | else-births_agree w ↦ absurd (false≢true (sym (w.value-is ∙ w.if-births_agree.false) ∙ c.if-queue_fits.true))
+  ],
 )
 
-pub returns : goal.returns
-returns c =
-    let p = c.pages_fit in
-    let q = c.if-not-pages_fit.false-raw in
-    sound_yes _ _ _ (replicate 2048 0) (seen_none 2048) p.new.own (p.ensures.marked (not-false _ q))
-    (passed c.numbers_fit.ensures c.if-not-numbers_fit.false-raw)
-    (passed c.ranges_fit.ensures c.if-not-ranges_fit.false-raw)
-    (passed c.records_fit.ensures c.if-not-records_fit.false-raw)
-    (passed p.ensures.passes q)
-    (passed c.births_agree.ensures c.if-not-births_agree.false-raw)
-    (passed c.queue_fits.ensures.is c.if-not-queue_fits.false-raw)
-    (passed c.words_fit.ensures c.if-not-words_fit.false-raw)
-    (passed c.windows_fit.ensures c.if-not-windows_fit.false-raw)
-    (passed c.names_fit.ensures c.if-not-names_fit.false-raw)
-    c.log_holds.ensures
+pub log_holds-requires : goal.log_holds-requires
+log_holds-requires c =
+    let headed : c.if-numbers_fit.value ≡ true = elim c.if-ranges_fit.branch [
+      | then-ranges_fit w ↦ w.if-ranges_fit.true
+      | else-ranges_fit w ↦ absurd (false≢true (sym (w.value-is ∙ w.if-ranges_fit.false) ∙ c.if-not-records_fit.false))
+    ] in
+    let six : c.if-words_fit.value ≡ true = elim c.if-windows_fit.branch [
+      | then-windows_fit w ↦ w.if-windows_fit.true
+      | else-windows_fit w ↦ absurd (false≢true (sym (w.value-is ∙ w.if-windows_fit.false) ∙ c.if-names_fit.true))
+    ] in
+    let five : c.if-queue_fits.value ≡ true = elim c.if-words_fit.branch [
+      | then-words_fit w ↦ w.if-words_fit.true
+      | else-words_fit w ↦ absurd (false≢true (sym (w.value-is ∙ w.if-words_fit.false) ∙ six))
+    ] in
+    let four : c.if-births_agree.value ≡ true = elim c.if-queue_fits.branch [
+      | then-queue_fits w ↦ w.if-queue_fits.true
+      | else-queue_fits w ↦ absurd (false≢true (sym (w.value-is ∙ w.if-queue_fits.false) ∙ five))
+    ] in (
+      c.requires.0,
+      c.requires.1,
+      elim c.if-numbers_fit.branch [
+        | then-numbers_fit w ↦ range_known c.args.g c.args.t.now (sym w.ranges_fit.ensures ∙ sym w.value-is ∙ headed)
+        | else-numbers_fit w ↦ absurd (false≢true (sym (w.value-is ∙ w.if-numbers_fit.false) ∙ headed))
+      ],
+      elim c.if-births_agree.branch [
+        | then-births_agree w ↦ rw w.own-is (w.queue_fits.ensures.marked (sym w.value-is ∙ four))
+        | else-births_agree w ↦ absurd (false≢true (sym (w.value-is ∙ w.if-births_agree.false) ∙ four))
+      ],
+    )
+
+pub returns-then-names_fit : goal.returns-then-names_fit
+returns-then-names_fit c =
+    let g = c.args.g in
+    let t = c.args.t.now in
+    let first : c.if-numbers_fit.value ≡ (numbers? g t && range? g (state_of g t)) = elim c.if-numbers_fit.branch [
+      | then-numbers_fit w ↦ and_met c.numbers_fit.ensures w.if-numbers_fit.true (w.value-is ∙ w.ranges_fit.ensures)
+      | else-numbers_fit w ↦ and_unmet _ c.numbers_fit.ensures w.if-numbers_fit.false w.value-is
+    ] in
+    let head : c.if-ranges_fit.value ≡ ((numbers? g t && range? g (state_of g t)) && pairs g t) = elim c.if-ranges_fit.branch [
+      | then-ranges_fit w ↦ and_met first w.if-ranges_fit.true (w.value-is ∙ w.records_fit.ensures)
+      | else-ranges_fit w ↦ and_unmet _ first w.if-ranges_fit.false w.value-is
+    ] in
+    let pages : c.pages_fit.result ≡ (paged g t && single g t (λ b. 0)) = c.pages_fit.ensures.passes ∙ paged_is g t (replicate 2048 0) (seen_none 2048) in
+    let three : c.if-pages_fit.value ≡ ((paged g t && single g t (λ b. 0)) && born g t) = elim c.if-pages_fit.branch [
+      | then-pages_fit w ↦ and_met pages w.if-pages_fit.true
+          (w.value-is ∙ w.births_agree.ensures ∙ born_is g t (replicate 2048 0) (seen_none 2048) _ (c.pages_fit.ensures.marked w.if-pages_fit.true))
+      | else-pages_fit w ↦ and_unmet _ pages w.if-pages_fit.false w.value-is
+    ] in
+    let four : c.if-births_agree.value ≡ (((paged g t && single g t (λ b. 0)) && born g t) && queues g t) = elim c.if-births_agree.branch [
+      | then-births_agree w ↦ and_met three w.if-births_agree.true (w.value-is ∙ w.queue_fits.ensures.is)
+      | else-births_agree w ↦ and_unmet _ three w.if-births_agree.false w.value-is
+    ] in
+    let five : c.if-queue_fits.value ≡ ((((paged g t && single g t (λ b. 0)) && born g t) && queues g t) && words g t) = elim c.if-queue_fits.branch [
+      | then-queue_fits w ↦ and_met four w.if-queue_fits.true (w.value-is ∙ w.words_fit.ensures)
+      | else-queue_fits w ↦ and_unmet _ four w.if-queue_fits.false w.value-is
+    ] in
+    let six : c.if-words_fit.value ≡ (((((paged g t && single g t (λ b. 0)) && born g t) && queues g t) && words g t) && windows g t) =
+    elim c.if-words_fit.branch [
+      | then-words_fit w ↦ and_met five w.if-words_fit.true (w.value-is ∙ w.windows_fit.ensures)
+      | else-words_fit w ↦ and_unmet _ five w.if-words_fit.false w.value-is
+    ] in
+    let seven : c.if-windows_fit.value ≡ rest g t = elim c.if-windows_fit.branch [
+      | then-windows_fit w ↦ and_met six w.if-windows_fit.true (w.value-is ∙ w.names_fit.ensures)
+      | else-windows_fit w ↦ and_unmet _ six w.if-windows_fit.false w.value-is
+    ] in
+    sound_logged g t _ head c.if-not-records_fit.false seven c.if-names_fit.true c.log_holds.ensures
+
+pub returns-else-names_fit : goal.returns-else-names_fit
+returns-else-names_fit c =
+    let g = c.args.g in
+    let t = c.args.t.now in
+    let first : c.if-numbers_fit.value ≡ (numbers? g t && range? g (state_of g t)) = elim c.if-numbers_fit.branch [
+      | then-numbers_fit w ↦ and_met c.numbers_fit.ensures w.if-numbers_fit.true (w.value-is ∙ w.ranges_fit.ensures)
+      | else-numbers_fit w ↦ and_unmet _ c.numbers_fit.ensures w.if-numbers_fit.false w.value-is
+    ] in
+    let head : c.if-ranges_fit.value ≡ ((numbers? g t && range? g (state_of g t)) && pairs g t) = elim c.if-ranges_fit.branch [
+      | then-ranges_fit w ↦ and_met first w.if-ranges_fit.true (w.value-is ∙ w.records_fit.ensures)
+      | else-ranges_fit w ↦ and_unmet _ first w.if-ranges_fit.false w.value-is
+    ] in
+    let pages : c.pages_fit.result ≡ (paged g t && single g t (λ b. 0)) = c.pages_fit.ensures.passes ∙ paged_is g t (replicate 2048 0) (seen_none 2048) in
+    let three : c.if-pages_fit.value ≡ ((paged g t && single g t (λ b. 0)) && born g t) = elim c.if-pages_fit.branch [
+      | then-pages_fit w ↦ and_met pages w.if-pages_fit.true
+          (w.value-is ∙ w.births_agree.ensures ∙ born_is g t (replicate 2048 0) (seen_none 2048) _ (c.pages_fit.ensures.marked w.if-pages_fit.true))
+      | else-pages_fit w ↦ and_unmet _ pages w.if-pages_fit.false w.value-is
+    ] in
+    let four : c.if-births_agree.value ≡ (((paged g t && single g t (λ b. 0)) && born g t) && queues g t) = elim c.if-births_agree.branch [
+      | then-births_agree w ↦ and_met three w.if-births_agree.true (w.value-is ∙ w.queue_fits.ensures.is)
+      | else-births_agree w ↦ and_unmet _ three w.if-births_agree.false w.value-is
+    ] in
+    let five : c.if-queue_fits.value ≡ ((((paged g t && single g t (λ b. 0)) && born g t) && queues g t) && words g t) = elim c.if-queue_fits.branch [
+      | then-queue_fits w ↦ and_met four w.if-queue_fits.true (w.value-is ∙ w.words_fit.ensures)
+      | else-queue_fits w ↦ and_unmet _ four w.if-queue_fits.false w.value-is
+    ] in
+    let six : c.if-words_fit.value ≡ (((((paged g t && single g t (λ b. 0)) && born g t) && queues g t) && words g t) && windows g t) =
+    elim c.if-words_fit.branch [
+      | then-words_fit w ↦ and_met five w.if-words_fit.true (w.value-is ∙ w.windows_fit.ensures)
+      | else-words_fit w ↦ and_unmet _ five w.if-words_fit.false w.value-is
+    ] in
+    let seven : c.if-windows_fit.value ≡ rest g t = elim c.if-windows_fit.branch [
+      | then-windows_fit w ↦ and_met six w.if-windows_fit.true (w.value-is ∙ w.names_fit.ensures)
+      | else-windows_fit w ↦ and_unmet _ six w.if-windows_fit.false w.value-is
+    ] in
+    sound_unrested g t c.args.log.now head c.if-not-records_fit.false seven c.if-names_fit.false

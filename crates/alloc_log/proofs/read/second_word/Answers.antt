@@ -1,10 +1,8 @@
 -- `second_word`: the tests in the order of the definition.
-use Rattle.std.proofs.Common.{◌/◌, arith, eq-eqb, ne_eqb, le-leb}
-use native.Mathlib.Nat.{mod-le}
+use Rattle.std.proofs.Common.{eq-eqb, ne_eqb, le-leb}
 use borrow.Author.Tests.{lt-leb}
 use Rattle.alloc_log.specs.Read.{second_word}
 use Rattle.alloc_log.proofs.Loops.{changed_is}
-use Rattle.alloc_log.proofs.Arith.{run_inside}
 use Rattle.alloc_log.proofs.read.second_word.Goals as goal
 
 pub returns-then-word-eq0 : goal.returns-then-word-eq0
@@ -15,19 +13,12 @@ pub returns-then-word-ne0 : goal.returns-then-word-ne0
 unfolding second_word
 returns-then-word-ne0 c = simp (ne_eqb _ _ c.if-word-eq0.false, ne_eqb _ _ c.if-word-ne0.true)
 
-pub overflow_add-within : goal.overflow_add-within
-overflow_add-within c = omega (arith, mod-le c.args.block c.args.per)
-
 pub returns-then-per-within : goal.returns-then-per-within
 unfolding second_word
 returns-then-per-within c = simp (ne_eqb _ _ c.if-word-eq0.false, eq-eqb _ _ c.if-word-ne0.false, lt-leb _ _ c.if-per-within.true)
-
-pub mark_run-requires : goal.mark_run-requires
-mark_run-requires c =
-    omega (arith, run_inside c.args.block (c.args.word / 16384) c.args.arenas c.args.per c.requires.0 c.requires.2 c.if-per-within.false)
 
 pub returns : goal.returns
 unfolding second_word
 returns c =
     simp (ne_eqb _ _ c.if-word-eq0.false, eq-eqb _ _ c.if-word-ne0.false, le-leb _ _ c.if-per-within.false)
-    (changed_is _ _ _ _ c.progress_of.ensures c.mark_run.ensures)
+    (changed_is _ _ _ _ c.then_some.ensures c.mark_run.ensures)

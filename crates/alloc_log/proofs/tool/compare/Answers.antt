@@ -1,61 +1,74 @@
 -- `compare`: each return is one law of `Tools`, from the tests that led there.
 use Rattle.geometry.specs.declared.Geometry.{Geometry}
 use Rattle.geometry.specs.Limits.{geometry_of}
-use Rattle.alloc_log.proofs.Tools.{MadeOf, made_of, outside, compare_refused_2, compare_refused_first, compare_refused_second, compare_alike, compare_different}
-use Rattle.std.proofs.Common.{arith}
+use Rattle.alloc_log.proofs.Tools.{MadeOf, made_of, compare_outside, compare_refused_first, compare_refused_second, compare_says, within_table}
+use Rattle.std.proofs.Common.{◌≡◌, Err, sym, arith, length-take-le}
 use Rattle.alloc_log.proofs.tool.compare.Goals as goal
+
+pub returns-in_err-g : goal.returns-in_err-g
+returns-in_err-g c =
+    let six : (Geometry) = (geometry_of c.args.arenas c.args.per c.args.pages c.args.records c.args.turn c.args.words) in
+    let gone : c.from_residual.result ≡ Err c.in_err-g.field-0.0 = grind arith in
+    rw gone (compare_outside c.args.first.now c.args.second.now (six) c.in_err-g.ensures.is)
+
+pub read_log-requires : goal.read_log-requires
+read_log-requires c =
+    let six : (Geometry) = (geometry_of c.args.arenas c.args.per c.args.pages c.args.records c.args.turn c.args.words) in
+    let is_made : (MadeOf (six) c.in_ok-g.g) = (made_of (six) c.in_ok-g.g c.in_ok-g.ensures.is) in
+    let i = (is_made).inside in
+    (i.per_least, i.blocks_most)
 
 pub returns-in_default : goal.returns-in_default
 returns-in_default c =
     let six : (Geometry) = (geometry_of c.args.arenas c.args.per c.args.pages c.args.records c.args.turn c.args.words) in
-    compare_refused_2 c.args.first.now c.args.second.now (six) (outside (six) c.in_default.field-0 c.new-made.ensures.is c.in_default.is)
+    let is_made : (MadeOf (six) c.in_ok-g.g) = (made_of (six) c.in_ok-g.g c.in_ok-g.ensures.is) in
+    compare_refused_first _ _ (is_made) c.read_log.ensures c.in_default.is
 
-pub read_log-one-requires : goal.read_log-one-requires
-read_log-one-requires c =
+pub read_log-requires-2 : goal.read_log-requires-2
+read_log-requires-2 c =
     let six : (Geometry) = (geometry_of c.args.arenas c.args.per c.args.pages c.args.records c.args.turn c.args.words) in
-    let is_made : (MadeOf (six) c.in-Made.g) = (made_of (six) c.in-Made.g c.new-made.ensures.is c.in-Made.is) in
+    let is_made : (MadeOf (six) c.in_ok-g.g) = (made_of (six) c.in_ok-g.g c.in_ok-g.ensures.is) in
     let i = (is_made).inside in
     (i.per_least, i.blocks_most)
 
-pub returns-then-not-one : goal.returns-then-not-one
-returns-then-not-one c =
+pub returns-in_default-read_log : goal.returns-in_default-read_log
+returns-in_default-read_log c =
     let six : (Geometry) = (geometry_of c.args.arenas c.args.per c.args.pages c.args.records c.args.turn c.args.words) in
-    let is_made : (MadeOf (six) c.in-Made.g) = (made_of (six) c.in-Made.g c.new-made.ensures.is c.in-Made.is) in
-    compare_refused_first _ _ (is_made) c.read_log-one.ensures c.if-not-one.true
+    let is_made : (MadeOf (six) c.in_ok-g.g) = (made_of (six) c.in_ok-g.g c.in_ok-g.ensures.is) in
+    compare_refused_second _ _ (is_made) c.read_log.ensures c.in-Some.is c.read_log-2.ensures c.in_default-read_log.is
 
-pub read_log-two-requires : goal.read_log-two-requires
-read_log-two-requires c =
+pub overflow_mul-blocks : goal.overflow_mul-blocks
+overflow_mul-blocks c =
     let six : (Geometry) = (geometry_of c.args.arenas c.args.per c.args.pages c.args.records c.args.turn c.args.words) in
-    let is_made : (MadeOf (six) c.in-Made.g) = (made_of (six) c.in-Made.g c.new-made.ensures.is c.in-Made.is) in
-    let i = (is_made).inside in
-    (i.per_least, i.blocks_most)
-
-pub returns-then-not-two : goal.returns-then-not-two
-returns-then-not-two c =
-    let six : (Geometry) = (geometry_of c.args.arenas c.args.per c.args.pages c.args.records c.args.turn c.args.words) in
-    let is_made : (MadeOf (six) c.in-Made.g) = (made_of (six) c.in-Made.g c.new-made.ensures.is c.in-Made.is) in
-    compare_refused_second _ _ (is_made) c.read_log-one.ensures c.if-not-one.false c.read_log-two.ensures c.if-not-two.true
-
-pub overflow_mul-g : goal.overflow_mul-g
-overflow_mul-g c =
-    let six : (Geometry) = (geometry_of c.args.arenas c.args.per c.args.pages c.args.records c.args.turn c.args.words) in
-    let is_made : (MadeOf (six) c.in-Made.g) = (made_of (six) c.in-Made.g c.new-made.ensures.is c.in-Made.is) in
+    let is_made : (MadeOf (six) c.in_ok-g.g) = (made_of (six) c.in_ok-g.g c.in_ok-g.ensures.is) in
     omega (arith, (is_made).inside.blocks_most)
 
-pub agree-requires : goal.agree-requires
-agree-requires c =
+pub slice_bounds-one-end : goal.slice_bounds-one-end
+slice_bounds-one-end c =
     let six : (Geometry) = (geometry_of c.args.arenas c.args.per c.args.pages c.args.records c.args.turn c.args.words) in
-    let is_made : (MadeOf (six) c.in-Made.g) = (made_of (six) c.in-Made.g c.new-made.ensures.is c.in-Made.is) in
-    (is_made).inside.blocks_most
+    let is_made : (MadeOf (six) c.in_ok-g.g) = (made_of (six) c.in_ok-g.g c.in_ok-g.ensures.is) in
+    within_table c.args.first.now is_made c.read_log.ensures c.in-Some.is
 
-pub returns-then-agree : goal.returns-then-agree
-returns-then-agree c =
+pub slice_bounds-eq-end : goal.slice_bounds-eq-end
+slice_bounds-eq-end c =
     let six : (Geometry) = (geometry_of c.args.arenas c.args.per c.args.pages c.args.records c.args.turn c.args.words) in
-    let is_made : (MadeOf (six) c.in-Made.g) = (made_of (six) c.in-Made.g c.new-made.ensures.is c.in-Made.is) in
-    compare_alike _ _ (is_made) c.read_log-one.ensures c.if-not-one.false c.read_log-two.ensures c.if-not-two.false c.agree.ensures c.if-agree.true
+    let is_made : (MadeOf (six) c.in_ok-g.g) = (made_of (six) c.in_ok-g.g c.in_ok-g.ensures.is) in
+    sym (length-take-le _ _ (within_table c.args.first.now is_made c.read_log.ensures c.in-Some.is))
+
+pub slice_bounds-two-end : goal.slice_bounds-two-end
+slice_bounds-two-end c =
+    let six : (Geometry) = (geometry_of c.args.arenas c.args.per c.args.pages c.args.records c.args.turn c.args.words) in
+    let is_made : (MadeOf (six) c.in_ok-g.g) = (made_of (six) c.in_ok-g.g c.in_ok-g.ensures.is) in
+    within_table c.args.second.now is_made c.read_log-2.ensures c.in-Some-read_log.is
+
+pub slice_bounds-eq-end-2 : goal.slice_bounds-eq-end-2
+slice_bounds-eq-end-2 c =
+    let six : (Geometry) = (geometry_of c.args.arenas c.args.per c.args.pages c.args.records c.args.turn c.args.words) in
+    let is_made : (MadeOf (six) c.in_ok-g.g) = (made_of (six) c.in_ok-g.g c.in_ok-g.ensures.is) in
+    sym (length-take-le _ _ (within_table c.args.second.now is_made c.read_log-2.ensures c.in-Some-read_log.is))
 
 pub returns : goal.returns
 returns c =
     let six : (Geometry) = (geometry_of c.args.arenas c.args.per c.args.pages c.args.records c.args.turn c.args.words) in
-    let is_made : (MadeOf (six) c.in-Made.g) = (made_of (six) c.in-Made.g c.new-made.ensures.is c.in-Made.is) in
-    compare_different _ _ (is_made) c.read_log-one.ensures c.if-not-one.false c.read_log-two.ensures c.if-not-two.false c.agree.ensures c.if-agree.false
+    let is_made : (MadeOf (six) c.in_ok-g.g) = (made_of (six) c.in_ok-g.g c.in_ok-g.ensures.is) in
+    compare_says _ _ (is_made) c.read_log.ensures c.in-Some.is c.read_log-2.ensures c.in-Some-read_log.is c.eq.ensures

@@ -1,15 +1,12 @@
--- `get_word`: a word is its two halves.
-use Rattle.alloc_log.proofs.Reading.{halves}
-use Rattle.std.proofs.Common.{arith}
+-- `get_word`: the number that the part's eight bytes spell.
+use Rattle.std.proofs.Common.{◌≡◌, ◌+◌, rules, ap, ◌∙◌, w64}
+use Rattle.std.specs.Int.{from_be_bytes}
+use Rattle.std.specs.List.{between}
+use Rattle.alloc_log.proofs.Reading.{spelled}
 use Rattle.alloc_log.proofs.word.get_word.Goals as goal
-
-pub overflow_mul-result : goal.overflow_mul-result
-overflow_mul-result c = omega (arith, c.get_half-high.ensures.1)
-
-pub overflow_add-result : goal.overflow_add-result
-overflow_add-result c = omega (arith, c.get_half-high.ensures.1, c.get_half-low.ensures.1)
 
 pub returns : goal.returns
 returns c =
     let s = c.args in
-    rw (c.get_half-high.ensures.0, c.get_half-low.ensures.0) (halves s.log.now s.at)
+    let e : c.unwrap.result ≡ between s.at (s.at + 8) s.log.now = search rules in
+    c.from_be_bytes.ensures ∙ ap (from_be_bytes w64) e ∙ spelled s.log.now s.at c.requires

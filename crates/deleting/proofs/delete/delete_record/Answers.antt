@@ -13,6 +13,24 @@ unhook-count-requires c =
     let most = Calling.deleted_most a.g a.t.now a.s c.requires.0 a.link in
     (c.requires.0, omega (arith, most, c.requires.0.roomy.inside.pages_most), c.requires.1, c.requires.2)
 
+pub slice_bounds-gone-end : goal.slice_bounds-gone-end
+slice_bounds-gone-end c =
+    let pre = c.requires in
+    let a = c.args in
+    let made = c.unhook-count.ensures in
+    let most = Calling.deleted_most a.g a.t.now a.s pre.0 a.link in
+    let k = pre.0.roomy.inside.pages_most in
+    Leaving.leave_room pre.0 a.s pre.1 a.link pre.2 _ made.tables _ _ made.out (omega arith) _ made.count
+
+pub slice_bounds-queue_all-end : goal.slice_bounds-queue_all-end
+slice_bounds-queue_all-end c =
+    let pre = c.requires in
+    let a = c.args in
+    let made = c.unhook-count.ensures in
+    let most = Calling.deleted_most a.g a.t.now a.s pre.0 a.link in
+    let k = pre.0.roomy.inside.pages_most in
+    Leaving.leave_long pre.0 a.s pre.1 a.link pre.2 _ made.tables _ _ made.out (omega arith) _ made.count
+
 pub queue_all-requires : goal.queue_all-requires
 queue_all-requires c =
     let pre = c.requires in
@@ -21,7 +39,6 @@ queue_all-requires c =
     let most = Calling.deleted_most a.g a.t.now a.s pre.0 a.link in
     let k = pre.0.roomy.inside.pages_most in (
       Leaving.leave_roomy pre.0 a.s pre.1 a.link pre.2 _ made.tables,
-      Leaving.leave_room pre.0 a.s pre.1 a.link pre.2 _ made.tables _ _ made.out (omega arith) _ made.count,
       Leaving.leave_below pre.0 a.s pre.1 a.link pre.2 _ made.tables _ _ made.out (omega arith) _ made.count,
       Leaving.leave_fit pre.0 a.s pre.1 a.link pre.2 _ made.tables _ _ made.out (omega arith) _ made.count,
     )

@@ -1,6 +1,6 @@
 -- Blocks that the pred has not are counted, word by word.
 use mathlib.Core.Path.{◌≡◌}
-use Prim.Native.Nat.{◌-◌, ◌≤◌}
+use Prim.Native.Nat.{◌≤◌, min}
 use lib.ListN.{length}
 use Rattle.model.specs.Lists.{rows}
 use Rattle.model.specs.Check.{own_at}
@@ -8,7 +8,4 @@ use Rattle.model.specs.Layout.{view_of}
 use Rattle.deleting.proofs.last.count_young.Given as goal
 
 abbrev pub invariant-loop-x : goal.invariant-loop-x
-invariant-loop-x l = (l.x ≤ l.g.pages) × (l.count ≤ l.x) × (l.count ≡ length (rows (own_at (view_of l.g l.t) l.s) 0 l.x))
-
-abbrev pub decreases-loop-x : goal.decreases-loop-x
-decreases-loop-x l = l.g.pages - l.x
+invariant-loop-x l = (l.count ≤ min l.x l.g.pages) × (l.count ≡ length (rows (own_at (view_of l.g l.t) l.s) 0 (min l.x l.g.pages)))

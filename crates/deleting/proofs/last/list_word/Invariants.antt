@@ -1,6 +1,6 @@
--- The blocks of the pages passed are listed, and `rest` is what is left of the word.
+-- The blocks of the pages passed are listed, and the word's bits from `from` on are left.
 use mathlib.Core.Path.{◌≡◌}
-use Prim.Native.Nat.{◌+◌, ◌-◌, ◌/◌, ◌^◌, ◌≤◌}
+use Prim.Native.Nat.{◌+◌, ◌≤◌}
 use lib.ListN.{length}
 use lib.Seq.{sets}
 use Rattle.choice.specs.Words.{word_of}
@@ -10,9 +10,8 @@ use Rattle.model.specs.Layout.{view_of}
 use Rattle.tables.specs.Rows.{differs}
 use Rattle.deleting.proofs.last.list_word.Given as goal
 
-abbrev pub invariant-loop-rest : goal.invariant-loop-rest
-invariant-loop-rest l = (length l.out ≡ length l.initial.out) × (l.x ≤ l.y) × (l.y ≤ l.x + l.n) × (l.rest ≡ word_of (differs (view_of l.g l.t) l.s l.pred) l.x l.n / 2 ^ (l.y - l.x)) × (l.found ≤ l.y) ×
-    (l.found ≡ l.count + length (rows (own_at (view_of l.g l.t) l.s) l.x (l.y - l.x))) × (l.out ≡ sets l.initial.out l.count (rows (own_at (view_of l.g l.t) l.s) l.x (l.y - l.x)))
-
-abbrev pub decreases-loop-rest : goal.decreases-loop-rest
-decreases-loop-rest l = l.x + l.n - l.y
+abbrev pub invariant-loop-k : goal.invariant-loop-k
+invariant-loop-k l = (l.k-iterator.word ≡ word_of (differs (view_of l.g l.t) l.s l.pred) l.x l.n) × (l.k-iterator.from ≤ l.n) ×
+    (l.found ≤ l.x + l.k-iterator.from) ×
+    (length l.out ≡ length l.initial.out) × (l.found ≡ l.count + length (rows (own_at (view_of l.g l.t) l.s) l.x l.k-iterator.from)) ×
+    (l.out ≡ sets l.initial.out l.count (rows (own_at (view_of l.g l.t) l.s) l.x l.k-iterator.from))

@@ -1,25 +1,8 @@
--- The pages of slot f become empty: at each turn the first x of them are.
+-- The pages of slot f become empty.
 use native.Mathlib.Omega.{arith}
+use Rattle.std.proofs.Common.{rules}
 use Rattle.lines.proofs.Growing
 use Rattle.lines.proofs.grow.clear_pages.Goals as goal
 
-pub loop-x-init : goal.loop-x-init
-loop-x-init c = (omega arith, Growing.paging_first c.requires.0 _ _)
-
-pub bounds-t-f : goal.bounds-t-f
-bounds-t-f c = omega (arith, Growing.paging_length c.requires.0 _ _ _ _ c.loop-x.invariant.1)
-
-pub loop-x-preserved : goal.loop-x-preserved
-loop-x-preserved c =
-    let i = c.loop-x.invariant in
-    (omega arith, Growing.clearing c.requires.0 _ _ _ i.1 c.requires.1 c.loop-x-test.true)
-
-pub shape_of-t : goal.shape_of-t
-shape_of-t c = Growing.paging_length c.requires.0 _ _ _ _ c.loop-x.invariant.1
-
 pub returns : goal.returns
-returns c = record {
-  is =
-      let i = c.loop-x.invariant in
-      Growing.paging_last c.requires.0 _ _ _ _ i.1 (omega arith);
-}
+returns c = record { is = Growing.cleared c.requires.0 _ _ _ c.requires.1 (omega arith) (search rules) }

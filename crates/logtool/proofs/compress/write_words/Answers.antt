@@ -5,4 +5,4 @@ use Rattle.logtool.proofs.compress.write_words.Goals as goal
 
 pub keep-requires : goal.keep-requires
 keep-requires g c =
-    omega (arith, compact_room _ _ _ _ c.in-Words.is c.compact-compaction.ensures.reply, c.compact-compaction.auto.out)
+    omega (arith, compact_room _ _ _ _ c.in-Ok.is c.compact-compaction.ensures.reply, c.compact-compaction.auto.out)

@@ -2,6 +2,7 @@
 use native.Mathlib.Omega.{arith}
 use mathlib.Core.Path.{refl}
 use lib.ListN.{length-set}
+use Rattle.answer.specs.declared.Refusal.TheVariants.{NoSuchPage, NoSuchRecord}
 use Rattle.paging.proofs.Answers
 use Rattle.paging.proofs.Looking
 use Rattle.geometry.specs.Limits.{blocks}
@@ -9,13 +10,13 @@ use Prim.Native.Nat.{◌≤◌}
 use Rattle.paging.proofs.read.read.Goals as goal
 
 pub returns-then-g-wide : goal.returns-then-g-wide
-returns-then-g-wide c = let both = Answers.refused_out _ _ _ _ (Looking.read_5 _ _ _ _ _ c.wide.ensures c.if-g-wide.true) _ in record {
+returns-then-g-wide c = let both = Answers.refused_out _ _ _ NoSuchPage (Looking.read_5 _ _ _ _ _ c.wide.ensures c.if-g-wide.true) _ in record {
   reply = both.0;
   out = both.1;
 }
 
 pub returns-then-link-eq0 : goal.returns-then-link-eq0
-returns-then-link-eq0 c = let both = Answers.refused_out _ _ _ _ (Looking.read_8 _ _ _ _ _ c.wide.ensures _ c.if-g-wide.false c.requires.2.0 c.if-link-eq0.true) _ in record {
+returns-then-link-eq0 c = let both = Answers.refused_out _ _ _ NoSuchRecord (Looking.read_8 _ _ _ _ _ c.wide.ensures _ c.if-g-wide.false c.requires.2.0 c.if-link-eq0.true) _ in record {
   reply = both.0;
   out = both.1;
 }

@@ -25,7 +25,7 @@ pub returns-in_default : goal.returns-in_default
 returns-in_default c =
     Giving.write_13 _ _ _ _ _ _ c.wide.ensures c.if-g-wide.false c.if-kind-gt2.false _ c.requires.1.0 c.requires.0
     c.if-link-eq0.false c.if-t-s-eq0.false _
-    c.search-spot.ensures c.in_default.is
+    c.search.ensures c.in_default.is
 
 pub overflow_sub-unused : goal.overflow_sub-unused
 overflow_sub-unused c =
@@ -34,7 +34,7 @@ overflow_sub-unused c =
 pub returns-then-unused-gt1 : goal.returns-then-unused-gt1
 returns-then-unused-gt1 c =
     Giving.write_accepts _ _ _ _ _ _ c.wide.ensures c.if-g-wide.false c.if-kind-gt2.false _ c.requires.1.0 c.requires.0
-    c.if-link-eq0.false c.if-t-s-eq0.false _ c.search-spot.ensures _ _ _ c.in-At.is _ _ _
+    c.if-link-eq0.false c.if-t-s-eq0.false _ c.search.ensures _ c.in-Some.is _ _ _
     c.wide-2.ensures refl refl (Erasing.two_enough _ _ _ _ c.if-unused-gt1.true)
 
 pub frees_on-requires : goal.frees_on-requires
@@ -51,13 +51,13 @@ overflow_add-frees_on c = omega (arith, Erasing.few_freed _ _ _ _ c.frees_on.ens
 pub returns-then-unused-frees_on : goal.returns-then-unused-frees_on
 returns-then-unused-frees_on c =
     Giving.write_14 _ _ _ _ _ _ c.wide.ensures c.if-g-wide.false c.if-kind-gt2.false _ c.requires.1.0 c.requires.0
-    c.if-link-eq0.false c.if-t-s-eq0.false _ c.search-spot.ensures _ _ _ c.in-At.is _ _ _
+    c.if-link-eq0.false c.if-t-s-eq0.false _ c.search.ensures _ c.in-Some.is _ _ _
     c.wide-2.ensures c.wide-3.ensures
     (Looking.copy_frees c.copied.ensures _ _ _ _ c.frees_on.ensures) c.if-unused-frees_on.true
 
 pub returns : goal.returns
 returns c =
     Giving.write_accepts _ _ _ _ _ _ c.wide.ensures c.if-g-wide.false c.if-kind-gt2.false _ c.requires.1.0 c.requires.0
-    c.if-link-eq0.false c.if-t-s-eq0.false _ c.search-spot.ensures _ _ _ c.in-At.is _ _ _
+    c.if-link-eq0.false c.if-t-s-eq0.false _ c.search.ensures _ c.in-Some.is _ _ _
     c.wide-2.ensures c.wide-3.ensures
     (Looking.copy_frees c.copied.ensures _ _ _ _ c.frees_on.ensures) c.if-unused-frees_on.false

@@ -2,8 +2,5 @@
 use Rattle.runner.proofs.Feeds.{Looking}
 use Rattle.runner.proofs.input.lines_end.Given as goal
 
-abbrev pub invariant-loop-end : goal.invariant-loop-end
-invariant-loop-end l = Looking l.text l.from l.end
-
-abbrev pub decreases-loop-end : goal.decreases-loop-end
-decreases-loop-end l = l.end
+abbrev pub invariant-loop-i : goal.invariant-loop-i
+invariant-loop-i l = Looking l.text l.from l.i

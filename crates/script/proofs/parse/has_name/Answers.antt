@@ -1,20 +1,20 @@
 -- `has_name` meets its contract: at each letter both sides compute.
-use mathlib.Core.List.{[]}
-use Rattle.script.specs.Letters.{names, listed}
-use Rattle.script.proofs.Letters.{not_listed}
+use Rattle.std.proofs.Common.{rules}
+use Rattle.script.specs.Letters.{listed}
 use Rattle.script.proofs.parse.has_name.Goals as goal
 
 pub returns-in-78 : goal.returns-in-78
 unfolding listed
 returns-in-78 c = rw c.in-78.is
 
-pub returns-in-85 : goal.returns-in-85
+pub returns-in-78-2 : goal.returns-in-78-2
 unfolding listed
-returns-in-85 c = rw c.in-85.is
-
-pub returns-in-77 : goal.returns-in-77
-unfolding listed
-returns-in-77 c = rw c.in-77.is
+returns-in-78-2 c = search rules
 
 pub returns-in_default : goal.returns-in_default
-returns-in_default c = not_listed names _ [] c.in_default.in_default-own.rest
+unfolding listed
+returns-in_default c = search rules
+
+pub returns-in_default-2 : goal.returns-in_default-2
+unfolding listed
+returns-in_default-2 c = search rules

@@ -1,63 +1,47 @@
 -- `numbers_at` meets its contract: what is read from here on, after the numbers in the buffer, is the whole.
 use native.Mathlib.Omega.{arith}
-use native.Mathlib.Nat.{sub-zero}
-use Prim.Native.Nat.{ℕ, suc, ◌+◌, ◌-◌, ◌<◌, ◌≤◌}
+use Prim.Native.Nat.{ℕ, suc, ◌+◌, ◌-◌, ◌<◌}
 use mathlib.Core.Path.{◌≡◌, sym, ap, ◌∙◌}
-use mathlib.Core.List.{[]}
+use mathlib.Core.Option.{some}
 use lib.ListN.{length, take, length-set}
-use Rattle.script.specs.Parse.{numbers_from}
-use Rattle.script.proofs.Letters.{counted_few}
 use Rattle.script.proofs.Reading.{numbers_end, numbers_over, numbers_none, numbers_step}
 use Rattle.script.proofs.parse.numbers_at.Goals as goal
 
-pub loop-at-init : goal.loop-at-init
-loop-at-init c = let a = c.args in
-    (omega arith, c.requires.1, ap (λ (n : ℕ). numbers_from a.line.now a.from n []) (sub-zero a.most))
+pub returns-then-at-line-clause-is : goal.returns-then-at-line-clause-is
+returns-then-at-line-clause-is c =
+    let l = c.loop-i in
+    sym (numbers_end c.args.line.now l.at (c.args.most - l.i) (take l.i l.out) c.if-at-line.true) ∙ l.invariant.1
 
-pub returns-then-most-i : goal.returns-then-most-i
-returns-then-most-i c = let a = c.args in
-    let i = c.loop-at.i in
-    let z : a.most - i ≡ 0 = omega arith in
-    let xs = a.line.now in
-    let e : numbers_from xs c.loop-at.at 0 (take i c.loop-at.out) ≡ numbers_from xs a.from a.most [] = rw z at c.loop-at.invariant.2 in
-    record {
-      is = sym (numbers_over xs c.loop-at.at (take i c.loop-at.out) c.loop-at-test.true) ∙ e;
-      long = c.loop-at.invariant.1;
-    }
+pub returns-in_err-value-clause-is : goal.returns-in_err-value-clause-is
+returns-in_err-value-clause-is c =
+    let a = c.args in
+    let l = c.loop-i in
+    let e : a.most - l.i ≡ suc (a.most - (l.i + 1)) = omega arith in
+    let read = sym c.number_at.ensures ∙ c.in_err-value.was in
+    let none_is = numbers_none a.line.now l.at (a.most - l.i) (a.most - (l.i + 1)) (take l.i l.out) e c.if-at-line.false read in
+    rw c.from_residual.ensures (sym none_is ∙ l.invariant.1)
 
-pub returns-in_default : goal.returns-in_default
-returns-in_default c = let a = c.args in
-    let i = c.loop-at.i in
-    let e : a.most - i ≡ suc (a.most - (i + 1)) = omega arith in
-    let goes = c.loop-at-test.true in
-    let read = sym c.in_default.is ∙ c.number_at-read.ensures in
-    let none_is = numbers_none a.line.now c.loop-at.at (a.most - i) (a.most - (i + 1)) (take i c.loop-at.out) e goes read in
-    record {
-      is = sym none_is ∙ c.loop-at.invariant.2;
-      long = c.loop-at.invariant.1;
-    }
-
-pub loop-at-preserved : goal.loop-at-preserved
-loop-at-preserved c = let a = c.args in
-    let i = c.loop-at.i in
-    let o = c.loop-at.out in
-    let v = c.in-Read.value in
-    let end = c.in-Read.end in
-    let b : i < length o = omega arith in
-    let read = sym c.in-Read.is ∙ c.number_at-read.ensures in
-    let goes = c.loop-at-test.true in
-    let below = c.if-most-i.false in (
-      omega arith,
-      length-set o i v ∙ c.loop-at.invariant.1,
-      sym (numbers_step a.line.now c.loop-at.at a.most i o v end below b goes read) ∙ c.loop-at.invariant.2,
+pub loop-i-preserved : goal.loop-i-preserved
+loop-i-preserved c =
+    let a = c.args in
+    let l = c.loop-i in
+    let v = c.in_ok-value.value in
+    let end = c.in_ok-value.end in
+    let b : l.i < length l.out = omega arith in
+    let read = sym c.number_at.ensures ∙ c.in_ok-value.was in (
+      length-set l.out l.i v ∙ l.invariant.0,
+      sym (numbers_step a.line.now l.at a.most l.i l.out v end c.loop-i-test.true b c.if-at-line.false read) ∙ l.invariant.1,
     )
 
-pub returns : goal.returns
-returns c = let a = c.args in
-    let i = c.loop-at.i in
-    let few : i ≤ 6 = omega (arith, c.requires.0) in
-    let whole = sym c.loop-at.invariant.2 ∙ numbers_end a.line.now c.loop-at.at (a.most - i) (take i c.loop-at.out) c.loop-at-test.false in
-    record {
-      is = counted_few i c.loop-at.out _ few whole;
-      long = c.loop-at.invariant.1;
-    }
+pub returns-then-at-line-2-clause-is : goal.returns-then-at-line-2-clause-is
+returns-then-at-line-2-clause-is c =
+    let l = c.loop-i in
+    let z : c.args.most - l.i ≡ 0 = omega arith in
+    sym (numbers_over c.args.line.now l.at (take l.i l.out) c.if-at-line-2.true) ∙ (rw z at l.invariant.1)
+
+pub returns-clause-is : goal.returns-clause-is
+returns-clause-is c =
+    let l = c.loop-i in
+    let e : l.i ≡ c.args.most = omega arith in
+    ap (λ (n : ℕ). some (take n l.out)) (sym e)
+    ∙ sym (numbers_end c.args.line.now l.at (c.args.most - l.i) (take l.i l.out) c.if-at-line-2.false) ∙ l.invariant.1

@@ -1,5 +1,5 @@
 -- `put_blocks` meets its contract: at the head of the loop the blocks from i on are left to write.
-use Prim.Native.Nat.{◌≤◌, ◌+◌, ◌-◌, ◌*◌}
+use Prim.Native.Nat.{◌≤◌, ◌+◌, ◌*◌}
 use mathlib.Core.Path.{◌≡◌}
 use lib.ListN.{length, take, drop}
 use Rattle.model.specs.Results.{born_in}
@@ -8,8 +8,5 @@ use Rattle.script.proofs.Printing.{Left}
 use Rattle.script.proofs.reply.put_blocks.Given as goal
 
 abbrev pub invariant-loop-i : goal.invariant-loop-i
-invariant-loop-i l = (l.i ≤ l.n) × (length l.text ≡ length l.initial.text) × (l.end ≤ l.at + 11 * l.i)
-    × Left l.initial.text l.at (items_text (born_in (take l.n l.out))) l.text l.end (items_text (born_in (drop l.i (take l.n l.out))))
-
-abbrev pub decreases-loop-i : goal.decreases-loop-i
-decreases-loop-i l = l.n - l.i
+invariant-loop-i l = (length l.text ≡ length l.initial.text) × (l.end ≤ l.at + 22 * l.i)
+    × Left l.initial.text l.at (items_text (born_in (take l.n l.out))) l.text l.end (items_text (born_in (drop (2 * l.i) (take l.n l.out))))

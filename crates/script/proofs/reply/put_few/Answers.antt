@@ -19,4 +19,5 @@ bounds-text-last-2 c = simp length-set (omega arith)
 pub returns : goal.returns
 returns c =
     let a = c.args in
-    put_few a.text.now a.at a.separator c.requires.2 a.n c.width_of-width.result c.requires.0 c.requires.1 c.width_of-width.ensures.is
+    let put = put_few a.text.now a.at a.separator c.requires.2 a.n c.width_of-width.result c.requires.0 c.requires.1 c.width_of-width.ensures.is in
+    rw c.from-thousands.ensures put

@@ -1,12 +1,11 @@
--- `few_digits` meets its contract: what is read from i on, behind the value so far, is the whole; the value is below a power of ten.
-use Prim.Native.Nat.{◌≤◌, ◌<◌, ◌+◌, ◌-◌, ◌^◌}
+-- `few_digits` meets its contract: what is read from i on, after the value so far, is the whole; the value is below a power of ten.
+use Prim.Native.Nat.{◌<◌, ◌+◌, ◌-◌, ◌^◌}
 use mathlib.Core.Path.{◌≡◌}
-use lib.ListN.{length, drop}
+use lib.ListN.{drop}
 use Rattle.script.specs.Parse.{digits_from}
 use Rattle.script.proofs.said.few_digits.Given as goal
 
 abbrev pub invariant-loop-i : goal.invariant-loop-i
-invariant-loop-i l = (l.from ≤ l.i) × (l.from + 4 ≤ length l.text) × (l.i ≤ l.from + 4) × (l.value < 10 ^ (l.i - l.from + 1)) × (digits_from (drop l.i l.text) l.value (6 - (l.i - l.from)) l.i ≡ digits_from (drop l.from l.text) l.first 6 l.from) × (l.first ≡ 0 → (l.i ≡ l.from) × (l.value ≡ 0))
-
-abbrev pub decreases-loop-i : goal.decreases-loop-i
-decreases-loop-i l = l.from + 4 - l.i
+invariant-loop-i l = (l.value < 10 ^ (l.i - l.from + 1))
+    × (digits_from (drop l.i l.text) l.value (6 - (l.i - l.from)) l.i ≡ digits_from (drop l.from l.text) l.first 6 l.from)
+    × (l.first ≡ 0 → (l.i ≡ l.from) × (l.value ≡ 0))

@@ -6,12 +6,6 @@ use lib.ListN.{get_or}
 use Rattle.script.proofs.OnePass.{stand_none, call_found}
 use Rattle.script.proofs.said.near_at.Goals as goal
 
-pub returns-then-text-at : goal.returns-then-text-at
-returns-then-text-at c = tt
-
-pub returns-then-text-at-lt17 : goal.returns-then-text-at-lt17
-returns-then-text-at-lt17 c = tt
-
 pub returns-then-text-end-eq10 : goal.returns-then-text-end-eq10
 returns-then-text-end-eq10 c = let a = c.args in
     let letter = get_or a.text.now a.at 0 in

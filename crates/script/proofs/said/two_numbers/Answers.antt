@@ -1,37 +1,25 @@
 -- `two_numbers` meets its contract: a letter and two numbers up to the line feed are the whole line, or the third number follows.
 use native.Mathlib.Omega.{arith}
 use mathlib.Core.List.{[], ◌∷◌}
-use Prim.Native.Nat.{◌+◌}
-use lib.ListN.{drop}
-use Rattle.script.specs.Parse.{number_from}
-use Rattle.script.specs.Said.{Next}
-use Rattle.script.proofs.OnePass.{stand_none, stand_more, call_found, agrees_read}
+use Rattle.script.proofs.OnePass.{stand_none, stand_more, call_found, next_read}
 use Rattle.script.proofs.said.two_numbers.Goals as goal
 
-pub returns-in_default : goal.returns-in_default
-returns-in_default c = tt
-
 pub bounds-text-end : goal.bounds-text-end
-bounds-text-end c =
-    let second_is : (Next c.args.text.now c.args.i c.in-Read.y c.in-Read.end) = (let from = c.args.i in
-    agrees_read _ (number_from (drop from c.args.text.now) from) _ _ (from + 5) c.in-Read.is c.short_at-second.ensures) in
-    omega (arith, (second_is).1)
+bounds-text-end c = omega (arith, (next_read c.args.text.now c.args.i _ c.in_ok-y.y c.in_ok-y.end c.in_ok-y.was c.short_at.ensures).1)
 
 pub returns-then-text-end-eq10 : goal.returns-then-text-end-eq10
 returns-then-text-end-eq10 c =
-    let second_is : (Next c.args.text.now c.args.i c.in-Read.y c.in-Read.end) = (let from = c.args.i in
-    agrees_read _ (number_from (drop from c.args.text.now) from) _ _ (from + 5) c.in-Read.is c.short_at-second.ensures) in
+    let second_is = next_read c.args.text.now c.args.i _ c.in_ok-y.y c.in_ok-y.end c.in_ok-y.was c.short_at.ensures in
     let a = c.args in
-    let v = c.in-Read.y in
-    let s2 = stand_more a.text.now _ _ _ [] _ (second_is).0 (stand_none _ _) in
+    let v = c.in_ok-y.y in
+    let s2 = stand_more a.text.now _ _ _ [] _ second_is.0 (stand_none _ _) in
     let s1 = stand_more a.text.now _ _ _ _ _ c.requires.1.0 s2 in
     let says = c.two_of.ensures in
     let feed = c.if-text-end-eq10.true in
     call_found a.text.now a.at a.letter (a.x ∷ v ∷ []) _ (omega arith) c.requires.0.1 s1 _ _ says c.found.ensures
-    (omega (arith, (second_is).1)) feed
+    (omega (arith, second_is.1)) feed
 
 pub three_numbers-requires : goal.three_numbers-requires
 three_numbers-requires c =
-    let second_is : (Next c.args.text.now c.args.i c.in-Read.y c.in-Read.end) = (let from = c.args.i in
-    agrees_read _ (number_from (drop from c.args.text.now) from) _ _ (from + 5) c.in-Read.is c.short_at-second.ensures) in
+    let second_is = next_read c.args.text.now c.args.i _ c.in_ok-y.y c.in_ok-y.end c.in_ok-y.was c.short_at.ensures in
     (c.requires.0, c.requires.1, second_is)

@@ -18,13 +18,13 @@ returns-in_default c =
     let asks : (Option Call) = (asked_by c.args.letter c.args.x c.args.y 0) in
     no_call (six) (memory) (only_looks (asks)) _ (ap only_looks (is_none _ (asks) c.asked_by-asked.ensures c.in_default.in_default-own.keys2))
 
-pub returns-in_default-seen : goal.returns-in_default-seen
-returns-in_default-seen c =
+pub returns-in_default-look_of : goal.returns-in_default-look_of
+returns-in_default-look_of c =
     let six : (Geometry) = (geometry_of c.args.arenas c.args.per c.args.pages c.args.records c.args.turn c.args.words) in
     let memory : (Memory) = (lent c.args.tables.now c.args.log.now c.args.out.now) in
     let asks : (Option Call) = (asked_by c.args.letter c.args.x c.args.y 0) in
     let asked = is_call _ (asks) _ c.asked_by-asked.ensures c.in-Asks.is in
-    no_call (six) (memory) (only_looks (asks)) _ (ap only_looks asked ∙ (sym c.look_of-seen.ensures ∙ ap seen_call c.in_default-seen.is))
+    no_call (six) (memory) (only_looks (asks)) _ (ap only_looks asked ∙ (sym c.look_of.ensures ∙ ap seen_call c.in_default-look_of.is))
 
 pub returns : goal.returns
 returns c =
@@ -32,6 +32,6 @@ returns c =
     let memory : (Memory) = (lent c.args.tables.now c.args.log.now c.args.out.now) in
     let asks : (Option Call) = (asked_by c.args.letter c.args.x c.args.y 0) in
     let asked = is_call _ (asks) _ c.asked_by-asked.ensures c.in-Asks.is in
-    let seen = sym c.look_of-seen.ensures ∙ ap seen_call c.in-For.is in
-    called (six) (memory) _ _ _ _ (look_call c.in-For.l) _ _ _ _
-    (ap only_looks asked ∙ seen) c.look-a.ensures (c.coded.ensures.code, c.coded.ensures.count)
+    let seen = sym c.look_of.ensures ∙ ap seen_call c.in-Some.is in
+    called (six) (memory) _ _ _ _ (look_call c.in-Some.l) _ _ _ _
+    (ap only_looks asked ∙ seen) c.look-a.ensures (c.coded.ensures.code, c.coded.ensures.given)

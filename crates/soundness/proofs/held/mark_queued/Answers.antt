@@ -1,47 +1,49 @@
 -- `mark_queued`: what is left of the queue gets marks on top of those so far as all of it does on top of those at the start.
-use Rattle.soundness.proofs.Marking.{marking_starts, marking_ends, marking_beyond, marking_twice, marking_unborn, marking_late, marking_goes}
+use Rattle.std.proofs.Common.{◌≡◌, ◌+◌, ◌&&◌, ◌∙◌, leb, get_or, arith, rules}
+use borrow.Author.Tests.{tests}
+use Rattle.soundness.proofs.Cells.{part_turn, part_end}
+use Rattle.soundness.proofs.Marking.{marking_ends, marking_beyond, marking_twice, marking_unfit, marking_goes}
 use Rattle.soundness.proofs.held.mark_queued.Goals as goal
 
-pub loop-i-init : goal.loop-i-init
-loop-i-init c = marking_starts _ _ _ _ _ c.requires.2
-
-pub returns-then-g-b : goal.returns-then-g-b
-returns-then-g-b c = let both = marking_beyond _ c.args.t.now _ _ _ c.loop-i.invariant c.loop-i-test.true c.queue_at.ensures c.wide-b.ensures
-    c.if-g-b.true in record {
-      is = both.0;
-      marked = both.1;
-    }
-
-pub returns-then-own-b-ne0 : goal.returns-then-own-b-ne0
-returns-then-own-b-ne0 c = let both = marking_twice _ c.args.t.now _ _ _ c.loop-i.invariant c.loop-i-test.true c.queue_at.ensures c.wide-b.ensures
-    c.if-own-b-ne0.true in record {
-      is = both.0;
-      marked = both.1;
-    }
-
-pub returns-then-t-queue_births_at-eq0 : goal.returns-then-t-queue_births_at-eq0
-returns-then-t-queue_births_at-eq0 c = let both = marking_unborn _ c.args.t.now _ _ _ c.loop-i.invariant c.loop-i-test.true c.queue_at.ensures c.wide-b.ensures
-    c.queue_births_at.ensures c.if-g-b.false c.if-own-b-ne0.false c.if-t-queue_births_at-eq0.true in record {
-      is = both.0;
-      marked = both.1;
-    }
-
-pub returns-then-last-t : goal.returns-then-last-t
-returns-then-last-t c = let both = marking_late _ c.args.t.now _ _ _ c.loop-i.invariant c.loop-i-test.true c.queue_at.ensures c.wide-b.ensures
-    c.queue_births_at.ensures c.if-g-b.false c.if-own-b-ne0.false c.if-t-queue_births_at-eq0.false
-    c.queue_births_at-in-loop-i.ensures c.if-last-t.true in record {
-      is = both.0;
-      marked = both.1;
-    }
-
-pub loop-i-preserved : goal.loop-i-preserved
-loop-i-preserved c =
-    marking_goes _ c.args.t.now _ _ _ c.loop-i.invariant c.loop-i-test.true c.queue_at.ensures c.wide-b.ensures
-    c.queue_births_at.ensures c.if-g-b.false c.if-own-b-ne0.false c.if-t-queue_births_at-eq0.false
-    c.queue_births_at-in-loop-i.ensures c.if-last-t.false
+pub loop-x-preserved : goal.loop-x-preserved
+loop-x-preserved c =
+    let a = c.args in
+    let birth = get_or a.t.now (c.queue_births_at-births.result + c.wide-b.result) 0 in
+    let v : c.contains.result ≡ (leb 1 birth && leb birth a.last) = search (rules, tests) in
+    let (h, e) = part_turn a.t.now c.queue_at-queue.result a.n c.loop-x.x-index
+    (omega (arith, c.queue_at-queue.ensures, c.requires.0.room, c.requires.1)) c.loop-x-test.true in
+    marking_goes _ a.t.now _ _ _ c.loop-x.invariant h c.queue_at-queue.ensures (c.wide-b.ensures ∙ e)
+    c.queue_births_at-births.ensures c.if-g-b.false
+    c.if-own-b-ne0.false v c.if-not-contains.false
 
 pub returns : goal.returns
-returns c = let both = marking_ends _ _ _ _ _ c.loop-i.invariant c.loop-i-test.false in record {
-  is = both.0;
-  marked = both.1;
-}
+returns c =
+    let a = c.args in
+    let h = part_end a.t.now c.queue_at-queue.result a.n c.loop-x.x-index
+    (omega (arith, c.queue_at-queue.ensures, c.requires.0.room, c.requires.1)) c.loop-x-test.false in
+    let both = marking_ends _ _ _ _ _ c.loop-x.invariant h in
+    record { is = both.0; marked = both.1 }
+
+pub returns-then-g-b-clause-is : goal.returns-then-g-b-clause-is
+returns-then-g-b-clause-is c =
+    let a = c.args in
+    let (h, e) = part_turn a.t.now c.queue_at-queue.result a.n c.loop-x.x-index
+    (omega (arith, c.queue_at-queue.ensures, c.requires.0.room, c.requires.1)) c.loop-x-test.true in
+    (marking_beyond _ a.t.now _ _ _ c.loop-x.invariant h c.queue_at-queue.ensures (c.wide-b.ensures ∙ e) c.if-g-b.true).0
+
+pub returns-then-own-b-ne0-clause-is : goal.returns-then-own-b-ne0-clause-is
+returns-then-own-b-ne0-clause-is c =
+    let a = c.args in
+    let (h, e) = part_turn a.t.now c.queue_at-queue.result a.n c.loop-x.x-index
+    (omega (arith, c.queue_at-queue.ensures, c.requires.0.room, c.requires.1)) c.loop-x-test.true in
+    (marking_twice _ a.t.now _ _ _ c.loop-x.invariant h c.queue_at-queue.ensures (c.wide-b.ensures ∙ e) c.if-own-b-ne0.true).0
+
+pub returns-then-not-contains-clause-is : goal.returns-then-not-contains-clause-is
+returns-then-not-contains-clause-is c =
+    let a = c.args in
+    let birth = get_or a.t.now (c.queue_births_at-births.result + c.wide-b.result) 0 in
+    let v : c.contains.result ≡ (leb 1 birth && leb birth a.last) = search (rules, tests) in
+    let (h, e) = part_turn a.t.now c.queue_at-queue.result a.n c.loop-x.x-index
+    (omega (arith, c.queue_at-queue.ensures, c.requires.0.room, c.requires.1)) c.loop-x-test.true in
+    (marking_unfit _ a.t.now _ _ _ c.loop-x.invariant h c.queue_at-queue.ensures (c.wide-b.ensures ∙ e)
+    c.queue_births_at-births.ensures c.if-g-b.false c.if-own-b-ne0.false v c.if-not-contains.true).0

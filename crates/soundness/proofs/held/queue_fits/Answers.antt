@@ -2,27 +2,19 @@
 use Rattle.soundness.proofs.Queued.{queue_many, queue_unmarked, queue_counted}
 use Rattle.soundness.proofs.held.queue_fits.Goals as goal
 
-pub returns-then-g-n : goal.returns-then-g-n
-returns-then-g-n c = let both = queue_many c.args.g c.args.t.now _ c.requires.0.inside.blocks_most c.requires.1 c.requires.2
-    c.header_number-n.ensures _ c.if-g-n.true in record {
+pub returns-then-mark_queued : goal.returns-then-mark_queued
+returns-then-mark_queued c = let both = queue_counted c.args.g c.args.t.now _ c.requires.0.inside.blocks_most c.requires.1 c.requires.2
+    c.header_number-n.ensures (c.mark_queued.ensures.is, c.mark_queued.ensures.marked) c.if-mark_queued.true c.count_queued.ensures in record {
       is = both.0;
       marked = both.1;
     }
 
-pub mark_queued-requires : goal.mark_queued-requires
-mark_queued-requires c =
-    (c.requires.0, c.if-g-n.false, c.requires.1)
+pub returns-then-g-n-clause-is : goal.returns-then-g-n-clause-is
+returns-then-g-n-clause-is c =
+    (queue_many c.args.g c.args.t.now _ c.requires.0.inside.blocks_most c.requires.1 c.requires.2
+    c.header_number-n.ensures c.args.own.now c.if-g-n.true).0
 
-pub returns-then-not-mark_queued : goal.returns-then-not-mark_queued
-returns-then-not-mark_queued c = let both = queue_unmarked c.args.g c.args.t.now _ c.requires.0.inside.blocks_most c.requires.1 c.requires.2
-    c.header_number-n.ensures (c.mark_queued.ensures.is, c.mark_queued.ensures.marked) c.if-not-mark_queued.true-raw in record {
-      is = both.0;
-      marked = both.1;
-    }
-
-pub returns : goal.returns
-returns c = let both = queue_counted c.args.g c.args.t.now _ c.requires.0.inside.blocks_most c.requires.1 c.requires.2
-    c.header_number-n.ensures (c.mark_queued.ensures.is, c.mark_queued.ensures.marked) c.if-not-mark_queued.false-raw c.count_queued.ensures in record {
-      is = both.0;
-      marked = both.1;
-    }
+pub returns-else-mark_queued-clause-is : goal.returns-else-mark_queued-clause-is
+returns-else-mark_queued-clause-is c =
+    (queue_unmarked c.args.g c.args.t.now _ c.requires.0.inside.blocks_most c.requires.1 c.requires.2
+    c.header_number-n.ensures (c.mark_queued.ensures.is, c.mark_queued.ensures.marked) c.if-mark_queued.false).0

@@ -1,44 +1,45 @@
 -- `list_fits`: what is left of the deadlist takes from the stamps so far what all of it takes from those at the start.
-use Rattle.std.proofs.Common.{arith}
-use Rattle.soundness.proofs.ListsStamps.{same_stamps, list_other, taking_starts, taking_ends, taking_fails, taking_beyond, taking_goes}
+use Rattle.std.proofs.Common.{◌+◌, ◌*◌, ◌∙◌, arith}
+use Rattle.soundness.proofs.Cells.{part_turn, part_end}
+use Rattle.soundness.proofs.ListsStamps.{list_other, taking_starts, taking_ends, taking_fails, taking_beyond, taking_goes}
 use Rattle.soundness.proofs.lists.list_fits.Goals as goal
 
-pub returns-then-wide-count : goal.returns-then-wide-count
-returns-then-wide-count c = let a = c.args in record {
-  is = list_other a.g a.t.now a.s a.count a.gone.now c.requires.1 c.wide.ensures c.if-wide-count.true;
-  stamps = same_stamps a.g a.t.now a.s a.count a.gone.now c.requires.1 c.requires.3;
-}
-
-pub loop-i-init : goal.loop-i-init
-loop-i-init c = let a = c.args in
+pub loop-x-init : goal.loop-x-init
+loop-x-init c = let a = c.args in
     taking_starts a.g a.t.now a.s a.count a.gone.now c.requires.1 c.wide.ensures c.if-wide-count.false c.requires.3
 
-pub returns-then-b-ge2048 : goal.returns-then-b-ge2048
-returns-then-b-ge2048 c = let a = c.args in
-    let W = c.loop-i.invariant in
-    record {
-      is = taking_beyond a.g a.t.now a.s a.count a.gone.now c.requires.1 c.wide.ensures c.if-wide-count.false W c.loop-i-test.true c.wide-b.ensures c.if-b-ge2048.true;
-      stamps = (W.size, W.lower);
-    }
-
-pub returns-then-stamp-s : goal.returns-then-stamp-s
-returns-then-stamp-s c =
+pub loop-x-preserved : goal.loop-x-preserved
+loop-x-preserved c =
     let a = c.args in
-    let W = c.loop-i.invariant in
-    record {
-      is = taking_fails a.g a.t.now a.s a.count a.gone.now c.requires.1 c.wide.ensures c.if-wide-count.false W c.loop-i-test.true c.wide-b.ensures (λ w. c.if-stamp-s.true (omega (arith, c.stamp.ensures, w)));
-      stamps = (W.size, W.lower);
-    }
+    let (h, e) = part_turn a.t.now (2048 + 256 * a.g.records + 256 * a.s) a.count c.loop-x.x-index
+    (omega (arith, c.requires.0.room, c.requires.1, c.requires.2)) c.loop-x-test.true in
+    taking_goes a.g a.t.now a.s a.count a.gone.now c.requires.1 c.wide.ensures c.if-wide-count.false c.loop-x.invariant h (c.wide-b.ensures ∙ e)
+    (omega (arith, c.if-from-s.false, c.from.ensures)) c.if-b-ge2048.false
 
-pub loop-i-preserved : goal.loop-i-preserved
-loop-i-preserved c =
+pub returns-then-wide-count-clause-is : goal.returns-then-wide-count-clause-is
+returns-then-wide-count-clause-is c =
     let a = c.args in
-    taking_goes a.g a.t.now a.s a.count a.gone.now c.requires.1 c.wide.ensures c.if-wide-count.false c.loop-i.invariant c.loop-i-test.true c.wide-b.ensures (omega (arith, c.if-stamp-s.false, c.stamp.ensures)) c.if-b-ge2048.false
+    list_other a.g a.t.now a.s a.count a.gone.now c.requires.1 c.wide.ensures c.if-wide-count.true
 
-pub returns : goal.returns
-returns c = let a = c.args in
-    let W = c.loop-i.invariant in
-    record {
-      is = taking_ends a.g a.t.now a.s a.count a.gone.now c.requires.1 c.wide.ensures c.if-wide-count.false W c.loop-i-test.false;
-      stamps = (W.size, W.lower);
-    }
+pub returns-then-b-ge2048-clause-is : goal.returns-then-b-ge2048-clause-is
+returns-then-b-ge2048-clause-is c =
+    let a = c.args in
+    let (h, e) = part_turn a.t.now (2048 + 256 * a.g.records + 256 * a.s) a.count c.loop-x.x-index
+    (omega (arith, c.requires.0.room, c.requires.1, c.requires.2)) c.loop-x-test.true in
+    taking_beyond a.g a.t.now a.s a.count a.gone.now c.requires.1 c.wide.ensures c.if-wide-count.false c.loop-x.invariant h (c.wide-b.ensures ∙ e)
+    c.if-b-ge2048.true
+
+pub returns-then-from-s-clause-is : goal.returns-then-from-s-clause-is
+returns-then-from-s-clause-is c =
+    let a = c.args in
+    let (h, e) = part_turn a.t.now (2048 + 256 * a.g.records + 256 * a.s) a.count c.loop-x.x-index
+    (omega (arith, c.requires.0.room, c.requires.1, c.requires.2)) c.loop-x-test.true in
+    taking_fails a.g a.t.now a.s a.count a.gone.now c.requires.1 c.wide.ensures c.if-wide-count.false c.loop-x.invariant h (c.wide-b.ensures ∙ e)
+    (λ w. c.if-from-s.true (omega (arith, c.from.ensures, w)))
+
+pub returns-clause-is : goal.returns-clause-is
+returns-clause-is c =
+    let a = c.args in
+    let h = part_end a.t.now (2048 + 256 * a.g.records + 256 * a.s) a.count c.loop-x.x-index
+    (omega (arith, c.requires.0.room, c.requires.1, c.requires.2)) c.loop-x-test.false in
+    taking_ends a.g a.t.now a.s a.count a.gone.now c.requires.1 c.wide.ensures c.if-wide-count.false c.loop-x.invariant h

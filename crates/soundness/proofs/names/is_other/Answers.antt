@@ -1,4 +1,5 @@
 -- `is_other`: an empty row, another length, or other letters.
+use Rattle.std.proofs.Common.{arith, refl}
 use Rattle.soundness.proofs.NamesRows.{other_empty, other_length, other_letters}
 use Rattle.soundness.proofs.names.is_other.Goals as goal
 
@@ -12,5 +13,5 @@ returns-then-t-j c =
 
 pub returns : goal.returns
 returns c =
-    other_letters _ _ _ c.requires.1 c.requires.2 c.requires.3 c.if-t-j-eq0.false c.if-t-j.false c.wide.ensures
-    c.same_text.ensures
+    other_letters c.args.t.now _ _ c.requires.1 c.requires.2 c.requires.3 c.if-t-j-eq0.false c.if-t-j.false c.wide-n.ensures refl refl
+    (omega arith) (omega arith) c.ne.ensures

@@ -1,18 +1,16 @@
--- `letters_fit`: the numbers from the i-th on are letters just where all are.
-use Rattle.std.proofs.Common.{arith}
-use Rattle.soundness.proofs.NamesRows.{letters_first, letters_end, letters_stop, letters_go}
+-- `letters_fit`: the numbers one after another.
+use Rattle.std.proofs.Common.{◌≡◌, ◌+◌, ◌-◌, ap, ◌∙◌, take, drop, rules, arith}
+use borrow.Author.Tests.{tests}
+use Rattle.std.proofs.lemmas.Iterator.{YieldsList-from_slice}
+use Rattle.std.proofs.lemmas.Iterator.Search.{all_from_yields_List}
+use Rattle.std.specs.List.{list_all}
+use Rattle.soundness.proofs.NamesRows.{letter?, letters_part}
 use Rattle.soundness.proofs.names.letters_fit.Goals as goal
 
-pub loop-i-init : goal.loop-i-init
-loop-i-init c = (omega arith, letters_first _ _ _)
-
-pub returns-then-not-is_letter : goal.returns-then-not-is_letter
-returns-then-not-is_letter c =
-    letters_stop _ _ _ _ c.loop-i.invariant.1 c.is_letter.ensures c.loop-i-test.true c.if-not-is_letter.true-raw
-
-pub loop-i-preserved : goal.loop-i-preserved
-loop-i-preserved c =
-    (omega arith, letters_go _ _ _ _ c.loop-i.invariant.1 c.is_letter.ensures c.loop-i-test.true c.if-not-is_letter.false-raw)
-
 pub returns : goal.returns
-returns c = letters_end _ _ _ _ c.loop-i.invariant.1 c.loop-i-test.false
+returns c =
+    let a = c.args in
+    let n : a.at + a.n - a.at ≡ a.n = omega arith in
+    all_from_yields_List letter? _ _ _ c.all.ensures.ran (YieldsList-from_slice (take (a.at + a.n - a.at) (drop a.at a.t.now)) cc)
+    (λ x b q k. search (rules, tests)) ∙
+    ap (λ k. list_all letter? (take k (drop a.at a.t.now))) n ∙ letters_part a.t.now a.at a.n c.requires

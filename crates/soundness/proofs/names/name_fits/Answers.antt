@@ -1,21 +1,15 @@
 -- `name_fits`: its length, then its letters.
-use Rattle.soundness.proofs.NamesRows.{name_none, name_long, name_is}
+use Rattle.std.proofs.Common.{◌≡◌, ◌&&◌, leb, rules}
+use borrow.Author.Tests.{tests}
+use Rattle.soundness.proofs.NamesRows.{name_no, name_is}
 use Rattle.soundness.proofs.names.name_fits.Goals as goal
 
-pub returns-then-n-eq0 : goal.returns-then-n-eq0
-returns-then-n-eq0 c = let both = name_none _ _ _ c.wide-n.ensures c.if-n-eq0.true in record {
-  is = both.0;
-  range = both.1;
-}
+pub returns-then-contains-clause-is : goal.returns-then-contains-clause-is
+returns-then-contains-clause-is c =
+    let v : c.contains.result ≡ (leb 1 c.wide-n.result && leb c.wide-n.result 32) = search (rules, tests) in
+    name_is _ _ _ c.wide-n.ensures v c.if-contains.true c.letters_fit.ensures
 
-pub returns-then-n-gt32 : goal.returns-then-n-gt32
-returns-then-n-gt32 c = let both = name_long _ _ _ c.wide-n.ensures c.if-n-eq0.false c.if-n-gt32.true in record {
-  is = both.0;
-  range = both.1;
-}
-
-pub returns : goal.returns
-returns c = let both = name_is _ _ _ c.wide-n.ensures c.if-n-eq0.false c.if-n-gt32.false c.letters_fit.ensures in record {
-  is = both.0;
-  range = both.1;
-}
+pub returns-else-contains-clause-is : goal.returns-else-contains-clause-is
+returns-else-contains-clause-is c =
+    let v : c.contains.result ≡ (leb 1 c.wide-n.result && leb c.wide-n.result 32) = search (rules, tests) in
+    name_no _ _ _ c.wide-n.ensures v c.if-contains.false

@@ -1,11 +1,19 @@
 -- `kin_of`: the pred is the base where no record is before it, else that record.
-use Rattle.soundness.proofs.PagesLinks.{kin_first, kin_next}
+use Rattle.std.proofs.Common.{◌≡◌, ◌∙◌}
+use Rattle.model.specs.Table.{first_link}
+use Rattle.soundness.specs.Pages.{reached}
+use Rattle.soundness.proofs.PagesLinks.{pred_first, pred_next, kin_said}
 use Rattle.soundness.proofs.pages.kin_of.Goals as goal
-
-pub returns-then-prev-eq0 : goal.returns-then-prev-eq0
-returns-then-prev-eq0 c =
-    kin_first _ _ _ c.requires.1 c.wide-then-prev-eq0.ensures c.wide-prev.ensures c.wide.ensures c.reach-base.ensures.is c.number_behind-root.ensures c.if-prev-eq0.true
+use Rattle.soundness.proofs.pages.kin_of.Goals.{then-prev-eq0, else-prev-eq0}
 
 pub returns : goal.returns
 returns c =
-    kin_next _ _ _ c.requires.1 c.wide-2.ensures c.wide-prev.ensures c.wide.ensures c.reach-base.ensures.is c.number_behind-root.ensures c.if-prev-eq0.false c.reach-pred.ensures.is c.number_behind-older.ensures
+    let a = c.args in
+    let pred : c.if-prev-eq0.pred ≡ reached a.g.records (first_link c.wide-prev.result c.wide.result) = elim c.if-prev-eq0.branch [
+      | then-prev-eq0 w ↦ w.pred-is ∙ pred_first a.g a.t.now a.s c.requires.1 c.wide-2.ensures c.wide-prev.ensures c.wide.ensures c.reach-base.ensures.is
+          w.if-prev-eq0.true
+      | else-prev-eq0 w ↦ w.pred-is ∙ pred_next a.g a.t.now a.s c.requires.1 c.wide-2.ensures c.wide-prev.ensures c.wide.ensures w.reach-pred.ensures.is
+          w.if-prev-eq0.false
+    ] in
+    kin_said a.g a.t.now a.s c.requires.1 c.wide-2.ensures c.wide-prev.ensures c.wide.ensures pred c.reach-base.ensures.is
+    (c.wide-3.ensures ∙ c.number_behind.ensures) (c.wide-4.ensures ∙ c.number_behind-2.ensures)

@@ -19,7 +19,8 @@ returns-then-wide-root c =
     let a = c.args in
     let w = c.wrapping_sub_usize-b in
     let p = stamp_none (suc a.s) a.gone.now
-    (young_not a.g a.t.now a.s a.link w.ensures.value c.if-g-b.false c.requires.0.inside.blocks_most c.wide.ensures (omega (arith, c.if-wide-root.true, c.requires.2))) in
+    (young_not a.g a.t.now a.s a.link w.ensures.value c.if-g-b.false c.requires.0.inside.blocks_most c.wide.ensures
+    (omega (arith, c.if-wide-root.true, c.requires.2))) in
     record {
       count = p.0;
       stamped = p.1;
@@ -31,7 +32,8 @@ returns c =
     let a = c.args in
     let w = c.wrapping_sub_usize-b in
     let p = stamp_one (suc a.s) a.gone.now w.result (a.s + 1) (add-one a.s)
-    (young_yes a.g a.t.now a.s a.link w.ensures.value c.if-g-b.false c.requires.0.inside.blocks_most c.wide.ensures (omega (arith, c.if-wide-root.false, c.requires.2)))
+    (young_yes a.g a.t.now a.s a.link w.ensures.value c.if-g-b.false c.requires.0.inside.blocks_most c.wide.ensures
+    (omega (arith, c.if-wide-root.false, c.requires.2)))
     (omega (arith, c.if-g-b.false, c.requires.0.inside.blocks_most, c.requires.3)) in
     record {
       count = p.0;

@@ -1,6 +1,5 @@
 -- `page_fits`: the clause of the link that fails first, or all of them and the mark.
 use Rattle.std.proofs.Common.{◌-◌, ◌<◌, ap, ◌∙◌, arith, length-set}
-use mathlib.Core.Bool.{false≢true}
 use Rattle.model.specs.Layout.{view_of}
 use Rattle.soundness.specs.declared.pages.Kin.{Kin}
 use Rattle.soundness.proofs.PagesMarks.{birth_said, own_none, own_beyond, own_old, own_young, own_twice, own_fits}
@@ -15,41 +14,6 @@ returns-then-link-eq0 c = let a = c.args in
       size = c.requires.2;
     }
 
-pub returns-then-g-link : goal.returns-then-g-link
-unfolding view_of
-returns-then-g-link c = let a = c.args in record {
-  is = own_beyond (view_of a.g a.t.now) a.s a.own.now a.link c.if-g-link.true;
-  marked = λ e. absurd (false≢true e);
-  size = c.requires.2;
-}
-
-pub returns-then-birth-kin : goal.returns-then-birth-kin
-returns-then-birth-kin c = let a = c.args in
-    let e = birth_said a.g a.t.now a.link c.if-link-eq0.false c.if-g-link.false c.wide-birth.ensures in
-    let f = ap (λ (k : Kin). k.older) c.requires.1 in
-    record {
-      is = own_old (view_of a.g a.t.now) a.s a.own.now a.link c.if-link-eq0.false (omega (arith, c.if-birth-kin.true));
-      marked = λ e. absurd (false≢true e);
-      size = c.requires.2;
-    }
-
-pub returns-then-kin-birth : goal.returns-then-kin-birth
-returns-then-kin-birth c = let a = c.args in
-    let e = birth_said a.g a.t.now a.link c.if-link-eq0.false c.if-g-link.false c.wide-birth.ensures in
-    let f = ap (λ (k : Kin). k.number) c.requires.1 in
-    record {
-      is = own_young (view_of a.g a.t.now) a.s a.own.now a.link c.if-link-eq0.false (omega (arith, c.if-kin-birth.true));
-      marked = λ e. absurd (false≢true e);
-      size = c.requires.2;
-    }
-
-pub returns-then-own-link-ne0 : goal.returns-then-own-link-ne0
-returns-then-own-link-ne0 c = let a = c.args in record {
-  is = own_twice (view_of a.g a.t.now) a.s a.own.now a.link c.if-link-eq0.false c.if-own-link-ne0.true;
-  marked = λ e. absurd (false≢true e);
-  size = c.requires.2;
-}
-
 pub returns : goal.returns
 unfolding view_of
 returns c =
@@ -58,9 +22,33 @@ returns c =
     let f = ap (λ (k : Kin). k.older) c.requires.1 in
     let h = ap (λ (k : Kin). k.number) c.requires.1 in
     let k : a.link - 1 < 2048 = omega (arith, c.requires.0.inside.blocks_most) in
-    let p = own_fits (view_of a.g a.t.now) a.s a.own.now a.link c.if-link-eq0.false c.if-g-link.false (omega (arith, c.if-birth-kin.false)) (omega (arith, c.if-kin-birth.false)) c.if-own-link-ne0.false (omega (arith, c.requires.2)) in
+    let p = own_fits (view_of a.g a.t.now) a.s a.own.now a.link c.if-link-eq0.false c.if-g-link.false (omega (arith, c.if-birth-kin.false))
+    (omega (arith, c.if-kin-birth.false)) c.if-own-link-ne0.false (omega (arith, c.requires.2)) in
     record {
       is = p.0;
       marked = λ e. p.1;
       size = length-set a.own.now (a.link - 1) 1 ∙ c.requires.2;
     }
+
+pub returns-then-g-link-clause-is : goal.returns-then-g-link-clause-is
+unfolding view_of
+returns-then-g-link-clause-is c =
+    let a = c.args in own_beyond (view_of a.g a.t.now) a.s a.own.now a.link c.if-g-link.true
+
+pub returns-then-birth-kin-clause-is : goal.returns-then-birth-kin-clause-is
+returns-then-birth-kin-clause-is c =
+    let a = c.args in
+    let e = birth_said a.g a.t.now a.link c.if-link-eq0.false c.if-g-link.false c.wide-birth.ensures in
+    let f = ap (λ (k : Kin). k.older) c.requires.1 in
+    own_old (view_of a.g a.t.now) a.s a.own.now a.link c.if-link-eq0.false (omega (arith, c.if-birth-kin.true))
+
+pub returns-then-kin-birth-clause-is : goal.returns-then-kin-birth-clause-is
+returns-then-kin-birth-clause-is c =
+    let a = c.args in
+    let e = birth_said a.g a.t.now a.link c.if-link-eq0.false c.if-g-link.false c.wide-birth.ensures in
+    let f = ap (λ (k : Kin). k.number) c.requires.1 in
+    own_young (view_of a.g a.t.now) a.s a.own.now a.link c.if-link-eq0.false (omega (arith, c.if-kin-birth.true))
+
+pub returns-then-own-link-ne0-clause-is : goal.returns-then-own-link-ne0-clause-is
+returns-then-own-link-ne0-clause-is c =
+    let a = c.args in own_twice (view_of a.g a.t.now) a.s a.own.now a.link c.if-link-eq0.false c.if-own-link-ne0.true

@@ -1,20 +1,17 @@
 -- `page_walk`: the page does not fit; it fits and nothing was before it; it fits and what was there may be gone.
-use Rattle.std.proofs.Common.{ap, arith}
-use Rattle.soundness.specs.declared.pages.Kin.{Kin}
+use Rattle.std.proofs.Common.{arith}
 use Rattle.soundness.proofs.PagesStep.{pred_range, page_stops, page_first, page_next}
 use Rattle.soundness.proofs.pages.page_walk.Goals as goal
 
 pub returns-then-not-page_fits : goal.returns-then-not-page_fits
 returns-then-not-page_fits c = let a = c.args in
     let p = c.page_fits.ensures in
-    page_stops a.g a.t.now a.s c.requires.4 a.x a.count c.wide-link.result a.own.now a.gone.now c.page_fits.new.own c.requires.1 c.requires.2 c.requires.3 c.requires.5 c.wide-link.ensures p.is p.marked p.size c.requires.7 c.if-not-page_fits.true-raw
+    page_stops a.g a.t.now a.s c.requires.4 a.x a.count c.wide-link.result a.own.now a.gone.now c.page_fits.new.own c.requires.1 c.requires.2
+    c.requires.3 c.requires.5 c.wide-link.ensures p.is p.marked p.size c.requires.7 c.if-not-page_fits.true-raw
 
 pub page_behind-was-requires : goal.page_behind-was-requires
 page_behind-was-requires c = let a = c.args in
     (c.requires.0, pred_range a.g a.t.now a.s c.requires.4, omega (arith, c.requires.0.inside.pages_least))
-
-pub mark_gone-more-requires : goal.mark_gone-more-requires
-mark_gone-more-requires c = (c.requires.0, c.requires.1, ap (λ (k : Kin). k.root) c.requires.4, c.requires.7)
 
 pub returns-then-kin : goal.returns-then-kin
 returns-then-kin c =
@@ -22,9 +19,11 @@ returns-then-kin c =
     let p = c.page_fits.ensures in
     let m = c.mark_gone-more.ensures in
     let q = c.requires in
-    page_next a.g a.t.now a.s q.4 a.x a.count c.wide-link.result a.own.now a.gone.now c.page_fits.new.own q.1 q.2 q.3 q.5 c.wide-link.ensures p.is p.marked p.size c.mark_gone-more.new.gone m.size.1 c.if-not-page_fits.false-raw c.if-kin.true c.page_behind-was.ensures m.count m.stamped m.size.0
+    page_next a.g a.t.now a.s q.4 a.x a.count c.wide-link.result a.own.now a.gone.now c.page_fits.new.own q.1 q.2 q.3 q.5 c.wide-link.ensures p.is
+    p.marked p.size c.mark_gone-more.new.gone m.size.1 c.if-not-page_fits.false-raw c.if-kin.true c.page_behind-was.ensures m.count m.stamped m.size.0
 
 pub returns : goal.returns
 returns c = let a = c.args in
     let p = c.page_fits.ensures in
-    page_first a.g a.t.now a.s c.requires.4 a.x a.count c.wide-link.result a.own.now a.gone.now c.page_fits.new.own c.requires.1 c.requires.2 c.requires.3 c.requires.5 c.wide-link.ensures p.is p.marked p.size c.requires.7 c.if-not-page_fits.false-raw c.if-kin.false
+    page_first a.g a.t.now a.s c.requires.4 a.x a.count c.wide-link.result a.own.now a.gone.now c.page_fits.new.own c.requires.1 c.requires.2
+    c.requires.3 c.requires.5 c.wide-link.ensures p.is p.marked p.size c.requires.7 c.if-not-page_fits.false-raw c.if-kin.false

@@ -8,10 +8,6 @@ pub loop-s-init : goal.loop-s-init
 loop-s-init c = let a = c.args in
     slots_start (view_of a.g a.t.now) a.own.now c.requires.1
 
-pub slot_fits-requires : goal.slot_fits-requires
-slot_fits-requires c = let W = c.loop-s.invariant in
-    (c.requires.0, c.loop-s-test.true, W.own_size, W.gone_size, W.low)
-
 pub returns-then-not-slot_fits : goal.returns-then-not-slot_fits
 unfolding view_of
 returns-then-not-slot_fits c = let a = c.args in

@@ -1,11 +1,8 @@
 -- `row_walk`: what is left of the row comes to the same.
-use Rattle.std.proofs.Common.{◌-◌, ◌*◌, ◌≤◌, min}
+use Rattle.std.proofs.Common.{◌*◌, min}
 use Rattle.model.specs.Layout.{view_of}
 use Rattle.soundness.proofs.PagesStep.{Rowing}
 use Rattle.soundness.proofs.pages.row_walk.Given as goal
 
 abbrev pub invariant-loop-k : goal.invariant-loop-k
-invariant-loop-k l = (l.k ≤ 8) × Rowing (view_of l.g l.t) l.s l.initial.own l.initial.gone l.own l.gone l.found (min (32 * l.k) l.g.pages)
-
-abbrev pub decreases-loop-k : goal.decreases-loop-k
-decreases-loop-k l = l.g.pages - 32 * l.k
+invariant-loop-k l = Rowing (view_of l.g l.t) l.s l.initial.own l.initial.gone l.own l.gone l.found (min (32 * l.k) l.g.pages)

@@ -15,27 +15,23 @@ returns-then-t-s-eq0 c = let a = c.args in record {
 pub returns-in_default : goal.returns-in_default
 unfolding view_of
 returns-in_default c = let a = c.args in
-    let w = c.row_walk-walked.ensures in
+    let w = c.row_walk.ensures in
     record {
       is = slot_fails (view_of a.g a.t.now) a.s a.own.now a.gone.now (live a.g a.t.now a.s c.requires.1 c.if-t-s-eq0.false) w c.in_default.is;
       marked = λ e. absurd (false≢true e);
       stamps = (w.own_size, w.gone_size, λ e. absurd (false≢true e));
     }
 
-pub list_fits-requires : goal.list_fits-requires
-list_fits-requires c = let w = c.row_walk-walked.ensures in
-    (c.requires.0, c.requires.1, omega (arith, w.few _ c.in-Fits.is, c.requires.0.inside.pages_most), w.gone_size)
-
 pub returns : goal.returns
 unfolding view_of
 returns c =
     let a = c.args in
-    let w = c.row_walk-walked.ensures in
+    let w = c.row_walk.ensures in
     let f = c.list_fits.ensures in
     let o = live a.g a.t.now a.s c.requires.1 c.if-t-s-eq0.false in
     let v = view_of a.g a.t.now in
     record {
-      is = slot_lists v a.s a.own.now a.gone.now o w c.in-Fits.is c.requires.4 f.is;
-      marked = λ e. slot_marks v a.s a.own.now a.gone.now o w c.in-Fits.is;
-      stamps = (w.own_size, f.stamps.0, λ e. slot_stamps v a.s a.own.now a.gone.now o w c.in-Fits.is c.list_fits.new.gone c.requires.4 f.stamps.1);
+      is = slot_lists v a.s a.own.now a.gone.now o w c.in-Some.is c.requires.4 f.is;
+      marked = λ e. slot_marks v a.s a.own.now a.gone.now o w c.in-Some.is;
+      stamps = (w.own_size, f.stamps.0, λ e. slot_stamps v a.s a.own.now a.gone.now o w c.in-Some.is c.list_fits.new.gone c.requires.4 f.stamps.1);
     }

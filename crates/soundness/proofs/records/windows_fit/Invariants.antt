@@ -1,11 +1,8 @@
 -- `windows_fit`: so far they fit just where those of the slots before s do.
-use Rattle.std.proofs.Common.{◌≡◌, ◌-◌, ◌≤◌}
+use Rattle.std.proofs.Common.{◌≡◌}
 use Rattle.model.specs.Table.{all}
 use Rattle.soundness.proofs.Clauses.{window?}
 use Rattle.soundness.proofs.records.windows_fit.Given as goal
 
 abbrev pub invariant-loop-s : goal.invariant-loop-s
-invariant-loop-s l = (l.s ≤ l.g.records) × (l.fit ≡ all l.s (window? l.g l.t))
-
-abbrev pub decreases-loop-s : goal.decreases-loop-s
-decreases-loop-s l = l.g.records - l.s
+invariant-loop-s l = l.fit ≡ all l.s (window? l.fn.g l.t)

@@ -1,87 +1,32 @@
--- `look`: each return is one law of `Admitted`, as in `call`.
-use Rattle.geometry.specs.declared.Geometry.{Geometry}
-use Rattle.geometry.specs.Limits.{geometry_of}
-use Rattle.alloc_log.proofs.Tools.{MadeOf, made_of, outside}
-use Rattle.model.specs.Command.{Command, command}
-use Rattle.model.specs.Memory.{Memory, lent}
-use Rattle.store.proofs.Admitted.{call_2, call_3, call_4, call_done, sound_requires, perform_requires_of}
+-- `look`: a refusal changes nothing, and what the engine promises is what is promised here. Tables and log stay.
+use Rattle.std.proofs.Common.{◌≡◌, Err, arith}
+use Rattle.model.specs.Command.{command}
+use Rattle.model.specs.Memory.{lent}
 use Rattle.engine.specs.Looks.{look_call}
 use Rattle.engine.proofs.Looking.{look_performed}
 use Rattle.engine.proofs.Untouched.{found_link}
+use Rattle.store.proofs.Admitted.{refused_call, call_done, calls_require}
 use Rattle.store.proofs.look.look.Goals as goal
 
-pub returns-in_default : goal.returns-in_default
-returns-in_default c =
-    let six : (Geometry) = (geometry_of c.args.arenas c.args.per c.args.pages c.args.records c.args.turn c.args.words) in
-    let memory : (Memory) = (lent c.args.tables.now c.args.log.now c.args.out.now) in
-    let asked : (Command) = (command (look_call c.args.c)) in
-    call_2 (memory) (asked) (six) (outside (six) c.in_default.field-0 c.new-made.ensures.is c.in_default.is)
-
-pub is_short-requires : goal.is_short-requires
-is_short-requires c =
-    let six : (Geometry) = (geometry_of c.args.arenas c.args.per c.args.pages c.args.records c.args.turn c.args.words) in
-    let is_made : (MadeOf (six) c.in-Made.g) = (made_of (six) c.in-Made.g c.new-made.ensures.is c.in-Made.is) in
-    (is_made).inside
-
-pub returns-then-is_short : goal.returns-then-is_short
-returns-then-is_short c =
-    let memory : (Memory) = (lent c.args.tables.now c.args.log.now c.args.out.now) in
-    let asked : (Command) = (command (look_call c.args.c)) in
-    let six : (Geometry) = (geometry_of c.args.arenas c.args.per c.args.pages c.args.records c.args.turn c.args.words) in
-    let is_made : (MadeOf (six) c.in-Made.g) = (made_of (six) c.in-Made.g c.new-made.ensures.is c.in-Made.is) in
-    let s = c in
-    call_3 (memory) (asked) (is_made) c.is_short.ensures c.if-is_short.true
-
-pub is_sound-requires : goal.is_sound-requires
-is_sound-requires c =
-    let memory : (Memory) = (lent c.args.tables.now c.args.log.now c.args.out.now) in
-    let asked : (Command) = (command (look_call c.args.c)) in
-    let six : (Geometry) = (geometry_of c.args.arenas c.args.per c.args.pages c.args.records c.args.turn c.args.words) in
-    let is_made : (MadeOf (six) c.in-Made.g) = (made_of (six) c.in-Made.g c.new-made.ensures.is c.in-Made.is) in
-    let s = c in
-    sound_requires (memory) (asked) (is_made) c.is_short.ensures c.if-is_short.false
-
-pub returns-then-not-is_sound : goal.returns-then-not-is_sound
-returns-then-not-is_sound c =
-    let memory : (Memory) = (lent c.args.tables.now c.args.log.now c.args.out.now) in
-    let asked : (Command) = (command (look_call c.args.c)) in
-    let six : (Geometry) = (geometry_of c.args.arenas c.args.per c.args.pages c.args.records c.args.turn c.args.words) in
-    let is_made : (MadeOf (six) c.in-Made.g) = (made_of (six) c.in-Made.g c.new-made.ensures.is c.in-Made.is) in
-    let s = c in
-    let short = c.if-is_short.false in
-    call_4 (memory) (asked) (is_made) c.is_short.ensures short c.is_sound.ensures c.if-not-is_sound.true-raw
+pub returns-in_err-g : goal.returns-in_err-g
+returns-in_err-g c =
+    let a = c.args in
+    let gone : c.from_residual.result ≡ Err c.in_err-g.field-0.0 = grind arith in
+    rw gone (refused_call _ (lent a.tables.now a.log.now a.out.now) (command (look_call a.c)) c.in_err-g.field-0.0 c.in_err-g.ensures)
 
 pub slot_of-link-requires : goal.slot_of-link-requires
-slot_of-link-requires c =
-    let memory : (Memory) = (lent c.args.tables.now c.args.log.now c.args.out.now) in
-    let asked : (Command) = (command (look_call c.args.c)) in
-    let six : (Geometry) = (geometry_of c.args.arenas c.args.per c.args.pages c.args.records c.args.turn c.args.words) in
-    let is_made : (MadeOf (six) c.in-Made.g) = (made_of (six) c.in-Made.g c.new-made.ensures.is c.in-Made.is) in
-    let s = c in
-    (perform_requires_of (memory) (asked) (is_made) c.is_short.ensures c.if-is_short.false
-    c.is_sound.ensures c.if-not-is_sound.false-raw).0
+slot_of-link-requires c = let a = c.args in (calls_require (lent a.tables.now a.log.now a.out.now) c.in_ok-g.ensures).0
 
 pub look-requires : goal.look-requires
 look-requires c =
-    let memory : (Memory) = (lent c.args.tables.now c.args.log.now c.args.out.now) in
-    let asked : (Command) = (command (look_call c.args.c)) in
-    let six : (Geometry) = (geometry_of c.args.arenas c.args.per c.args.pages c.args.records c.args.turn c.args.words) in
-    let is_made : (MadeOf (six) c.in-Made.g) = (made_of (six) c.in-Made.g c.new-made.ensures.is c.in-Made.is) in
-    let s = c in
-    let p = perform_requires_of (memory) (asked) (is_made) c.is_short.ensures c.if-is_short.false
-    c.is_sound.ensures c.if-not-is_sound.false-raw in
+    let a = c.args in
+    let p = calls_require (lent a.tables.now a.log.now a.out.now) c.in_ok-g.ensures in
     let link = c.slot_of-link in
-    (p.0, p.2, found_link c.in-Made.g s.args.tables.now (asked) link.result c.record_seen.ensures (link.ensures.is, link.ensures.range))
+    (p.0, p.2, found_link c.in_ok-g.g a.tables.now (command (look_call a.c)) link.result c.record_seen.ensures (link.ensures.is, link.ensures.range))
 
 pub returns : goal.returns
 returns c =
-    let memory : (Memory) = (lent c.args.tables.now c.args.log.now c.args.out.now) in
-    let asked : (Command) = (command (look_call c.args.c)) in
-    let six : (Geometry) = (geometry_of c.args.arenas c.args.per c.args.pages c.args.records c.args.turn c.args.words) in
-    let is_made : (MadeOf (six) c.in-Made.g) = (made_of (six) c.in-Made.g c.new-made.ensures.is c.in-Made.is) in
-    let s = c in
-    let p = perform_requires_of (memory) (asked) (is_made) c.is_short.ensures c.if-is_short.false
-    c.is_sound.ensures c.if-not-is_sound.false-raw in
-    call_done (memory) (asked) (is_made) c.is_short.ensures c.if-is_short.false c.is_sound.ensures
-    c.if-not-is_sound.false-raw _ _ _ _
-    (look_performed _ c.in-Made.g s.args.tables.now s.args.log.now s.args.out.now _ s.args.c p.0 (c.look.ensures.reply, c.look.ensures.out))
+    let a = c.args in
+    let p = calls_require (lent a.tables.now a.log.now a.out.now) c.in_ok-g.ensures in
+    call_done (lent a.tables.now a.log.now a.out.now) c.in_ok-g.ensures _ _ _ _ _
+    (look_performed _ c.in_ok-g.g a.tables.now a.log.now a.out.now _ a.c p.0 (c.look.ensures.reply, c.look.ensures.out))

@@ -1,16 +1,14 @@
--- `full_word`: by where the blocks end.
-use Rattle.store.proofs.Filling.{full_none, full_one, full_some, full_all}
+-- `full_word`: as many bits as blocks are left for it, 32 at most.
+use mathlib.Core.Path.{◌≡◌, ap, ◌∙◌}
+use Prim.Native.Nat.{min, ◌-◌, ◌*◌, ◌^◌}
 use native.Mathlib.Omega.{arith}
+use Rattle.std.proofs.lemmas.Nat.{one_shl}
+use Rattle.store.specs.Fresh.{full_word}
 use Rattle.store.proofs.make.full_word.Goals as goal
 
-pub returns-then-n-k : goal.returns-then-n-k
-returns-then-n-k c = full_none c.args.n c.args.k c.if-n-k.true
-
-pub overflow_sub-result-then-n-k-2 : goal.overflow_sub-result-then-n-k-2
-overflow_sub-result-then-n-k-2 c = full_one c.args.n c.args.k (omega arith) (omega arith)
-
-pub returns-then-n-k-2 : goal.returns-then-n-k-2
-returns-then-n-k-2 c = full_some c.args.n c.args.k (omega arith) (omega arith)
-
 pub returns : goal.returns
-returns c = full_all c.args.n c.args.k c.if-n-k-2.false
+unfolding full_word
+returns c =
+    let n = c.min-blocks.result in
+    let e : n ≡ min 32 (c.args.n - 32 * c.args.k) = omega arith in
+    ap (λ m. m - 1) (one_shl n 64 (omega arith)) ∙ ap (λ m. 2 ^ m - 1) e

@@ -1,83 +1,29 @@
--- `attach`: each return is one law of `Admitted`, as in `call`. Log and result buffer stay.
-use mathlib.Core.Path.{refl}
-use Rattle.geometry.specs.declared.Geometry.{Geometry}
-use Rattle.geometry.specs.Limits.{geometry_of}
-use Rattle.alloc_log.proofs.Tools.{MadeOf, made_of, outside}
-use Rattle.model.specs.Command.{Command, Attach}
-use Rattle.model.specs.Memory.{Memory, lent}
-use Rattle.store.proofs.Admitted.{call_2, call_3, call_4, call_done, sound_requires, perform_requires_of}
+-- `attach`: a refusal changes nothing, and what the engine promises is what is promised here. Log and result buffer stay.
+use Rattle.std.proofs.Common.{◌≡◌, refl, Err, arith}
+use Rattle.model.specs.Command.{Attach}
+use Rattle.model.specs.Memory.{lent}
 use Rattle.engine.proofs.Untouched.{tables_alone}
+use Rattle.store.proofs.Admitted.{refused_call, call_done, calls_require}
 use Rattle.store.proofs.names.attach.Goals as goal
 
-pub returns-in_default : goal.returns-in_default
-returns-in_default c =
-    let six : (Geometry) = (geometry_of c.args.arenas c.args.per c.args.pages c.args.records c.args.turn c.args.words) in
-    let memory : (Memory) = (lent c.args.tables.now c.args.log.now c.args.out.now) in
-    let asked : (Command) = (Attach c.args.name.now c.args.number) in
-    call_2 (memory) (asked) (six) (outside (six) c.in_default.field-0 c.new-made.ensures.is c.in_default.is)
-
-pub is_short-requires : goal.is_short-requires
-is_short-requires c =
-    let six : (Geometry) = (geometry_of c.args.arenas c.args.per c.args.pages c.args.records c.args.turn c.args.words) in
-    let is_made : (MadeOf (six) c.in-Made.g) = (made_of (six) c.in-Made.g c.new-made.ensures.is c.in-Made.is) in
-    (is_made).inside
-
-pub returns-then-is_short : goal.returns-then-is_short
-returns-then-is_short c =
-    let memory : (Memory) = (lent c.args.tables.now c.args.log.now c.args.out.now) in
-    let asked : (Command) = (Attach c.args.name.now c.args.number) in
-    let six : (Geometry) = (geometry_of c.args.arenas c.args.per c.args.pages c.args.records c.args.turn c.args.words) in
-    let is_made : (MadeOf (six) c.in-Made.g) = (made_of (six) c.in-Made.g c.new-made.ensures.is c.in-Made.is) in
-    let s = c in
-    call_3 (memory) (asked) (is_made) c.is_short.ensures c.if-is_short.true
-
-pub is_sound-requires : goal.is_sound-requires
-is_sound-requires c =
-    let memory : (Memory) = (lent c.args.tables.now c.args.log.now c.args.out.now) in
-    let asked : (Command) = (Attach c.args.name.now c.args.number) in
-    let six : (Geometry) = (geometry_of c.args.arenas c.args.per c.args.pages c.args.records c.args.turn c.args.words) in
-    let is_made : (MadeOf (six) c.in-Made.g) = (made_of (six) c.in-Made.g c.new-made.ensures.is c.in-Made.is) in
-    let s = c in
-    sound_requires (memory) (asked) (is_made) c.is_short.ensures c.if-is_short.false
-
-pub returns-then-not-is_sound : goal.returns-then-not-is_sound
-returns-then-not-is_sound c =
-    let memory : (Memory) = (lent c.args.tables.now c.args.log.now c.args.out.now) in
-    let asked : (Command) = (Attach c.args.name.now c.args.number) in
-    let six : (Geometry) = (geometry_of c.args.arenas c.args.per c.args.pages c.args.records c.args.turn c.args.words) in
-    let is_made : (MadeOf (six) c.in-Made.g) = (made_of (six) c.in-Made.g c.new-made.ensures.is c.in-Made.is) in
-    let s = c in
-    call_4 (memory) (asked) (is_made) c.is_short.ensures c.if-is_short.false c.is_sound.ensures c.if-not-is_sound.true-raw
+pub returns-in_err-g : goal.returns-in_err-g
+returns-in_err-g c =
+    let a = c.args in
+    let gone : c.from_residual.result ≡ Err c.in_err-g.field-0.0 = grind arith in
+    rw gone (refused_call _ (lent a.tables.now a.log.now a.out.now) (Attach a.name.now a.number) c.in_err-g.field-0.0 c.in_err-g.ensures)
 
 pub slot_of-link-requires : goal.slot_of-link-requires
-slot_of-link-requires c =
-    let memory : (Memory) = (lent c.args.tables.now c.args.log.now c.args.out.now) in
-    let asked : (Command) = (Attach c.args.name.now c.args.number) in
-    let six : (Geometry) = (geometry_of c.args.arenas c.args.per c.args.pages c.args.records c.args.turn c.args.words) in
-    let is_made : (MadeOf (six) c.in-Made.g) = (made_of (six) c.in-Made.g c.new-made.ensures.is c.in-Made.is) in
-    let s = c in
-    (perform_requires_of (memory) (asked) (is_made) c.is_short.ensures c.if-is_short.false
-    c.is_sound.ensures c.if-not-is_sound.false-raw).0
+slot_of-link-requires c = let a = c.args in (calls_require (lent a.tables.now a.log.now a.out.now) c.in_ok-g.ensures).0
 
 pub attach-requires : goal.attach-requires
 attach-requires c =
-    let memory : (Memory) = (lent c.args.tables.now c.args.log.now c.args.out.now) in
-    let asked : (Command) = (Attach c.args.name.now c.args.number) in
-    let six : (Geometry) = (geometry_of c.args.arenas c.args.per c.args.pages c.args.records c.args.turn c.args.words) in
-    let is_made : (MadeOf (six) c.in-Made.g) = (made_of (six) c.in-Made.g c.new-made.ensures.is c.in-Made.is) in
-    let s = c in
-    let p = perform_requires_of (memory) (asked) (is_made) c.is_short.ensures c.if-is_short.false
-    c.is_sound.ensures c.if-not-is_sound.false-raw in
+    let a = c.args in
+    let p = calls_require (lent a.tables.now a.log.now a.out.now) c.in_ok-g.ensures in
     (p.0, (c.slot_of-link.ensures.is, c.slot_of-link.ensures.range))
 
 pub returns : goal.returns
 returns c =
-    let memory : (Memory) = (lent c.args.tables.now c.args.log.now c.args.out.now) in
-    let asked : (Command) = (Attach c.args.name.now c.args.number) in
-    let six : (Geometry) = (geometry_of c.args.arenas c.args.per c.args.pages c.args.records c.args.turn c.args.words) in
-    let is_made : (MadeOf (six) c.in-Made.g) = (made_of (six) c.in-Made.g c.new-made.ensures.is c.in-Made.is) in
-    let s = c in
+    let a = c.args in
     let e = c.attach.ensures in
-    call_done (memory) (asked) (is_made) c.is_short.ensures c.if-is_short.false
-    c.is_sound.ensures c.if-not-is_sound.false-raw _ _ _ _
-    (tables_alone _ c.in-Made.g s.args.tables.now s.args.log.now s.args.out.now _ (asked) refl refl (e.reply _, e.tables))
+    call_done (lent a.tables.now a.log.now a.out.now) c.in_ok-g.ensures _ _ _ _ _
+    (tables_alone _ c.in_ok-g.g a.tables.now a.log.now a.out.now _ (Attach a.name.now a.number) refl refl (e.reply _, e.tables))

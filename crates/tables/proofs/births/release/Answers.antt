@@ -10,31 +10,16 @@ use Rattle.tables.proofs.Releasing.{Raised, raised_none, raised_next, raised_all
 use native.Mathlib.Omega.{arith}
 use Rattle.tables.proofs.births.release.Goals as goal
 
-pub bounds-t-11 : goal.bounds-t-11
-bounds-t-11 c = let R = c.requires in omega (arith, R.roomy.room)
-
 pub loop-i-init : goal.loop-i-init
 loop-i-init c = let a = c.args in
     let R = c.requires in
     (R, c.wide-n.ensures ∙ sym (waiting_length a.g a.t.now), omega arith, raised_none a.g a.t.now R)
 
-pub waiting_at-requires : goal.waiting_at-requires
-waiting_at-requires c = c.loop-i.invariant.0.roomy.inside
-
-pub overflow_add-waiting_at : goal.overflow_add-waiting_at
-overflow_add-waiting_at c = let l = c.loop-i in
-    let R = l.invariant.0 in
-    omega (arith, c.waiting_at.ensures, place_low _ _ R _ _ l.invariant.1 c.loop-i-test.true, R.roomy.inside.blocks_most, R.roomy.inside.records_most, R.roomy.room, l.invariant.3.long)
-
-pub offset_bounds-t-waiting_at : goal.offset_bounds-t-waiting_at
-offset_bounds-t-waiting_at c = let l = c.loop-i in
-    let R = l.invariant.0 in
-    omega (arith, c.waiting_at.ensures, place_low _ _ R _ _ l.invariant.1 c.loop-i-test.true, R.roomy.inside.blocks_most, R.roomy.inside.records_most, R.roomy.room, l.invariant.3.long)
-
 pub bounds-t-waiting_at : goal.bounds-t-waiting_at
 bounds-t-waiting_at c = let l = c.loop-i in
     let R = l.invariant.0 in
-    omega (arith, c.waiting_at.ensures, place_low _ _ R _ _ l.invariant.1 c.loop-i-test.true, R.roomy.inside.blocks_most, R.roomy.inside.records_most, R.roomy.room, l.invariant.3.long)
+    let low = place_low _ _ R _ _ l.invariant.1 c.loop-i-test.true in
+    omega (arith, c.waiting_at.ensures, low, R.roomy.inside.blocks_most, R.roomy.inside.records_most, R.roomy.room, l.invariant.3.long)
 
 pub raise-requires : goal.raise-requires
 raise-requires c = let l = c.loop-i in

@@ -5,11 +5,9 @@ use Rattle.tables.specs.Columns.{column_has, gathered}
 use Rattle.tables.proofs.Seeks
 use Rattle.tables.proofs.find.follower_of.Goals as goal
 
-pub returns-then-t-next-ne0 : goal.returns-then-t-next-ne0
-returns-then-t-next-ne0 c = let both = Seeks.follower_there _ _ c.requires.0 _ _ _ refl c.own_slot-next.ensures.range c.if-t-next.true c.if-t-next-ne0.true in record {
-  is = both.0;
-  range = both.1;
-}
+pub returns-then-t-next-ne0-clause-is : goal.returns-then-t-next-ne0-clause-is
+returns-then-t-next-ne0-clause-is c =
+    (Seeks.follower_there _ _ c.requires.0 _ _ _ refl c.own_slot-next.ensures.range c.if-t-next.true c.if-t-next-ne0.true).0
 
 pub returns-then-g-eq64 : goal.returns-then-g-eq64
 returns-then-g-eq64 c = let both = Seeks.follower_found _ _ c.requires.0 _ _ _ refl

@@ -1,14 +1,9 @@
 -- Links joined bit by bit, of the column of numbers.
-use native.Mathlib.Omega.{arith}
-use Rattle.tables.proofs.Seeks
+use Rattle.std.proofs.Common.{rules}
+use Rattle.tables.specs.Columns.{column_has}
+use Rattle.tables.proofs.Seeks.{live_test}
 use Rattle.tables.proofs.find.links_of.Goals as goal
 
-pub loop-s-init : goal.loop-s-init
-loop-s-init c = (omega arith, omega arith, Seeks.gather_none _)
-
-pub loop-s-preserved : goal.loop-s-preserved
-loop-s-preserved c =
-    (omega arith, omega arith, Seeks.gather_number _ _ _ _ _ _ c.requires.2 c.loop-s.invariant.1 c.loop-s.invariant.2 c.link_at-found.ensures)
-
 pub returns : goal.returns
-returns c = Seeks.gather_all _ _ _ _ c.loop-s.invariant.0 c.loop-s-test.false c.loop-s.invariant.2
+unfolding column_has
+returns c = let a = c.args in c.links_where.ensures (column_has a.t.now 192 a.v) (λ s r h e. search (rules, live_test))

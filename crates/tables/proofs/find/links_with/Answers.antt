@@ -1,14 +1,9 @@
--- Links joined bit by bit: at each turn those of the slots that were seen.
-use native.Mathlib.Omega.{arith}
-use Rattle.tables.proofs.Seeks
+-- Links joined bit by bit, of one column.
+use Rattle.std.proofs.Common.{rules}
+use Rattle.tables.specs.Columns.{column_has}
+use Rattle.tables.proofs.Seeks.{live_is}
 use Rattle.tables.proofs.find.links_with.Goals as goal
 
-pub loop-s-init : goal.loop-s-init
-loop-s-init c = (omega arith, omega arith, Seeks.gather_none _)
-
-pub loop-s-preserved : goal.loop-s-preserved
-loop-s-preserved c =
-    (omega arith, omega arith, Seeks.gather_next _ _ _ _ _ _ _ c.loop-s.invariant.1 c.loop-s.invariant.2 c.link_if-found.ensures)
-
 pub returns : goal.returns
-returns c = Seeks.gather_all _ _ _ _ c.loop-s.invariant.0 c.loop-s-test.false c.loop-s.invariant.2
+unfolding column_has
+returns c = let a = c.args in c.links_where.ensures (column_has a.t.now a.column a.v) (λ s r h e. search (rules, live_is))

@@ -6,7 +6,4 @@ use Rattle.tables.specs.Columns.{empty_in}
 use Rattle.tables.proofs.find.vacant_slot.Given as goal
 
 abbrev pub invariant-loop-s : goal.invariant-loop-s
-invariant-loop-s l = (l.s ≤ l.initial.s) × (l.found ≤ l.initial.s) × (l.found ≡ seek (empty_in l.t) l.s (l.initial.s - l.s))
-
-abbrev pub decreases-loop-s : goal.decreases-loop-s
-decreases-loop-s l = l.s
+invariant-loop-s l = (l.found ≤ l.fn.g.records) × (l.found ≡ seek (empty_in l.t) l.s (l.fn.g.records - l.s))

@@ -7,12 +7,6 @@ use Rattle.tables.proofs.links.frees_on.Goals as goal
 pub returns-then-link-eq0 : goal.returns-then-link-eq0
 returns-then-link-eq0 c = search (Behind.frees_none)
 
-pub overflow_add-g-2 : goal.overflow_add-g-2
-overflow_add-g-2 c = omega (arith, Ranges.page_cell_le c.requires.0 _ c.requires.2 _ c.requires.3)
-
-pub offset_bounds-t-g : goal.offset_bounds-t-g
-offset_bounds-t-g c = omega (arith, Ranges.page_cell_le c.requires.0 _ c.requires.2 _ c.requires.3)
-
 pub bounds-t-g : goal.bounds-t-g
 bounds-t-g c = omega (arith, Ranges.page_cell_le c.requires.0 _ c.requires.2 _ c.requires.3)
 

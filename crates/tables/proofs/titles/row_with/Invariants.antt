@@ -2,11 +2,10 @@
 use mathlib.Core.Path.{◌≡◌}
 use mathlib.Core.Bool.{Bool}
 use mathlib.Core.List.{List}
-use Prim.Native.Nat.{ℕ, ◌-◌, ◌≤◌}
+use Prim.Native.Nat.{ℕ, ◌-◌}
 use lib.Dec.{eqb}
 use Rattle.model.specs.Table.{seek}
 use Rattle.model.specs.Layout.{titles_of}
-use Rattle.tables.specs.Titles.{row_with}
 use Rattle.tables.proofs.titles.row_with.Given as goal
 
 -- row i has the link
@@ -14,7 +13,4 @@ abbrev pub has : List ℕ → ℕ → ℕ → Bool
 has t link i = eqb ((titles_of t).owner i) link
 
 abbrev pub invariant-loop-i : goal.invariant-loop-i
-invariant-loop-i l = (l.i ≤ 32) × (row_with (titles_of l.t) l.link ≡ seek (has l.t l.link) l.i (32 - l.i))
-
-abbrev pub decreases-loop-i : goal.decreases-loop-i
-decreases-loop-i l = 32 - l.i
+invariant-loop-i l = seek (has l.t l.link) 0 32 ≡ seek (has l.t l.link) l.i (32 - l.i)
