@@ -11,7 +11,17 @@ use Rattle.geometry.specs.Limits.{blocks, fits}
 use Rattle.geometry.proofs.Made.{fits_inside}
 use Rattle.alloc_log.specs.Marks.{held_in, held_blocks}
 use Rattle.alloc_log.specs.Settled.{settled}
-use Rattle.alloc_log.specs.Tool.{marks_of, held_at_end, every_conditions, every_reply, read_reply, compact_reply_of, compact_words, compact_conditions, compact_reply}
+use Rattle.alloc_log.specs.Tool.{
+  marks_of,
+  held_at_end,
+  every_conditions,
+  every_reply,
+  read_reply,
+  compact_reply_of,
+  compact_words,
+  compact_conditions,
+  compact_reply,
+}
 use Rattle.alloc_log.proofs.RoundTrip.{compressed_length}
 use Rattle.alloc_log.proofs.AlikeFacts.{one_same}
 use Rattle.alloc_log.proofs.Tools.{pass_length}
@@ -22,10 +32,12 @@ module _ (g : Geometry) (log out : List ℕ) where
   few_held = pass_length (held_in (marks_of g (settled log))) 0 (blocks g)
 
   -- the numbers that a reading gives are in the buffer
-  pub read_room : {r : Result ℕ Refusal} (n : ℕ) (left : List ℕ) → r ≡ Ok n → reply_of r left ≡ read_reply g log out → length left ≡ length out → n ≤ length left
+  pub read_room : {r : Result ℕ Refusal} (n : ℕ) (left : List ℕ) → r ≡ Ok n →
+      reply_of r left ≡ read_reply g log out → length left ≡ length out → n ≤ length left
   unfolding reply_of read_reply every_reply
   read_room n left a e k =
-      let d = decide_accepted (every_conditions g (settled log) out) (held_at_end g (settled log)) (take n left) (sym e ∙ ap (λ (r : Result ℕ Refusal). reply_of r left) a) in
+      let d = decide_accepted (every_conditions g (settled log) out) (held_at_end g (settled log)) (take n left)
+      (sym e ∙ ap (λ (r : Result ℕ Refusal). reply_of r left) a) in
       let h = ltb-false (length out) (2 * blocks g + 64) d.0.1.0 in
       let f = few_held in
       cases (lt? (length left) n)

@@ -2,7 +2,7 @@
 ghost use Rattle.std.specs.Prelude.{◌≡◌, ℕ, ◌*◌, ◌≤◌, Bool, length};
 ghost use Rattle.std.proofs.lemmas.List.Edits.{sets};
 ghost use Rattle.answer.specs.Reply.{reply_of};
-ghost use Rattle.geometry.specs.Limits.{geometry_of};
+ghost use Rattle.geometry.specs.Limits.{asked};
 ghost use Rattle.alloc_log.specs.Word.{words};
 ghost use Rattle.alloc_log.specs.Marks.{held_blocks};
 ghost use Rattle.alloc_log.specs.Settled.{up_to_barrier};
@@ -12,7 +12,7 @@ use crate::compress::compress;
 use crate::read::read_log;
 use crate::word::get_word;
 use answer::{Answer, Refusal};
-use geometry::Geometry;
+use geometry::{Geometry, Numbers};
 
 // Writes the held ones of the first n blocks to `out`, rising, and returns how many there are.
 fn list_held(marks: &[u8; 2048], n: usize, out: &mut [u32]) -> usize
@@ -42,20 +42,11 @@ fn settled_end(log: &[u8]) -> usize
 }
 
 // Reads what is settled of a log of any length. `Ok(n)`: the first n numbers of `out` are the held blocks, rising. Refusals 2, 3, 7.
-pub fn read_held(
-    arenas: usize,
-    per: usize,
-    pages: usize,
-    records: usize,
-    turn: usize,
-    words: usize,
-    log: &[u8],
-    out: &mut [u32],
-) -> Answer
-    ensures reply { reply_of result out.new ≡ read_reply (geometry_of arenas per pages records turn words) log.now out.old }
-    ensures out { out.new ≡ read_out (geometry_of arenas per pages records turn words) log.now out.old }
+pub fn read_held(numbers: Numbers, log: &[u8], out: &mut [u32]) -> Answer
+    ensures reply { reply_of result out.new ≡ read_reply (asked numbers) log.now out.old }
+    ensures out { out.new ≡ read_out (asked numbers) log.now out.old }
 {
-    let g = Geometry::new(arenas, per, pages, records, turn, words)?;
+    let g = Geometry::new(numbers)?;
     let blocks = g.arenas * g.per;
     if out.len() < 2 * blocks + 64 {
         return Err(Refusal::TooShort);
@@ -68,19 +59,10 @@ pub fn read_held(
 }
 
 // Whether two logs of any length are alike, by the blocks that they hold at their end. Refusals 2, 7.
-pub fn compare(
-    arenas: usize,
-    per: usize,
-    pages: usize,
-    records: usize,
-    turn: usize,
-    words: usize,
-    first: &[u8],
-    second: &[u8],
-) -> Result<bool, Refusal>
-    ensures { verdict_of result ≡ compare_verdict (geometry_of arenas per pages records turn words) first.now second.now }
+pub fn compare(numbers: Numbers, first: &[u8], second: &[u8]) -> Result<bool, Refusal>
+    ensures { verdict_of result ≡ compare_verdict (asked numbers) first.now second.now }
 {
-    let g = Geometry::new(arenas, per, pages, records, turn, words)?;
+    let g = Geometry::new(numbers)?;
     let Some(one) = read_log(first, g.arenas, g.per) else {
         return Err(Refusal::NoLog);
     };
@@ -92,20 +74,11 @@ pub fn compare(
 }
 
 // Writes a log of any length again, compressed, at the start of `out`, and returns how many words it has. Refusals 2, 3 (`out` shorter than the log words), 7.
-pub fn compact(
-    arenas: usize,
-    per: usize,
-    pages: usize,
-    records: usize,
-    turn: usize,
-    words: usize,
-    log: &[u8],
-    out: &mut [u8],
-) -> Result<usize, Refusal>
-    ensures reply { compact_reply_of result ≡ compact_reply (geometry_of arenas per pages records turn words) log.now out.old }
-    ensures out { out.new ≡ compact_out (geometry_of arenas per pages records turn words) log.now out.old }
+pub fn compact(numbers: Numbers, log: &[u8], out: &mut [u8]) -> Result<usize, Refusal>
+    ensures reply { compact_reply_of result ≡ compact_reply (asked numbers) log.now out.old }
+    ensures out { out.new ≡ compact_out (asked numbers) log.now out.old }
 {
-    let g = Geometry::new(arenas, per, pages, records, turn, words)?;
+    let g = Geometry::new(numbers)?;
     if out.len() < 8 * g.words {
         return Err(Refusal::TooShort);
     }

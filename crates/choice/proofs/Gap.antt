@@ -34,7 +34,8 @@ module _ (p : ℕ → Bool) (b q : ℕ) (told : Told p b q) where
 
     pub gap_inside : b % 32 + count_trailing_zeros 32 q < 32
     gap_inside =
-        cases (lt? (count_trailing_zeros 32 q) (32 - b % 32)) (λ h. omega arith) (λ h. absurd (true_false (tz_at 32 q some wide).1 (bit_high (32 - b % 32) q (count_trailing_zeros 32 q) fits h)))
+        cases (lt? (count_trailing_zeros 32 q) (32 - b % 32)) (λ h. omega arith)
+        (λ h. absurd (true_false (tz_at 32 q some wide).1 (bit_high (32 - b % 32) q (count_trailing_zeros 32 q) fits h)))
 
     pub gap_below : (j : ℕ) → j < count_trailing_zeros 32 q → p (b + j) ≡ false
     gap_below j h = told j (omega (arith, gap_inside)) ∙ tz_below 32 q j h

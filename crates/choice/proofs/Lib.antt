@@ -14,4 +14,6 @@ pub mod Runs
 pub mod Births
 pub mod Passes
 pub mod Agree
+pub mod Lowest
+pub mod Taking
 pub mod Examples

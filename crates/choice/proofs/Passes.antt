@@ -6,7 +6,7 @@ use native.Mathlib.Nat.{add-zero, add_assoc, mod-lt, mod-eq_of_lt, mod-add-mod, 
 use native.Mathlib.Numerals.{add-one}
 use native.Mathlib.Omega.{arith}
 use Rattle.answer.proofs.Cases.{cases, lt?}
-use Rattle.std.specs.Prelude.{None}
+use Rattle.std.specs.Prelude.{Option, Some, None, MatchOption, unwrap_or}
 use Rattle.choice.specs.First.{Full}
 use Rattle.choice.specs.Search.{chosen}
 use Rattle.choice.specs.Words.{first_from}
@@ -19,17 +19,25 @@ use Rattle.choice.proofs.Left.{left_arenas, arenas_all, arenas_end, arenas_pass}
 pub next_start : (a per : ℕ) → (a + 1) * per ≡ a * per + per
 next_start a per = rw (add-one a) (suc-mul a per)
 
--- an arena that begins no later than the end of the last is one of them, or the one after them
-pub arena_most : (arenas per a : ℕ) → 0 < per → a * per ≤ arenas * per → a ≤ arenas
-arena_most arenas per a z l =
-    cases (lt? arenas a)
-    (λ h. absurd (let m : suc arenas * per ≤ a * per = mul-le-mul_right per h in let n : ⊥ = omega (arith, suc-mul arenas per) in n))
-    (λ h. h)
-
 -- the first free block after arena a
 pub free_after : (free : ℕ → Bool) (arenas per a : ℕ) {r : ℕ} → arenas ≤ 16 → per ≤ 1024 → a < arenas
     → r ≡ first_from free (arenas * per) (a * per + per) (arenas * per - (a * per + per)) → Leads free (a * per + per) (arenas * per) r
 free_after free arenas per a h l u e = first_leads free (arenas * per) (a * per + per) e (few arenas per a h l u).0
+
+-- where each arena after a and before n ends no later than block b, arena n begins no later
+begins : (per a b n : ℕ) → a < n → a * per + per ≤ b → ((k : ℕ) → a + 1 ≤ k → k < n → k * per + per ≤ b) → n * per ≤ b
+begins per a b n l h f =
+    cases (lt? (a + 1) n)
+    (λ u. let e : n - 1 + 1 ≡ n = omega arith in omega (arith, rw e at (next_start (n - 1) per), f (n - 1) (omega arith) (omega arith)))
+    (λ u. let e : a + 1 ≡ n = omega arith in omega (arith, rw e at (next_start a per)))
+
+-- so does the first after a that ends after block b
+pub begins_first : (arenas per a b : ℕ) (r : Option ℕ) → a < arenas → a * per + per ≤ b
+    → MatchOption r ((k : ℕ) → a + 1 ≤ k → k < arenas → k * per + per ≤ b)
+    (λ i. (a + 1 ≤ i) × (i < arenas) × (b < i * per + per) × ((k : ℕ) → a + 1 ≤ k → k < i → k * per + per ≤ b))
+    → unwrap_or r arenas * per ≤ b
+begins_first arenas per a b None l h m = begins per a b arenas l h m
+begins_first arenas per a b (Some i) l h m = begins per a b i (omega (arith, m.0)) h m.3
 
 -- the arena that stands k after the one of a round
 pub arena_on : (first tried arenas a k : ℕ) → a ≡ (first + tried) % arenas → (a + k) % arenas ≡ (first + (tried + k)) % arenas

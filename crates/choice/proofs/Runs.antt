@@ -29,7 +29,8 @@ module _ (p : ℕ → Bool) (word : ℕ → ℕ) (tells : (b q : ℕ) → q ≡ 
       (λ h. let m : r ≡ hi = omega arith in m ∙ sym (past ∙ first_end p hi h))
 
   -- and so has word k
-  pub word_hit : (k : ℕ) {r : ℕ} → word k < 2 ^ 32 → 0 < word k → r ≡ min (32 * k + count_trailing_zeros 32 (word k)) hi → r ≡ first_from p hi (32 * k) (hi - 32 * k)
+  pub word_hit : (k : ℕ) {r : ℕ} → word k < 2 ^ 32 → 0 < word k → r ≡ min (32 * k + count_trailing_zeros 32 (word k)) hi →
+      r ≡ first_from p hi (32 * k) (hi - 32 * k)
   word_hit k fits some g =
       let d : 32 * k / 32 ≡ k = omega arith in
       let m : 32 * k % 32 ≡ 0 = omega arith in

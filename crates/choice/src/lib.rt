@@ -6,6 +6,8 @@ ghost use Rattle.choice.specs.Words.{bit, free_in, is_seen, seen_as, mark_in, fi
 ghost use Rattle.choice.specs.Search.{chosen};
 ghost use Rattle.choice.specs.Turn.{next, turned};
 
+pub mod bits;
+
 // A block, by its arena and how far after the arena's first block it stands.
 #[derive(Clone, Copy, Debug, PartialEq, Eq)]
 pub struct Place {
@@ -56,6 +58,7 @@ fn pass_fours(words: &[u32], k: usize, end: usize, skip: u32) -> usize
     ensures passed { (i : ℕ) → k ≤ i → i < result → get_or words.now i 0 ≡ skip }
 {
     let mut at = k;
+    // Kept: with `step_by` the last words, fewer than four, would need a branch and an end of their own.
     while at + 4 <= end && are_four(words, at, skip) {
         at += 4;
     }
@@ -179,24 +182,17 @@ fn none_free(words: &[u32], all: usize) -> bool
     bits == 0
 }
 
-// The first arena after `arena` that has a free block; `arenas` where none of those after it has one. It adds up the arenas' ends and
-// does not divide.
+// The first arena after `arena` that has a free block; `arenas` where none of those after it has one. It does not divide.
 #[tactic(auto, using(crate::proofs::Skips::few))]
 fn arena_after(words: &[u32], arenas: usize, per: usize, arena: usize) -> usize
     requires { (arena < arenas) × (arenas ≤ 16) × (0 < per) × (per ≤ 1024) × (arenas * per ≤ 32 * length words.now) }
     ensures range { (arena < result) × (result ≤ arenas) }
     ensures none { (b : ℕ) → arena * per + per ≤ b → b < result * per → free_in words.now b ≡ false }
 {
-    let first = arena * per + per;
-    let free = first_given(words, first, arenas * per);
-    let mut next = arena + 1;
-    let mut end = first + per;
-    // Kept: a `for` is no plainer, it would add up the ends beside its own counter.
-    while end <= free {
-        next += 1;
-        end += per;
-    }
-    next
+    let free = first_given(words, arena * per + per, arenas * per);
+    (arena + 1..arenas)
+        .find(|next| free < next * per + per)
+        .unwrap_or(arenas)
 }
 
 // The first free block: from the arena of the counter and the kind on, round; in each arena from its mark on, round. `words` are the free

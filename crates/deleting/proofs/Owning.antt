@@ -2,14 +2,15 @@
 use mathlib.Core.Path.{◌≡◌, refl, sym, ap, ap₂, ◌∙◌}
 use mathlib.Core.Bool.{true, false}
 use mathlib.Core.List.{List, [], ◌∷◌, ◌++◌, append-nil}
-use Prim.Native.Nat.{ℕ, zero, suc, ◌+◌, ◌-◌, ◌/◌, ◌^◌, ◌≤◌, ◌<◌}
+use Prim.Native.Nat.{ℕ, zero, suc, ◌+◌, ◌-◌, ◌≤◌, ◌<◌}
 use native.Mathlib.Omega.{arith}
+use lib.Bits.{bit_and}
 use lib.Count.{count_trailing_zeros}
 use lib.Dec.{eqb}
 use lib.ListN.{length, get_or, set, length-append}
 use lib.Seq.{sets, length-sets}
 use borrow.Author.Tests.{eq-eqb, ne_eqb, eqb-true, eqb-false, not-true, not-false}
-use Rattle.choice.specs.Words.{word_of}
+use Rattle.choice.proofs.Taking.{Left, left_none, left_inside, left_from, left_at, left_below, left_next}
 use Rattle.geometry.specs.declared.Geometry.{Geometry}
 use Rattle.model.specs.Table.{first_link}
 use Rattle.model.specs.Lists.{rows, on_page}
@@ -22,7 +23,6 @@ use Rattle.model.proofs.CheckFacts.{pruned_own}
 use Rattle.tables.specs.Ready.{Ready}
 use Rattle.tables.specs.Rows.{differs}
 use Rattle.tables.proofs.Fields
-use Rattle.tables.proofs.PagesWord.{bits_none, bits_inside, bits_below, bits_at}
 use Rattle.tables.proofs.Ranges
 use Rattle.tables.proofs.Sets.{sets_append, sets_last}
 
@@ -95,31 +95,38 @@ module _ (K : View) (s link : ℕ) (el : link ≡ parent K s) where
   own = own_at K s
 
   -- `rest` is what is left of the word of n pages from x on, after the first i
-  module _ (x n i : ℕ) {rest : ℕ} (few : n ≤ 32) (to : i ≤ n) (e : rest ≡ word_of (differs K s link) x n / 2 ^ i) where
-    here : rest ≡ word_of (differs K s link) x n / 2 ^ (x + i - x)
-    here = let z : x + i - x ≡ i = omega arith in rw z e
-
+  module _ (x n i : ℕ) {rest : ℕ} (few : n ≤ 32) (L : Left (differs K s link) x n i rest) where
     pub listed_end : rest ≡ 0 → rows (own_at K s) x i ≡ rows (own_at K s) x n
     listed_end z =
-        sym (rows_skip own x i (n - i) (λ j h. same_none (x + i + j) (bits_none (differs K s link) x n (x + i) few (omega arith) here z j (omega arith)))) ∙
-        ap (rows own x) (let w : i + (n - i) ≡ n = omega arith in w)
+        sym (rows_skip own x i (n - i) (λ j h. same_none (x + i + j)
+        (let at : x + (i + j) ≡ x + i + j = omega arith in rw at at (left_none (differs K s link) x n few L z (i + j) (omega arith) (omega arith))))) ∙
+        ap (rows own x) (let w : i + (n - i) ≡ n = omega (arith, L.to) in w)
 
     -- k is the next page that differs
-    module _ (some : rest ≡ 0 → ⊥) (k : ℕ) (ek : k ≡ i + count_trailing_zeros 32 rest) where
+    module _ (some : rest ≡ 0 → ⊥) (k : ℕ) (ek : k ≡ count_trailing_zeros 32 rest) where
       pub listed_inside : k < n
-      listed_inside = omega (arith, bits_inside (differs K s link) x n (x + i) few (omega arith) here some)
+      listed_inside = rw ek (left_inside (differs K s link) x n few L some)
+
+      pub listed_from : i ≤ k
+      listed_from = rw ek (left_from (differs K s link) x n few L some)
+
+      pub listed_left : Left (differs K s link) x n (k + 1) (bit_and rest (rest - 1))
+      listed_left = rw ek (left_next (differs K s link) x n few L some)
+
+      between : (j : ℕ) → j < k - i → differs K s link (x + i + j) ≡ false
+      between j h =
+          let at : x + (i + j) ≡ x + i + j = omega arith in
+          rw at at (left_below (differs K s link) x n few L some (i + j) (omega arith) (omega (arith, ek)))
 
       -- v is its link
       module _ (v : ℕ) (hv : v ≡ K.page s (x + k)) where
         next_page : rows own x (k + 1) ≡ rows own x i ++ on_page v
         next_page =
-            let z : ℕ = count_trailing_zeros 32 rest in
-            let at : x + i + z ≡ x + k = omega arith in
-            ap (rows own x) (let w : k + 1 ≡ i + z + 1 = omega arith in w) ∙
-            rows_behind own x i z (λ j h. same_none (x + i + j) (bits_below (differs K s link) x n (x + i) few (omega arith) here some j h)) ∙
+            let at : x + i + (k - i) ≡ x + k = omega (arith, listed_from) in
+            ap (rows own x) (let w : k + 1 ≡ i + (k - i) + 1 = omega (arith, listed_from) in w) ∙
+            rows_behind own x i (k - i) (λ j h. same_none (x + i + j) (between j h)) ∙
             ap (λ (m : List ℕ). rows own x i ++ m)
-            (apart_is (x + i + z) (bits_at (differs K s link) x n (x + i) few (omega arith) here some) ∙ ap (λ y. on_page (K.page s y)) at
-            ∙ ap on_page (sym hv))
+            (ap (own_at K s) at ∙ apart_is (x + k) (rw ek (left_at (differs K s link) x n few L some)) ∙ ap on_page (sym hv))
 
         pub listed_none : v ≡ 0 → rows (own_at K s) x (k + 1) ≡ rows (own_at K s) x i
         unfolding on_page

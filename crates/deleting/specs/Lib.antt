@@ -1,4 +1,3 @@
 -- What the stages of a deletion make of the state, and the verdict.
 pub mod Stages
 pub mod Verdict
-pub mod Bits

@@ -9,7 +9,7 @@ ghost use Rattle.model.specs.Effects.{pruned};
 ghost use Rattle.model.specs.Layout.{view_of};
 ghost use Rattle.tables.specs.Ready.{Roomy, Ready};
 
-use crate::bits::Bits;
+use choice::bits::Bits;
 use geometry::Geometry;
 use tables::cells::{BASE, PAGES, PREV, ROW};
 use tables::differ::differing;
@@ -44,6 +44,7 @@ fn count_word(t: &[u32], g: Geometry, s: usize, pred: usize, x: usize, n: usize)
 {
     let word = differing(g, t, s, pred, x, n);
     let mut found = 0;
+    // Kept: `list_word` walks the same pages; one function for both would take a closure that counts or writes, and be longer than the two.
     for k in Bits::of(word) {
         if page_at(t, g, s, x + k) != 0 {
             found += 1;
@@ -59,6 +60,7 @@ pub fn count_young(t: &[u32], g: Geometry, s: usize) -> usize
 {
     let pred = pred_link(t, g, s);
     let mut count = 0;
+    // Kept: `list_young` goes over the same words, for the reason in `count_word`.
     for x in (0..g.pages).step_by(32) {
         count += count_word(t, g, s, pred, x, (g.pages - x).min(32));
     }

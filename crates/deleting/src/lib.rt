@@ -1,7 +1,6 @@
 // D: a record leaves the store. Q: what that would queue.
 #![tactic(auto)]
 
-pub mod bits;
 pub mod delete;
 pub mod estimate;
 pub mod last;

@@ -73,7 +73,8 @@ pub of_call : (g : Geometry) (t log out : List ℕ) {c d : Call} → c ≡ d →
 of_call g t log out e r t' log' out' p = subst (λ c. Performed r t' log' out' g t log out (command c)) (sym e) p
 
 -- what a call promises that is lent the tables alone, and one that is lent the result buffer alone
-pub tables_alone : (r : Result ℕ Refusal) (g : Geometry) (t log out t' : List ℕ) (c : Command) → written g (state_of g t) c ≡ [] → result g (state_of g t) c ≡ [] →
+pub tables_alone : (r : Result ℕ Refusal) (g : Geometry) (t log out t' : List ℕ) (c : Command) → written g (state_of g t) c ≡ [] →
+    result g (state_of g t) c ≡ [] →
     (reply_of r out ≡ replied g t c) × (t' ≡ tables_left g t c) → Performed r t' log out g t log out c
 tables_alone r g t log out t' c w n p = (p.0, (p.1, (log_stays g t c log w, out_stays g t c out n)))
 
@@ -126,5 +127,6 @@ Answers r out' t out c g = (reply_of r out' ≡ replied g t c) × (out' ≡ out_
 pub copy_answers : {h g : Geometry} → h ≡ g → (r : Result ℕ Refusal) (out' t out : List ℕ) (c : Command) → Answers r out' t out c h → Answers r out' t out c g
 copy_answers e r out' t out c = subst (Answers r out' t out c) e
 
-pub copy_named : {h g : Geometry} → h ≡ g → (r : Result ℕ Refusal) (t' out' t out : List ℕ) (c : Command) → Named r t' out' h t out c → Named r t' out' g t out c
+pub copy_named : {h g : Geometry} → h ≡ g → (r : Result ℕ Refusal) (t' out' t out : List ℕ) (c : Command) → Named r t' out' h t out c →
+    Named r t' out' g t out c
 copy_named e r t' out' t out c = subst (λ k. Named r t' out' k t out c) e

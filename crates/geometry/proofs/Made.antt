@@ -104,7 +104,8 @@ module _ (arenas per pages records turn words : ℕ) where
       go false t f = let z : ◌≡◌ {A = ℕ} 0 1 = cc in absurd (omega arith)
 
   -- the refusal is 2, and the six numbers are outside
-  pub not_made : (r : Refusal) → making_of arenas per pages records turn words ≡ Err r → (r ≡ OutsideLimits) × (fits (geometry_of arenas per pages records turn words) ≡ false)
+  pub not_made : (r : Refusal) → making_of arenas per pages records turn words ≡ Err r →
+      (r ≡ OutsideLimits) × (fits (geometry_of arenas per pages records turn words) ≡ false)
   unfolding making_of
   not_made r e = go (fits it) refl e
     where

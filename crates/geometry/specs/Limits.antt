@@ -1,7 +1,8 @@
 -- "A store is made from six decimal numbers: arenas 1 to 16; blocks per arena 1 to 1,024, in all N = product, at most 2,048; pages 1 to 256;
 -- records in the store at one time 1 to 64; turn 1 to 4,096; log words from 2 × N + 2 to 8,192." (2.1)
-use Rattle.std.specs.Prelude.{ℕ, ◌+◌, ◌*◌, ◌≤◌, Bool, cond, ◌&&◌, leb, Result, Ok, Err}
+use Rattle.std.specs.Prelude.{◌≡◌, ℕ, ◌+◌, ◌*◌, ◌≤◌, Bool, cond, ◌&&◌, leb, Result, Ok, Err}
 use Rattle.geometry.specs.declared.Geometry.{Geometry}
+use Rattle.geometry.specs.declared.Numbers.{Numbers}
 use Rattle.answer.specs.declared.Refusal.{Refusal}
 use Rattle.answer.specs.declared.Refusal.TheVariants.{OutsideLimits}
 
@@ -13,6 +14,14 @@ blocks g = g.arenas * g.per
 abbrev pub geometry_of : ℕ → ℕ → ℕ → ℕ → ℕ → ℕ → Geometry
 geometry_of arenas per pages records turn words =
     record { arenas = arenas; per = per; pages = pages; records = records; turn = turn; words = words }
+
+-- six numbers that are asked for, as a geometry, inside the limits or not
+abbrev pub asked : Numbers → Geometry
+asked numbers = geometry_of numbers.arenas numbers.per numbers.pages numbers.records numbers.turn numbers.words
+
+-- the numbers that a geometry was made from
+abbrev pub AsksFor : Geometry → Numbers → Type 0
+AsksFor g numbers = asked numbers ≡ g
 
 -- ── the limits ──
 

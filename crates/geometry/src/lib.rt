@@ -2,10 +2,51 @@
 #![tactic(auto)]
 
 ghost use Rattle.std.specs.Prelude.{◌≡◌};
-ghost use Rattle.geometry.specs.Limits.{within, making_of};
+ghost use Rattle.geometry.specs.Limits.{within, AsksFor, making_of};
 ghost use Rattle.geometry.specs.Making.{reply_of, making};
 
 use answer::Refusal;
+
+// Six numbers that a store is asked for by: any numbers.
+#[derive(Clone, Copy, Debug, PartialEq, Eq)]
+pub struct Numbers {
+    pub arenas: usize,
+    pub per: usize,
+    pub pages: usize,
+    pub records: usize,
+    pub turn: usize,
+    pub words: usize,
+}
+
+impl Numbers {
+    pub fn of(
+        arenas: usize,
+        per: usize,
+        pages: usize,
+        records: usize,
+        turn: usize,
+        words: usize,
+    ) -> Numbers
+        ensures { result ≡ record { arenas = arenas; per = per; pages = pages; records = records; turn = turn; words = words } }
+    {
+        Numbers {
+            arenas,
+            per,
+            pages,
+            records,
+            turn,
+            words,
+        }
+    }
+}
+
+impl From<Geometry> for Numbers {
+    ghost from_gives = { AsksFor };
+
+    fn from(g: Geometry) -> Numbers {
+        Numbers::of(g.arenas, g.per, g.pages, g.records, g.turn, g.words)
+    }
+}
 
 #[derive(Clone, Copy, Debug, PartialEq, Eq)]
 pub struct Geometry {
@@ -72,46 +113,43 @@ impl Geometry {
     pub const MOST_OUT: usize = 4160;
 
     // The geometry of six numbers, refused where one lies outside its limits.
-    pub fn new(
-        arenas: usize,
-        per: usize,
-        pages: usize,
-        records: usize,
-        turn: usize,
-        words: usize,
-    ) -> Result<Geometry, Refusal>
-        ensures is { result ≡ making_of arenas per pages records turn words }
-        ensures reply { reply_of result ≡ making arenas per pages records turn words }
+    pub fn new(numbers: Numbers) -> Result<Geometry, Refusal>
+        ensures is { result ≡ making_of numbers.arenas numbers.per numbers.pages numbers.records numbers.turn numbers.words }
+        ensures reply { reply_of result ≡ making numbers.arenas numbers.per numbers.pages numbers.records numbers.turn numbers.words }
     {
-        if !inside(Geometry::MIN_ARENAS, arenas, Geometry::MAX_ARENAS) {
+        if !inside(Geometry::MIN_ARENAS, numbers.arenas, Geometry::MAX_ARENAS) {
             return Err(Refusal::OutsideLimits);
         }
-        if !inside(Geometry::MIN_PER, per, Geometry::MAX_PER) {
+        if !inside(Geometry::MIN_PER, numbers.per, Geometry::MAX_PER) {
             return Err(Refusal::OutsideLimits);
         }
-        let blocks = arenas * per;
+        let blocks = numbers.arenas * numbers.per;
         if Geometry::MAX_BLOCKS < blocks {
             return Err(Refusal::OutsideLimits);
         }
-        if !inside(Geometry::MIN_PAGES, pages, Geometry::MAX_PAGES) {
+        if !inside(Geometry::MIN_PAGES, numbers.pages, Geometry::MAX_PAGES) {
             return Err(Refusal::OutsideLimits);
         }
-        if !inside(Geometry::MIN_RECORDS, records, Geometry::MAX_RECORDS) {
+        if !inside(
+            Geometry::MIN_RECORDS,
+            numbers.records,
+            Geometry::MAX_RECORDS,
+        ) {
             return Err(Refusal::OutsideLimits);
         }
-        if !inside(Geometry::MIN_TURN, turn, Geometry::MAX_TURN) {
+        if !inside(Geometry::MIN_TURN, numbers.turn, Geometry::MAX_TURN) {
             return Err(Refusal::OutsideLimits);
         }
-        if !inside(2 * blocks + 2, words, Geometry::MAX_WORDS) {
+        if !inside(2 * blocks + 2, numbers.words, Geometry::MAX_WORDS) {
             return Err(Refusal::OutsideLimits);
         }
         Ok(Geometry {
-            arenas,
-            per,
-            pages,
-            records,
-            turn,
-            words,
+            arenas: numbers.arenas,
+            per: numbers.per,
+            pages: numbers.pages,
+            records: numbers.records,
+            turn: numbers.turn,
+            words: numbers.words,
         })
     }
 }

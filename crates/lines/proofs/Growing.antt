@@ -1,7 +1,7 @@
 -- A new record, store by store: its pages, the name that goes to it, then the rest of it.
 use mathlib.Core.Path.{◌≡◌, refl, sym, ap, ap₂, ◌∙◌, fun_ext}
 use mathlib.Core.List.{List, []}
-use Prim.Native.Nat.{ℕ, zero, suc, ◌+◌, ◌-◌, ◌*◌, ◌≤◌, ◌<◌}
+use Prim.Native.Nat.{ℕ, zero, suc, ◌+◌, ◌*◌, ◌≤◌, ◌<◌}
 use native.Mathlib.Numerals.{add-one}
 use native.Mathlib.Omega.{arith}
 use lib.ListN.{length, get_or, set, drop, replicate}
@@ -11,6 +11,7 @@ use borrow.Author.Tests.{eq-eqb, ne_eqb}
 use Rattle.std.proofs.lemmas.List.{length-drop, length-replicate, get_or-drop, get_or-replicate}
 use Rattle.std.proofs.lemmas.List.Edits.{paste_none, paste_more}
 use Rattle.std.proofs.lemmas.Slice.{put_mid-paste}
+use Rattle.std.specs.Prelude.{Option, Some, None}
 use Rattle.answer.proofs.Cases.{cases, same?, pos}
 use Rattle.geometry.specs.declared.Geometry.{Geometry}
 use Rattle.model.specs.View.{View, page_of}
@@ -25,6 +26,7 @@ use Rattle.model.proofs.LayoutFacts.{stored_length}
 use Rattle.tables.specs.Ready.{Ready}
 use Rattle.tables.specs.Puts.{with_last, with_num, with_open, with_prev, with_base, with_row, with_pages, with_list, with_window_at}
 use Rattle.tables.specs.Puts.{with_count, with_rows}
+use Rattle.tables.specs.Links.{link_of}
 use Rattle.tables.specs.Titles.{row_with}
 use Rattle.tables.proofs.Puts.{shaped_row}
 use Rattle.tables.proofs.Fields
@@ -36,7 +38,7 @@ use Rattle.tables.proofs.TitleStores.{step_moved}
 use Rattle.tables.proofs.Lists.{step_dropped, rest_said}
 use Rattle.tables.proofs.Reading.{reads_last, reads_base, reads_window, reads_names, reads_page}
 use Rattle.tables.proofs.Matches.{grow_is}
-use Rattle.tables.proofs.Loops.{put_there, pages_none, pages_all, pages_other, step_pages, row_ends}
+use Rattle.tables.proofs.Loops.{put_there, pages_none, pages_all, step_pages, row_ends}
 use Rattle.lines.specs.Growing.{paged, opened, handed, renamed, passed, viewed}
 
 module _ (g : Geometry) (t : List ℕ) where
@@ -99,17 +101,16 @@ module _ (T : State) (f : ℕ) where
 -- ── names that go to another slot ──
 
 -- the row that a link leads to
-pub handed_none : (t : List ℕ) (l f : ℕ) → l ≡ 0 → t ≡ handed t l f
+pub handed_none : (t : List ℕ) (r : Option ℕ) (f : ℕ) → r ≡ None → t ≡ handed t (link_of r) f
 unfolding handed
-handed_none t zero f e = refl
-handed_none t (suc i) f e = absurd (let z : ⊥ = omega arith in z)
+handed_none t r f e = sym (ap (λ (k : Option ℕ). handed t (link_of k) f) e)
 
 handed_row : (t : List ℕ) (l i f : ℕ) → l ≡ suc i → handed t l f ≡ set t (title_cell i) (suc f)
 unfolding handed
 handed_row t l i f e = ap (λ k. handed t k f) e
 
-pub handed_some : (t : List ℕ) (l f v : ℕ) → (l ≡ 0 → ⊥) → v ≡ suc f → set t (title_cell (l - 1)) v ≡ handed t l f
-handed_some t l f v n e = ap (set t (title_cell (l - 1))) e ∙ sym (handed_row t l (l - 1) f (omega arith))
+pub handed_some : (t : List ℕ) (r : Option ℕ) (i f v : ℕ) → r ≡ Some i → v ≡ suc f → set t (title_cell i) v ≡ handed t (link_of r) f
+handed_some t r i f v n e = ap (set t (title_cell i)) e ∙ sym (handed_row t (link_of r) i f (ap link_of n ∙ add-one i))
 
 -- what the code has done for a record with a name, and for one without
 pub renamed_is : (t u : List ℕ) (s f row link : ℕ) → u ≡ handed t row f → row ≡ row_with (titles_of t) link → link ≡ suc s →
@@ -313,7 +314,8 @@ module _ {g : Geometry} {t : List ℕ} (R : Ready g t) (f : ℕ) (p : List ℕ) 
       unfolding with_count with_rows with_open with_row
       gone_list = refl
 
-      pub sealed : (l c : ℕ) (u : List ℕ) → u ≡ opened x f l (get_or v (base_cell s) 0) (get_or v (window_cell s) 0) c → c ≡ get_or v (name_cell s) 0 → l ≡ suc s →
+      pub sealed : (l c : ℕ) (u : List ℕ) → u ≡ opened x f l (get_or v (base_cell s) 0) (get_or v (window_cell s) 0) c →
+          c ≡ get_or v (name_cell s) 0 → l ≡ suc s →
           w ≡ 0 → (s ≡ f → ⊥) → u ≡ viewed g t (seal T.view s f) (passed_notes T.notes s f)
       unfolding viewed
       sealed l c u d k i z o =

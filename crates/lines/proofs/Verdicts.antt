@@ -2,12 +2,12 @@
 use mathlib.Core.Path.{◌≡◌, sym, ap, ◌∙◌}
 use mathlib.Core.Bool.{Bool, true, false}
 use mathlib.Core.List.{List, [], ◌∷◌}
-use Prim.Native.Nat.{ℕ, pred, ◌-◌, ◌≤◌, ◌<◌}
+use Prim.Native.Nat.{ℕ, pred, ◌+◌, ◌-◌, ◌≤◌, ◌<◌}
 use native.Mathlib.Omega.{arith}
 use lib.Dec.{eqb}
 use lib.ListN.{get_or}
 use borrow.Author.Tests.{eq-eqb, ne_eqb, le-leb, lt-leb, lt-ltb, le-ltb}
-use Rattle.std.specs.Prelude.{Result, Ok, Err}
+use Rattle.std.specs.Prelude.{Option, Some, None, Result, Ok, Err}
 use Rattle.answer.specs.Reply.{refused}
 use Rattle.answer.specs.Refusal.{Condition, decide, NoneHolds}
 use Rattle.answer.proofs.Cases.{cases, either}
@@ -16,6 +16,7 @@ use Rattle.model.specs.Command.{Begin, Fork}
 use Rattle.model.specs.Actions.{slot_of, vacant}
 use Rattle.model.specs.Calls.{slot, conditions}
 use Rattle.model.specs.Layout.{open_cell, view_of, state_of}
+use Rattle.tables.specs.Links.{link_of}
 use Rattle.tables.proofs.Fields.{last_is, open_is}
 use Rattle.lines.specs.Verdicts.{verdict_of, verdict}
 
@@ -49,31 +50,36 @@ accepts (c ∷ cs) s f a b e =
     (λ y. absurd (not_both (rw y at e)))
     (λ n. let w = accepts cs s f a b (rw n at e) in ((n, w.0), w.1, w.2))
 
--- ── 11 and 12, e being the link of the first empty slot ──
+-- ── 11 and 12, e being the first empty slot ──
 
-module _ (g : Geometry) (t : List ℕ) (s e : ℕ) (is : e ≡ vacant (view_of g t)) where
-  pub room_none : e ≡ 0 → Err 11 ≡ verdict g t Begin s
+module _ (g : Geometry) (t : List ℕ) (s : ℕ) (e : Option ℕ) (is : link_of e ≡ vacant (view_of g t)) where
+  pub room_none : e ≡ None → Err 11 ≡ verdict g t Begin s
   unfolding verdict verdict_of state_of
-  room_none z = sym (rw (eq-eqb (vacant (view_of g t)) 0 (sym is ∙ z)))
+  room_none z = sym (rw (eq-eqb (vacant (view_of g t)) 0 (sym is ∙ ap link_of z)))
 
-  some : (e ≡ 0 → ⊥) → eqb (vacant (view_of g t)) 0 ≡ false
-  some n = ne_eqb (vacant (view_of g t)) 0 (λ z. n (is ∙ z))
+  module _ (f : ℕ) (at : e ≡ Some f) where
+    link : f + 1 ≡ vacant (view_of g t)
+    link = sym (ap link_of at) ∙ is
 
-  pub room_last : (e ≡ 0 → ⊥) → 999999 ≤ get_or t 6 0 → Err 12 ≡ verdict g t Begin s
-  unfolding verdict verdict_of state_of
-  room_last n h = sym (rw (some n, le-leb 999999 (view_of g t).last (omega (arith, last_is g t))))
+    some : eqb (vacant (view_of g t)) 0 ≡ false
+    some = ne_eqb (vacant (view_of g t)) 0 (λ z. let w : ⊥ = omega (arith, link) in w)
 
-  pub room_left : (e ≡ 0 → ⊥) → get_or t 6 0 < 999999 → Ok (s, e - 1) ≡ verdict g t Begin s
-  unfolding verdict verdict_of state_of
-  room_left n h =
-      let d : e - 1 ≡ pred (vacant (view_of g t)) = omega arith in
-      rw d (sym (rw (some n, lt-leb 999999 (view_of g t).last (omega (arith, last_is g t)))))
+    pub room_last : 999999 ≤ get_or t 6 0 → Err 12 ≡ verdict g t Begin s
+    unfolding verdict verdict_of state_of
+    room_last h = sym (rw (some, le-leb 999999 (view_of g t).last (omega (arith, last_is g t))))
+
+    pub room_left : get_or t 6 0 < 999999 → Ok (s, f) ≡ verdict g t Begin s
+    unfolding verdict verdict_of state_of
+    room_left h =
+        let d : f ≡ pred (vacant (view_of g t)) = omega (arith, link) in
+        rw d (sym (rw (some, lt-leb 999999 (view_of g t).last (omega (arith, last_is g t)))))
 
 -- ── 8 and 9 of a call on a record, e being the link of the record of number n: w says whether 9 holds ──
 
 module _ (g : Geometry) (t : List ℕ) (n e : ℕ) (is : e ≡ slot_of (view_of g t) n) where
   abbrev pub on : Bool → Verdict
-  on w = verdict_of ((8, eqb (slot_of (view_of g t) n) 0) ∷ (9, w) ∷ conditions g (state_of g t) Begin) (slot (state_of g t) n) (pred (vacant (state_of g t).view))
+  on w = verdict_of ((8, eqb (slot_of (view_of g t) n) 0) ∷ (9, w) ∷ conditions g (state_of g t) Begin)
+      (slot (state_of g t) n) (pred (vacant (state_of g t).view))
 
   pub on_none : (w : Bool) → e ≡ 0 → Err 8 ≡ on w
   unfolding verdict_of

@@ -1,9 +1,10 @@
 // A new record in an empty slot: its pages, then its number, its links, its empty deadlist, its window and its count of names; and what B, S and F do with it.
-ghost use Rattle.std.specs.Prelude.{◌≡◌, suc, ◌+◌, ◌≤◌, ◌<◌, length, get_or};
+ghost use Rattle.std.specs.Prelude.{◌≡◌, suc, ◌+◌, ◌≤◌, ◌<◌, length, get_or, IfSome};
 ghost use Rattle.model.specs.Effects.{begin, seal, fork};
 ghost use Rattle.model.specs.State.{bare_notes, passed_notes};
 ghost use Rattle.model.specs.Layout.{name_cell, view_of, state_of};
 ghost use Rattle.tables.specs.Ready.{Ready};
+ghost use Rattle.tables.specs.Links.{link_of};
 ghost use Rattle.lines.specs.Growing.{paged, opened, handed, renamed, passed, viewed};
 
 use geometry::Geometry;
@@ -48,15 +49,14 @@ fn open_record(t: &mut [u32], f: usize, prev: u32, base: u32, window: u32, names
     number
 }
 
-// The row that a link leads to goes to slot f; with no row nothing is stored.
-fn hand_row(t: &mut [u32], row: usize, f: usize)
-    requires { (row ≤ 32) × (f < 64) × (2048 ≤ length t.old) }
-    ensures { t.new ≡ handed t.old row f }
+// The row goes to slot f; with no row nothing is stored.
+fn hand_row(t: &mut [u32], row: Option<usize>, f: usize)
+    requires { IfSome row (λ i. i < 32) × (f < 64) × (2048 ≤ length t.old) }
+    ensures { t.new ≡ handed t.old (link_of row) f }
 {
-    if row == 0 {
-        return;
+    if let Some(i) = row {
+        t[TITLES + TITLE * i] = (f + 1) as u32;
     }
-    t[TITLES + TITLE * (row - 1)] = (f + 1) as u32;
 }
 
 // The name of the record in slot s goes to slot f: an open record has one at most. It stands apart: most records that are sealed have none.

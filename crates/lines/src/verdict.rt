@@ -18,14 +18,13 @@ pub fn room(t: &[u32], g: Geometry, s: usize) -> Result<(usize, usize), Refusal>
     requires { Roomy g t.now }
     ensures { numbered result ≡ verdict g t.now Begin s }
 {
-    let empty = vacant_slot(t, g);
-    if empty == 0 {
+    let Some(empty) = vacant_slot(t, g) else {
         return Err(Refusal::TableFull);
-    }
+    };
     if 999999 <= t[LAST] {
         return Err(Refusal::NumbersSpent);
     }
-    Ok((s, empty - 1))
+    Ok((s, empty))
 }
 
 // The verdict on F of the record of number n, with its link: it may not be open.

@@ -51,6 +51,7 @@ fn put_kept(log: &mut [u8], words: &[u32], arenas: usize, per: usize) -> usize
     for arena in 0..arenas {
         let mut b = arena * per;
         let edge = b + per;
+        // Kept: where a turn ends is known only after it, which no range tells.
         while b < edge {
             let from = first_kept(words, b, edge);
             b = first_given(words, from, edge);
@@ -75,7 +76,7 @@ pub fn compress_log(g: Geometry, t: &mut [u32], log: &mut [u8], out: &mut [u32])
     Ok(1)
 }
 
-// Writes the run of the blocks from lo on and below hi, where there are any, behind the first `at` numbers.
+// Writes the run of the blocks from lo on and below hi, where there are any, after the first `at` numbers.
 fn put_pair(out: &mut [u32], at: usize, lo: usize, hi: usize) -> usize
     requires { (at + 2 ≤ length out.old) × (at ≤ 4096) × (lo ≤ hi) × (hi ≤ 2048) }
     ensures count { result ≡ at + length (pairs (ending hi (hi - lo))) }
@@ -101,6 +102,7 @@ pub fn free_list(g: Geometry, t: &[u32], out: &mut [u32]) -> Answer
     for arena in 0..g.arenas {
         let mut b = arena * g.per;
         let edge = b + g.per;
+        // Kept: `put_kept` walks the runs between these; one walk for both would take two searches and the writing as closures, and be longer.
         while b < edge {
             let from = first_given(words, b, edge);
             b = first_kept(words, from, edge);

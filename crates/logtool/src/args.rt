@@ -1,18 +1,8 @@
 // The arguments: a command, arenas and blocks per arena, files.
 use crate::number::read_number;
-use geometry::Geometry;
+use geometry::{Geometry, Numbers};
 use std::env::FillError;
 use std::rt::Env;
-
-// A log depends on arenas and blocks per arena alone. The other numbers of a geometry are any inside their limits;
-// the log words are the most, which are enough for every number of blocks.
-pub const PAGES: usize = Geometry::MIN_PAGES;
-
-pub const RECORDS: usize = Geometry::MIN_RECORDS;
-
-pub const TURN: usize = Geometry::MIN_TURN;
-
-pub const WORDS: usize = Geometry::MAX_WORDS;
 
 // Which arguments name files.
 pub const FILE: usize = 4;
@@ -32,8 +22,20 @@ pub enum Command {
 #[derive(Clone, Copy)]
 pub struct Asked {
     pub command: Command,
-    pub arenas: usize,
-    pub per: usize,
+    pub numbers: Numbers,
+}
+
+// A log depends on arenas and blocks per arena alone. The other numbers of a geometry are any inside their limits;
+// the log words are the most, which are enough for every number of blocks.
+fn numbers_of(arenas: usize, per: usize) -> Numbers {
+    Numbers::of(
+        arenas,
+        per,
+        Geometry::MIN_PAGES,
+        Geometry::MIN_RECORDS,
+        Geometry::MIN_TURN,
+        Geometry::MAX_WORDS,
+    )
 }
 
 // The command of a name and a number of arguments, the program's own name among them.
@@ -60,12 +62,7 @@ fn is_given(rt: &impl Env, i: usize) -> bool {
 
 // How many arguments there are, the program's own name among them; 7 stands for more than 6.
 fn count(rt: &impl Env) -> usize {
-    for i in 0..7 {
-        if !is_given(rt, i) {
-            return i;
-        }
-    }
-    7
+    (0..7).find(|i| !is_given(rt, *i)).unwrap_or(7)
 }
 
 // A name that is missing or longer than the buffer is no command's.
@@ -82,7 +79,6 @@ pub fn read_args(rt: &impl Env) -> Option<Asked> {
     let per = number_at(rt, 3)?;
     Some(Asked {
         command,
-        arenas,
-        per,
+        numbers: numbers_of(arenas, per),
     })
 }

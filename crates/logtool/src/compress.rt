@@ -1,11 +1,12 @@
 // The command `compress`: a log written again, compressed, as a new file.
 ghost use Rattle.std.specs.Prelude.{◌*◌, ◌≤◌, length};
 
-use crate::args::{FILE, OTHER, PAGES, RECORDS, TURN, WORDS};
+use crate::args::{FILE, OTHER};
 use crate::file::{MOST, read_file, write_file};
 use crate::reply::{print_count, print_refusal};
 use crate::sentence::refused;
 use alloc_log::tool::compact;
+use geometry::Numbers;
 use std::rt::{Env, Files};
 
 // The bytes that a compressed log has room for.
@@ -24,12 +25,11 @@ fn keep(rt: &(impl Env + Files + Print), err: &impl Print, out: &[u8], words: us
 fn write_words(
     rt: &(impl Env + Files + Print),
     err: &impl Print,
-    arenas: usize,
-    per: usize,
+    numbers: Numbers,
     log: &[u8],
     out: &mut [u8],
 ) {
-    let compaction = compact(arenas, per, PAGES, RECORDS, TURN, WORDS, log, out);
+    let compaction = compact(numbers, log, out);
     match compaction {
         Ok(words) => keep(rt, err, out, words),
         Err(refusal) => {
@@ -39,16 +39,11 @@ fn write_words(
     }
 }
 
-pub fn write_compressed(
-    rt: &(impl Env + Files + Print),
-    err: &impl Print,
-    arenas: usize,
-    per: usize,
-) {
+pub fn write_compressed(rt: &(impl Env + Files + Print), err: &impl Print, numbers: Numbers) {
     let mut space = [0u8; MOST];
     let Some(n) = read_file(rt, err, FILE, &mut space) else {
         return;
     };
     let mut out = [0u8; ROOM];
-    write_words(rt, err, arenas, per, &space[..n], &mut out);
+    write_words(rt, err, numbers, &space[..n], &mut out);
 }

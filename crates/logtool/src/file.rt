@@ -59,6 +59,7 @@ fn read_full(file: &mut impl Read, space: &mut [u8]) -> usize
     ensures { result ≤ length space.new }
 {
     let mut done = 0;
+    // Kept: `read_exact` does not say how much was read before it failed.
     while done < space.len() {
         match file.read(&mut space[done..]) {
             Ok(n) if n > 0 => done += n,

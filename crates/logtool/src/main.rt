@@ -19,8 +19,8 @@ fn main(rt: HostRuntime) {
         return;
     };
     match asked.command {
-        Command::Held => held::print_held(&rt, &err, asked.arenas, asked.per),
-        Command::Compress => compress::write_compressed(&rt, &err, asked.arenas, asked.per),
-        Command::Compare => compare::print_comparison(&rt, &err, asked.arenas, asked.per),
+        Command::Held => held::print_held(&rt, &err, asked.numbers),
+        Command::Compress => compress::write_compressed(&rt, &err, asked.numbers),
+        Command::Compare => compare::print_comparison(&rt, &err, asked.numbers),
     }
 }

@@ -46,12 +46,9 @@ fn spell(error: &io::Error, text: &mut [u8; TEXT]) -> usize
 fn words_length(text: &[u8]) -> usize
     ensures { result ≤ length text.now }
 {
-    for i in 0..text.len() {
-        if text[i..].starts_with(b" (os error ") {
-            return i;
-        }
-    }
-    text.len()
+    (0..text.len())
+        .find(|i| text[*i..].starts_with(b" (os error "))
+        .unwrap_or(text.len())
 }
 
 // Why what was tried with a thing failed.

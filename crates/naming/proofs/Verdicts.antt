@@ -1,13 +1,14 @@
 -- The verdict on a call of a name: what the code's tests say of it, and what it says of the reply.
-use mathlib.Core.Path.{◌≡◌, sym, ap, ◌∙◌}
-use mathlib.Core.Bool.{Bool, true, false, not, ◌&&◌}
+use mathlib.Core.Path.{◌≡◌, refl, sym, ap, ◌∙◌}
+use mathlib.Core.Bool.{Bool, true, false, not, ◌&&◌, true≢false}
 use mathlib.Core.List.{List, [], ◌∷◌}
-use Prim.Native.Nat.{ℕ, pred, ◌-◌, ◌≤◌, ◌<◌}
+use Prim.Native.Nat.{ℕ, pred, ◌+◌, ◌-◌, ◌<◌}
 use native.Mathlib.Omega.{arith}
 use lib.Dec.{eqb, ltb}
 use lib.ListN.{get_or}
 use borrow.Author.Tests.{not-true, not-false, eq-eqb, ne_eqb, lt-ltb, le-ltb}
-use Rattle.std.specs.Prelude.{Ok, Err}
+use Rattle.std.specs.Prelude.{Option, Some, None, is_some, Err}
+use Rattle.std.specs.Option.{ok_or}
 use Rattle.answer.specs.declared.Refusal.TheVariants.{NoSuchRecord, BadName, NameUnfit}
 use Rattle.answer.specs.Reply.{accepted, refused}
 use Rattle.answer.specs.Refusal.{Condition, decide, NoneHolds}
@@ -17,6 +18,7 @@ use Rattle.geometry.specs.declared.Geometry.{Geometry}
 use Rattle.model.specs.Actions.{slot_of}
 use Rattle.model.specs.Names.{valid_name, row_of, empty_row}
 use Rattle.model.specs.Layout.{open_cell, name_cell, titles_of, view_of, notes_of, state_of}
+use Rattle.tables.specs.Links.{link_of}
 use Rattle.tables.specs.Titles.{row_with}
 use Rattle.tables.proofs.Fields
 use Rattle.tables.proofs.TitleRows.{row_with_zero}
@@ -31,6 +33,16 @@ module _ (g : Geometry) (t : List ℕ) (s : ℕ) (h : s < g.records) where
   pub second_open : (get_or t (open_cell s) 0 ≡ 0 → ⊥) →
       ltb 0 (get_or t (name_cell s) 0) ≡ (ltb 0 ((view_of g t).is_open s) && ltb 0 ((state_of g t).notes.names s))
   second_open n = rw (lt-ltb 0 ((view_of g t).is_open s) (omega (arith, Fields.open_is g t s h)), Fields.names_is g t s h)
+
+-- ── whether there is a row ──
+
+link_some : (row : Option ℕ) → is_some row ≡ true → 0 < link_of row
+link_some None e = absurd (true≢false (sym e))
+link_some (Some i) e = omega arith
+
+link_none : (row : Option ℕ) → is_some row ≡ false → link_of row ≡ 0
+link_none None e = refl
+link_none (Some i) e = absurd (true≢false e)
 
 -- ── N: v says that the name is valid ──
 
@@ -49,21 +61,21 @@ module _ (g : Geometry) (t l : List ℕ) (r : ℕ) {v : Bool} (ev : v ≡ valid_
     attach_absent z = rw (good, eq-eqb (slot_of (view_of g t) r) 0 (sym el ∙ z))
 
     -- row is the row of the name
-    module _ (there : link ≡ 0 → ⊥) (row : ℕ) (er : row ≡ row_of (titles_of t) l) where
+    module _ (there : link ≡ 0 → ⊥) (row : Option ℕ) (er : link_of row ≡ row_of (titles_of t) l) where
       present : eqb (slot_of (view_of g t) r) 0 ≡ false
       present = ne_eqb (slot_of (view_of g t) r) 0 (λ e. there (el ∙ e))
 
       slot_is : link - 1 ≡ pred (slot_of (view_of g t) r)
       slot_is = omega (arith, el)
 
-      pub attach_used : 0 < row → verdict_of (Err NameUnfit) ≡ attach_verdict g t l r
+      pub attach_used : is_some row ≡ true → verdict_of (Err NameUnfit) ≡ attach_verdict g t l r
       unfolding attach_verdict verdict_of state_of notes_of
-      attach_used h = rw (good, present, lt-ltb 0 (row_of (titles_of t) l) (omega (arith, er)))
+      attach_used h = rw (good, present, lt-ltb 0 (row_of (titles_of t) l) (omega (arith, er, link_some row h)))
 
       -- w says that it is a second name on an open record
-      module _ (unused : row ≤ 0) {w : Bool} (ew : w ≡ (ltb 0 ((view_of g t).is_open (link - 1)) && ltb 0 ((state_of g t).notes.names (link - 1)))) where
+      module _ (unused : is_some row ≡ false) {w : Bool} (ew : w ≡ (ltb 0 ((view_of g t).is_open (link - 1)) && ltb 0 ((state_of g t).notes.names (link - 1)))) where
         free : ltb 0 (row_of (titles_of t) l) ≡ false
-        free = le-ltb 0 (row_of (titles_of t) l) (omega (arith, er))
+        free = le-ltb 0 (row_of (titles_of t) l) (omega (arith, er, link_none row unused))
 
         is_w_lem : (ltb 0 ((view_of g t).is_open (pred (slot_of (view_of g t) r))) && ltb 0 ((state_of g t).notes.names (pred (slot_of (view_of g t) r)))) ≡ w
         is_w_lem = ap (λ s. ltb 0 ((view_of g t).is_open s) && ltb 0 ((state_of g t).notes.names s)) (sym slot_is) ∙ sym ew
@@ -73,19 +85,16 @@ module _ (g : Geometry) (t l : List ℕ) (r : ℕ) {v : Bool} (ev : v ≡ valid_
         attach_second y = rw (good, present, free, is_w_lem ∙ y)
 
         -- empty is the first empty row
-        module _ (first : w ≡ false) (empty : ℕ) (ee : empty ≡ row_with (titles_of t) 0) where
-          row_is : empty_row (titles_of t) ≡ empty
-          row_is = sym (row_with_zero (titles_of t)) ∙ sym ee
-
-          pub attach_full : empty ≡ 0 → verdict_of (Err NameUnfit) ≡ attach_verdict g t l r
-          unfolding attach_verdict verdict_of state_of notes_of
-          attach_full z = rw (good, present, free, is_w_lem ∙ first, eq-eqb (empty_row (titles_of t)) 0 (row_is ∙ z))
-
-          pub attach_row : (empty ≡ 0 → ⊥) → verdict_of (Ok (empty - 1)) ≡ attach_verdict g t l r
-          unfolding attach_verdict verdict_of state_of notes_of
-          attach_row n =
-              rw (good, present, free, is_w_lem ∙ first, ne_eqb (empty_row (titles_of t)) 0 (λ e. n (sym row_is ∙ e)))
-              (ap (λ i. accepted (i ∷ [])) (omega (arith, row_is)))
+        pub attach_row : w ≡ false → (empty : Option ℕ) → link_of empty ≡ row_with (titles_of t) 0 →
+            verdict_of (ok_or empty NameUnfit) ≡ attach_verdict g t l r
+        unfolding attach_verdict verdict_of state_of notes_of
+        attach_row first None ee =
+            let z : empty_row (titles_of t) ≡ 0 = sym (row_with_zero (titles_of t)) ∙ sym ee in
+            rw (good, present, free, is_w_lem ∙ first, eq-eqb (empty_row (titles_of t)) 0 z)
+        attach_row first (Some i) ee =
+            let d : empty_row (titles_of t) ≡ i + 1 = sym (row_with_zero (titles_of t)) ∙ sym ee in
+            rw (good, present, free, is_w_lem ∙ first, ne_eqb (empty_row (titles_of t)) 0 (λ e. let z : ⊥ = omega (arith, d, e) in z))
+            (ap (λ i. accepted (i ∷ [])) (omega (arith, d)))
 
 -- ── U and M ──
 
@@ -94,15 +103,12 @@ module _ (g : Geometry) (t l : List ℕ) {v : Bool} (ev : v ≡ valid_name l) wh
   unfolding find_verdict verdict_of
   find_bad n = rw (sym ev ∙ not-true v n)
 
-  module _ (y : not v ≡ false) (row : ℕ) (er : row ≡ row_of (titles_of t) l) where
-    pub find_none : row ≡ 0 → verdict_of (Err NameUnfit) ≡ find_verdict g t l
-    unfolding find_verdict verdict_of state_of notes_of
-    find_none z = rw (sym ev ∙ not-false v y, eq-eqb (row_of (titles_of t) l) 0 (sym er ∙ z))
-
-    pub find_row : (row ≡ 0 → ⊥) → verdict_of (Ok (row - 1)) ≡ find_verdict g t l
-    unfolding find_verdict verdict_of state_of notes_of
-    find_row n =
-        rw (sym ev ∙ not-false v y, ne_eqb (row_of (titles_of t) l) 0 (λ e. n (er ∙ e))) (ap (λ i. accepted (i ∷ [])) (omega (arith, er)))
+  pub find_row : not v ≡ false → (row : Option ℕ) → link_of row ≡ row_of (titles_of t) l → verdict_of (ok_or row NameUnfit) ≡ find_verdict g t l
+  unfolding find_verdict verdict_of state_of notes_of
+  find_row y None er = rw (sym ev ∙ not-false v y, eq-eqb (row_of (titles_of t) l) 0 (sym er))
+  find_row y (Some i) er =
+      rw (sym ev ∙ not-false v y, ne_eqb (row_of (titles_of t) l) 0 (λ e. let z : ⊥ = omega (arith, er, e) in z))
+      (ap (λ i. accepted (i ∷ [])) (omega (arith, er)))
 
 -- ── what a verdict says ──
 

@@ -7,6 +7,7 @@ ghost use Rattle.model.specs.Names.{valid_name, same_letters};
 pub fn is_valid(name: &[u8]) -> bool
     ensures is { result ≡ valid_name name.now }
 {
+    // Kept: the check of a stranger's tables asks the same of numbers, which have no `is_ascii_lowercase`.
     (1..=32).contains(&name.len()) && name.iter().all(|b| b.is_ascii_lowercase())
 }
 

@@ -1,7 +1,8 @@
 // The rows of names: the row of a name, a name that is stored in a row, and one that is taken off.
-ghost use Rattle.std.specs.Prelude.{◌≡◌, pred, ◌≤◌, ◌<◌, length, get_or};
+ghost use Rattle.std.specs.Prelude.{◌≡◌, pred, ◌≤◌, ◌<◌, length, get_or, IfSome};
 ghost use Rattle.model.specs.Names.{carries, row_of};
 ghost use Rattle.model.specs.Layout.{name_cell, title_cell, titles_of};
+ghost use Rattle.tables.specs.Links.{link_of};
 ghost use Rattle.tables.specs.Titles.{title_put};
 ghost use Rattle.naming.specs.Rows.{count_up, count_down, taken_off};
 
@@ -23,18 +24,13 @@ fn row_has(t: &[u32], i: usize, name: &[u8]) -> bool
         )
 }
 
-// The row of a name, as a link, 0 for none.
-pub fn row_of(t: &[u32], name: &[u8]) -> usize
+// The row of a name.
+pub fn row_of(t: &[u32], name: &[u8]) -> Option<usize>
     requires { (2048 ≤ length t.now) × (length name.now ≤ 32) }
-    ensures is { result ≡ row_of (titles_of t.now) name.now }
-    ensures range { result ≤ 32 }
+    ensures is { link_of result ≡ row_of (titles_of t.now) name.now }
+    ensures range { IfSome result (λ i. i < 32) }
 {
-    for i in 0..32 {
-        if row_has(t, i, name) {
-            return i + 1;
-        }
-    }
-    0
+    (0..32).find(|i| row_has(t, *i, name))
 }
 
 // Row i becomes that of this name, on the record that the link leads to.
@@ -56,6 +52,7 @@ pub fn count_up(t: &mut [u32], s: usize)
 }
 
 // The record in slot s has one name less.
+// Kept: one function for this and `count_up`, with a sign, would be no plainer.
 fn count_down(t: &mut [u32], s: usize)
     requires { (2048 ≤ length t.old) × (s < 64) × (0 < get_or t.old (name_cell s) 0) }
     ensures { t.new ≡ count_down t.old s }

@@ -37,17 +37,13 @@ pub fn attaching(
     if link == 0 {
         return Err(Refusal::NoSuchRecord);
     }
-    if 0 < row_of(t, name) {
+    if row_of(t, name).is_some() {
         return Err(Refusal::NameUnfit);
     }
     if is_second(t, g, link - 1) {
         return Err(Refusal::NameUnfit);
     }
-    let empty = row_with(t, 0);
-    if empty == 0 {
-        return Err(Refusal::NameUnfit);
-    }
-    Ok(empty - 1)
+    row_with(t, 0).ok_or(Refusal::NameUnfit)
 }
 
 // The verdict on U or M of a name: 16, then 17 for one that is unknown. It is given the row of the name.
@@ -58,9 +54,5 @@ pub fn finding(t: &[u32], g: Geometry, name: &[u8]) -> Result<usize, Refusal>
     if !is_valid(name) {
         return Err(Refusal::BadName);
     }
-    let row = row_of(t, name);
-    if row == 0 {
-        return Err(Refusal::NameUnfit);
-    }
-    Ok(row - 1)
+    row_of(t, name).ok_or(Refusal::NameUnfit)
 }

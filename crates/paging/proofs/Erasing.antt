@@ -70,7 +70,8 @@ module _ (g : Geometry) (t : List ℕ) (n x w : ℕ) (ew : w ≡ x) where
       erase_14 s one =
           Looking.cond_next _ _ _ _ (lt-leb g.pages x (omega arith)) (Looking.cond_next _ _ _ _ (Looking.eight_no R n l e used)
           (Looking.cond_next _ _ _ _ (Looking.nine_no R n l e used o)
-          (Looking.cond_here _ _ _ (lt-ltb (g.words - (state_of g t).used) (length (written g (state_of g t) (Erase n x))) (omega (arith, words_are, unused_is))))))
+          (Looking.cond_here _ _ _ (lt-ltb (g.words - (state_of g t).used)
+          (length (written g (state_of g t) (Erase n x))) (omega (arith, words_are, unused_is))))))
 
       pub erase_accepts : f ≤ g.words - u → NoneHolds (conditions g (state_of g t) (Erase n x)) × (slot (state_of g t) n ≡ l - 1)
       erase_accepts s = (
@@ -189,7 +190,8 @@ module _ {g : Geometry} {t : List ℕ} {s x : ℕ} (A : Target g t s x) (k : Opt
         u ≡ stored g (acted (state_of g t) (do_e s x) (length (map released (frees_of g t s x)))) t
     unfolding acted emptied
     none_tables u eu =
-        let k : (state_of g t).used ≡ (state_of g t).used + length (map released (frees_of g t s x)) = omega (arith, ap (λ v. length (map released v)) frees_none) in
+        let k : (state_of g t).used ≡ (state_of g t).used + length (map released (frees_of g t s x)) =
+        omega (arith, ap (λ v. length (map released v)) frees_none) in
         eu ∙ ap (λ k. stored g (with_used (emptied g t s x) k) t) k
 
     pub none_log : (log : List ℕ) → log ≡ write_at log (8 * (state_of g t).used) (bytes_of (map released (frees_of g t s x)))
@@ -231,7 +233,8 @@ module _ {g : Geometry} {t : List ℕ} (R : Ready g t) (n x s w : ℕ) (none : N
       Answers.done_out g t (Erase n x) none k out m (e ∙ sym (paired_length B (frees_of g t s w)) ∙ ap length q)
       (omega (arith, erased_one (state_of g t).view s ((state_of g t).view.page s w))) (d ∙ ap (sets out 0) q)
 
-  pub erase_tables : (u : List ℕ) → u ≡ stored g (acted (state_of g t) (do_e s w) (length (map released (frees_of g t s w)))) t → u ≡ tables_left g t (Erase n x)
+  pub erase_tables : (u : List ℕ) → u ≡ stored g (acted (state_of g t) (do_e s w) (length (map released (frees_of g t s w)))) t →
+      u ≡ tables_left g t (Erase n x)
   erase_tables u d =
       Answers.done_tables g t (Erase n x) none u
       (d ∙ ap (λ v. stored g (acted (state_of g t) (do_e s w) (length (map released v))) t) frees_same ∙

@@ -34,11 +34,14 @@ use Rattle.tables.proofs.Reading.{reads_used}
 use Rattle.paging.specs.Target.{Target, frees_of}
 use Rattle.paging.specs.Kill.{freed_at, killed_of}
 use Rattle.paging.specs.Place.{FreeAt, filled}
+use Rattle.paging.specs.Kind.{kind_number}
 use Rattle.paging.specs.declared.kill.Freed.{Freed}
+use Rattle.paging.specs.declared.kind.Kind.{Kind}
 use Rattle.paging.proofs.Answers
 use Rattle.paging.proofs.Looking
 use Rattle.paging.proofs.Killing
 use Rattle.paging.proofs.Placing
+use Rattle.paging.proofs.Searching.{kind_low}
 use Rattle.paging.proofs.Erasing
 
 -- ── the verdict on W of kind k on page x of record n; w is x as it was read ──
@@ -56,9 +59,10 @@ module _ (g : Geometry) (t : List ℕ) (n x k w : ℕ) (ew : w ≡ x) where
     unfolding replied
     write_6 l = Looking.cond_next _ _ _ _ five (Looking.cond_here _ _ _ (lt-ltb 2 k l))
 
-    module _ (hk : k ≤ 2) (l : ℕ) (e : l ≡ slot_of (view_of g t) n) where
+    -- d is the kind of number k
+    module _ (d : Kind) (ek : kind_number d ≡ k) (l : ℕ) (e : l ≡ slot_of (view_of g t) n) where
       six : ltb 2 k ≡ false
-      six = le-ltb 2 k hk
+      six = le-ltb 2 k (omega (arith, kind_low d, ek))
 
       pub write_8 : l ≡ 0 → replied g t (Write n x k) ≡ refused 8
       unfolding replied
@@ -72,19 +76,22 @@ module _ (g : Geometry) (t : List ℕ) (n x k w : ℕ) (ew : w ≡ x) where
             (Looking.cond_here _ _ _ (Looking.nine_yes R n l e used o))))
 
         -- r is what the search answered
-        module _ (o : get_or t (open_cell (l - 1)) 0 ≡ 0 → ⊥) (r : Option Place) (er : r ≡ found g (state_of g t) k) where
+        module _ (o : get_or t (open_cell (l - 1)) 0 ≡ 0 → ⊥) (r : Option Place) (er : r ≡ found g (state_of g t) (kind_number d)) where
+          found_is : found g (state_of g t) k ≡ r
+          found_is = sym (er ∙ ap (found g (state_of g t)) ek)
+
           pub write_13 : r ≡ None → replied g t (Write n x k) ≡ refused 13
           unfolding replied
           write_13 z =
               Looking.cond_next _ _ _ _ five (Looking.cond_next _ _ _ _ six (Looking.cond_next _ _ _ _ (Looking.eight_no R n l e used)
               (Looking.cond_next _ _ _ _ (Looking.nine_no R n l e used o) (Looking.cond_here _ _ _
-              (ap is_nothing (sym er ∙ z))))))
+              (ap is_nothing (found_is ∙ z))))))
 
           -- the place that was found; u log words are used, f blocks are freed
           module _ (p : Place) (ea : r ≡ Some p) (u v f : ℕ) (eu : u ≡ get_or t 9 0) (ev : v ≡ x)
               (ef : f ≡ length (erased (view_of g t) (l - 1) ((view_of g t).page (l - 1) v))) where
             there : found g (state_of g t) k ≡ Some p
-            there = sym er ∙ ea
+            there = found_is ∙ ea
 
             thirteen : is_nothing (found g (state_of g t) k) ≡ false
             thirteen = ap is_nothing there
@@ -275,9 +282,11 @@ module _ {g : Geometry} {t : List ℕ} (R : Ready g t) (n x k s : ℕ) (p : Plac
       (d ∙ ap (λ k. left k w (Some p)) (sym J.1) ∙ ap (λ y. left (slot (state_of g t) n) y (Some p)) ew ∙
       ap (left (slot (state_of g t) n) x) (sym J.2))
 
-  pub write_log : (log m : List ℕ) → m ≡ write_at log (8 * (state_of g t).used) (bytes_of (allocated (p.arena * g.per + p.offset) ∷ map released (frees_of g t s w))) →
+  pub write_log : (log m : List ℕ) → m ≡ write_at log (8 * (state_of g t).used)
+      (bytes_of (allocated (p.arena * g.per + p.offset) ∷ map released (frees_of g t s w))) →
       m ≡ log_left g t log (Write n x k)
   write_log log m d =
       Answers.done_log g t (Write n x k) J.0 log m
       (d ∙ ap (λ v. write_at log (8 * (state_of g t).used) (bytes_of (allocated (p.arena * g.per + p.offset) ∷ map released v))) frees_same ∙
-      ap (λ f. write_at log (8 * (state_of g t).used) (bytes_of (allocated (block_of g.per f) ∷ map released (frees_of g t (slot (state_of g t) n) x)))) (sym J.2))
+      ap (λ f. write_at log (8 * (state_of g t).used) (bytes_of (allocated (block_of g.per f) ∷ map released (frees_of g t (slot (state_of g t) n) x))))
+      (sym J.2))

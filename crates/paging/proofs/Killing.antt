@@ -270,7 +270,8 @@ module _ {g : Geometry} {t : List ℕ} {s x : ℕ} (A : Target g t s x) where
                 let T : State = state_of g t in
                 let H : Holds g t (dead_on g t s (l - 1)) u = record {
                   is = eu;
-                  shaped = shaped_list g T (holds_first A.ready).shaped s (list ++ ((l - 1) ∷ [])) A.slot (omega (arith, list_room, length_joined list (l - 1)));
+                  shaped = shaped_list g T (holds_first A.ready).shaped s (list ++ ((l - 1) ∷ []))
+                      A.slot (omega (arith, list_room, length_joined list (l - 1)));
                 } in
                 (step_page g t A.ready.roomy H s x 0 A.slot A.page).is ∙
                 ap (λ U. stored g U t) (none_waits (bare marked) ∙ killed_as marked marked_fate)

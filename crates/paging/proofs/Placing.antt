@@ -25,7 +25,21 @@ use Rattle.tables.specs.Puts.{with_page, with_birth, with_mark, with_counter, wi
 use Rattle.tables.proofs.Fields
 use Rattle.tables.proofs.Puts.{shaped_mark, shaped_counter, shaped_writes}
 use Rattle.tables.proofs.Chain.{tail_longer}
-use Rattle.tables.proofs.Steps.{Holds, holds_first, holds_from, holds_roomy, holds_made, holds_free, holds_says, step_to_lem, step_page, step_given, step_mark, step_counter, step_writes}
+use Rattle.tables.proofs.Steps.{
+  Holds,
+  holds_first,
+  holds_from,
+  holds_roomy,
+  holds_made,
+  holds_free,
+  holds_says,
+  step_to_lem,
+  step_page,
+  step_given,
+  step_mark,
+  step_counter,
+  step_writes,
+}
 use Rattle.tables.proofs.Reading.{reads_counter, reads_writes}
 use Rattle.tables.proofs.Matches.{place_is}
 use Rattle.paging.specs.Target.{Target, frees_of}
@@ -51,7 +65,8 @@ kept_holds {g} {t} k = holds_from g t k.roomy k.made k.free k.short k.names k.fe
 
 -- ── the block's page and birth ──
 
-module _ {g : Geometry} {t : List ℕ} (k : Storable g t) (s x b : ℕ) (hs : s < g.records) (live : 0 < (view_of g t).num s) (hx : x < g.pages) (hb : b < blocks g) where
+module _ {g : Geometry} {t : List ℕ} (k : Storable g t) (s x b : ℕ) (hs : s < g.records) (live : 0 < (view_of g t).num s)
+    (hx : x < g.pages) (hb : b < blocks g) where
   abbrev T : State
   T = state_of g t
 
@@ -90,7 +105,8 @@ module _ (g : Geometry) (U : State) (a o : ℕ) where
       shaped_writes g _ (shaped_counter g _ (shaped_mark g U S a (next g.per o) h) f.counter) f.writes
 
 -- r is the turn that follows, m the mark
-pub turn_put : {g : Geometry} {t : List ℕ} (k : Storable g t) (a o : ℕ) → a < g.arenas → (r w : Turn) (m : ℕ) → w.counter ≡ get_or t 7 0 → w.writes ≡ get_or t 8 0 →
+pub turn_put : {g : Geometry} {t : List ℕ} (k : Storable g t) (a o : ℕ) → a < g.arenas → (r w : Turn) (m : ℕ) → w.counter ≡ get_or t 7 0 →
+    w.writes ≡ get_or t 8 0 →
     r ≡ turned g.arenas g.turn w → m ≡ next g.per o →
     set (set (set t (16 + a) m) 7 r.counter) 8 r.writes ≡ stored g (given g (state_of g t) (place_at a o)) t
 unfolding state_of

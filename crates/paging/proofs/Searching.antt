@@ -20,6 +20,9 @@ use Rattle.model.specs.Calls.{found}
 use Rattle.model.specs.Layout.{free_word, view_of, state_of}
 use Rattle.tables.specs.Ready.{Ready}
 use Rattle.tables.proofs.Fields
+use Rattle.paging.specs.Kind.{kind_number}
+use Rattle.paging.specs.declared.kind.Kind.{Kind}
+use Rattle.paging.specs.declared.kind.Kind.TheVariants.{Data, Pivot, Leaf}
 
 -- ── the choice depends on the blocks and marks of the store alone ──
 
@@ -48,6 +51,12 @@ module _ (p q : ℕ → Bool) (m k : ℕ → ℕ) (arenas per : ℕ) (frees : (b
   unfolding chosen
   chosen_same first h = arenas_same first arenas h
 
+-- no number of a kind is above 2
+pub kind_low : (d : Kind) → kind_number d ≤ 2
+kind_low Data = omega arith
+kind_low Pivot = omega arith
+kind_low Leaf = omega arith
+
 -- ── the parts of the tables that the search is lent: n numbers from i on ──
 
 part_at : (t : List ℕ) (i n j : ℕ) → j < n → get_or (take n (drop i t)) j 0 ≡ get_or t (i + j) 0
@@ -75,9 +84,9 @@ module _ {g : Geometry} {t : List ℕ} (R : Ready g t) where
       says (available (state_of g t)) words (min 32 (blocks g - 32 * (b / 32))) b
       (word_at (b / 32) (omega (arith, R.roomy.inside.blocks_most))) (omega arith)
 
-  pub search_fine : (c k : ℕ) → c ≡ get_or t 7 0 → k ≤ 2 → Searchable (take 64 (drop 64 t)) (take 16 (drop 16 t)) g.arenas g.per c k
+  pub search_fine : (c k : ℕ) (d : Kind) → c ≡ get_or t 7 0 → k ≡ kind_number d → Searchable (take 64 (drop 64 t)) (take 16 (drop 16 t)) g.arenas g.per c k
   unfolding state_of
-  search_fine c k e h = record {
+  search_fine c k d e ek = record {
     arenas_least = R.roomy.inside.arenas_least;
     arenas_most = R.roomy.inside.arenas_most;
     per_least = R.roomy.inside.per_least;
@@ -86,10 +95,10 @@ module _ {g : Geometry} {t : List ℕ} (R : Ready g t) where
     marks_long = omega (arith, R.roomy.inside.arenas_most, part_long t 16 16 (omega (arith, R.roomy.room)));
     marks_low = λ a l. omega (arith, mark_at a l, R.range.marks a);
     counter_low = omega (arith, R.range.counter);
-    kind_low = h;
+    kind_low = omega (arith, kind_low d);
   }
 
-  -- r is the choice, v the kind
+  -- r is the choice, v the number of the kind
   module _ (r : Option Place) (c k v : ℕ) (e : c ≡ get_or t 7 0) (ek : k ≡ v)
       (d : r ≡ chosen (free_in (take 64 (drop 64 t))) (mark_in (take 16 (drop 16 t))) g.arenas g.per (c + k)) where
     pub found_is : r ≡ found g (state_of g t) v

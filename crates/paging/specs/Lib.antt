@@ -1,4 +1,5 @@
 -- The calls on pages: what their parts ask and leave.
+pub mod Kind
 pub mod Target
 pub mod Kill
 pub mod EraseVerdict

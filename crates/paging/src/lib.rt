@@ -3,6 +3,7 @@
 
 pub mod erase;
 pub mod kill;
+pub mod kind;
 pub mod place;
 pub mod read;
 pub mod words;

@@ -1,5 +1,5 @@
 // A free block goes on a page: its search, its birth, and the mark and the turn that it moves.
-ghost use Rattle.std.specs.Prelude.{◌≡◌, ◌+◌, ◌*◌, ◌<◌, ◌≤◌, get_or};
+ghost use Rattle.std.specs.Prelude.{◌≡◌, ◌+◌, ◌*◌, ◌<◌, get_or};
 ghost use Rattle.geometry.specs.Limits.{blocks};
 ghost use Rattle.choice.specs.Search.{place_at};
 ghost use Rattle.model.specs.Calls.{found, given};
@@ -7,9 +7,11 @@ ghost use Rattle.model.specs.Layout.{view_of, state_of, stored};
 ghost use Rattle.tables.specs.Ready.{Ready};
 ghost use Rattle.paging.specs.Target.{Target, frees_of};
 ghost use Rattle.paging.specs.Kill.{killed_of};
+ghost use Rattle.paging.specs.Kind.{kind_number};
 ghost use Rattle.paging.specs.Place.{Storable, FreeAt, placed, filled};
 
 use crate::kill::{Freed, kill_on};
+use crate::kind::Kind;
 use choice::{Place, Turn, choose, next_of, turned_by};
 use geometry::Geometry;
 use tables::births::give_block;
@@ -17,9 +19,9 @@ use tables::cells::{COUNTER, FREE, MARKS, NUMBER, PAGES, ROW, WRITES};
 use tables::find::wide;
 
 // The block that a write of the kind is given.
-pub fn search(t: &[u32], g: Geometry, kind: u32) -> Option<Place>
-    requires { Ready g t.now × (kind ≤ 2) }
-    ensures { result ≡ found g (state_of g t.now) kind }
+pub fn search(t: &[u32], g: Geometry, kind: Kind) -> Option<Place>
+    requires { Ready g t.now }
+    ensures { result ≡ found g (state_of g t.now) (kind_number kind) }
 {
     choose(
         &t[FREE..FREE + 64],
@@ -27,7 +29,7 @@ pub fn search(t: &[u32], g: Geometry, kind: u32) -> Option<Place>
         g.arenas,
         g.per,
         wide(t[COUNTER]),
-        wide(kind),
+        kind.number(),
     )
 }
 

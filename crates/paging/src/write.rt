@@ -14,6 +14,7 @@ ghost use Rattle.paging.specs.Target.{Target, frees_of};
 ghost use Rattle.paging.specs.Place.{FreeAt};
 ghost use Rattle.paging.specs.WriteVerdict.{Judged};
 
+use crate::kind::Kind;
 use crate::place::{fill_page, search};
 use crate::words::log_words;
 use answer::{Answer, Refusal};
@@ -38,9 +39,7 @@ fn write_verdict(
     if g.pages <= wide(page) {
         return Err(Refusal::NoSuchPage);
     }
-    if 2 < kind {
-        return Err(Refusal::NoSuchKind);
-    }
+    let kind = Kind::try_from(kind)?;
     if link == 0 {
         return Err(Refusal::NoSuchRecord);
     }
@@ -73,10 +72,13 @@ fn write_page(
     place: Place,
     birth: u32,
 ) -> usize
-    requires { Target g t.old s x × FreeAt g t.old place.arena place.offset × (suc (length (frees_of g t.old s x)) ≤ g.words - get_or t.old 9 0) × LogLong g log.old × OutLong g out.old }
+    requires { Target g t.old s x × FreeAt g t.old place.arena place.offset
+        × (suc (length (frees_of g t.old s x)) ≤ g.words - get_or t.old 9 0) × LogLong g log.old × OutLong g out.old }
     ensures count { result ≡ 2 + 2 * length (frees_of g t.old s x) }
-    ensures tables { t.new ≡ stored g (given g (acted (state_of g t.old) (do_w s x (place.arena * g.per + place.offset)) (suc (length (map released (frees_of g t.old s x))))) (Some place)) t.old }
-    ensures log { log.new ≡ write_at log.old (8 * (state_of g t.old).used) (bytes_of (allocated (place.arena * g.per + place.offset) ∷ map released (frees_of g t.old s x))) }
+    ensures tables { t.new ≡ stored g (given g (acted (state_of g t.old) (do_w s x (place.arena * g.per + place.offset))
+        (suc (length (map released (frees_of g t.old s x))))) (Some place)) t.old }
+    ensures log { log.new ≡ write_at log.old (8 * (state_of g t.old).used)
+        (bytes_of (allocated (place.arena * g.per + place.offset) ∷ map released (frees_of g t.old s x))) }
     ensures out { out.new ≡ sets out.old 0 ((place.arena * g.per + place.offset) ∷ birth ∷ paired (view_of g t.old).birth (frees_of g t.old s x)) }
 {
     let killed = fill_page(t, g, s, x, place);

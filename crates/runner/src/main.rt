@@ -52,6 +52,7 @@ fn answer<R: Files<File = File> + Eprint + Alloc>(
     let mut kept = session;
     let mut failed = false;
     let mut done = at;
+    // Kept: how far a part goes is known only after it, which no range tells.
     while done < text.len() {
         let served = serve_part(text, done, kept, t, log, out, replies);
         let used = served.used;

@@ -79,7 +79,8 @@ module _ (text : List ℕ) where
       let n = number_spelt (drop at text) at v i e in
       let d : drop i text ≡ n.0 = ap (λ (k : ℕ). drop k text) n.2 ∙ rest_is text at (32 ∷ decimal v) n.0 n.1 in
       record {
-        bytes = n.1 ∙ ap (λ (x : List ℕ). 32 ∷ (decimal v ++ x)) (sym d ∙ s.bytes) ∙ ap (λ (x : List ℕ). 32 ∷ x) (sym (append_assoc (decimal v) (spaced ns) (drop end text)));
+        bytes = n.1 ∙ ap (λ (x : List ℕ). 32 ∷ (decimal v ++ x)) (sym d ∙ s.bytes) ∙
+            ap (λ (x : List ℕ). 32 ∷ x) (sym (append_assoc (decimal v) (spaced ns) (drop end text)));
         ends = omega (arith, s.ends, n.2, length-append (decimal v) (spaced ns));
         small = (n.3, s.small);
       }

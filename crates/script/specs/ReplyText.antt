@@ -1,4 +1,5 @@
--- "Output per line: `+` and the result's numbers, or `-` and the refusal, single spaces." (10.6) A block and its birth are "printed with a colon, as 0:1" (3.13).
+-- "Output per line: `+` and the result's numbers, or `-` and the refusal, single spaces." (10.6) A block and its birth are "printed with a colon, as 0:1"
+-- (3.13).
 use Rattle.std.specs.Prelude.{ℕ, ◌+◌, ◌-◌, ◌*◌, ◌≤◌, ◌≡◌, Bool, true, false, cond, not, ◌&&◌, List, [], ◌∷◌, ◌++◌, length, eqb}
 use Rattle.std.proofs.Math.Option.{Option, none, some}
 use Rattle.std.specs.Prelude.{Result, Ok, Err}
@@ -104,8 +105,8 @@ abbrev pub turns : Option ℕ → ℕ → List ℕ → Bool
 turns none b l = eqb b 58 && begins l
 turns (some c) b l = false
 
--- from inside a number on, of which v is read, behind the block and the colon p if there are any: its other digits; then a colon and a birth, a single space and
--- the next item, or the end
+-- from inside a number on, of which v is read, behind the block and the colon p if there are any: its other digits; then a colon and a birth, a single
+-- space and the next item, or the end
 unfoldable pub inside_read : Option ℕ → ℕ → List ℕ → Option (List Item)
 inside_read p v [] = none
 inside_read p v (b ∷ l) =

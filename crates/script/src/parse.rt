@@ -38,10 +38,9 @@ fn opens_store(line: &[u8]) -> bool
 
 // Reads the numbers from a position to the line's end, at most as many as asked; returns how many they are, none where the line has anything else.
 fn numbers_at(line: &[u8], from: usize, most: usize, out: &mut [u32; 6]) -> Option<usize>
-    requires { (most ≤ 6) × (length out.old ≡ 6) }
+    requires { most ≤ 6 }
     ensures is { counted result out.new ≡ numbers_from line.now from most [] }
     ensures few { IfSome result (λ n. n ≤ most) }
-    ensures long { length out.new ≡ 6 }
 {
     let mut at = from;
     for i in 0..most {

@@ -42,7 +42,7 @@ pub fn next<'a>(s: Script<'a>) -> Option<(usize, usize)>
     line_at(s.text, s.at)
 }
 
-// The same from plain parameters: whoever calls this one needs no walk.
+// The same from plain parameters.
 pub fn line_from(text: &[u8], at: usize) -> Option<(usize, usize)>
     ensures { result ≡ line_at text.now at }
 {

@@ -35,6 +35,7 @@ fn few_digits(text: &[u8], from: usize, first: u32) -> Option<(u32, usize)>
     ensures { Agrees result (behind_first (drop from text.now) first from) (from + 3) }
 {
     let mut value = first;
+    // Kept: `digits_at` has another bound and stops at nothing else; one function for both would test in each turn what only one needs.
     for i in from..from + 4 {
         if !text[i].is_ascii_digit() {
             return Some((value, i));

@@ -203,7 +203,8 @@ module _ (text : List ℕ) (at : ℕ) (H : Lent) (s : Session) (is : s ≡ sessi
     part_is = ap (λ (k : Session). served text (length H.replies) (begun at k H.memory)) is
 
     pub done : (r : Served) (left : Memory) (replies run : List ℕ) → Serves (served text (length H.replies) (begun at s H.memory)) H.replies r left replies
-        → run ≡ sets H.run 0 (run_of r.session) → Hosts text at H (Ok (record { at = r.at; used = r.used })) (record { run = run; memory = left; replies = replies })
+        → run ≡ sets H.run 0 (run_of r.session) → Hosts text at H (Ok (record { at = r.at; used = r.used }))
+        (record { run = run; memory = left; replies = replies })
     unfolding host_left hosted_reply
     done r left replies run v e =
         let n : decide conditions given ≡ accepted given = rw (a, b, d) in

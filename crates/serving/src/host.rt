@@ -8,7 +8,7 @@ ghost use Rattle.serving.specs.Host.{lent_by, session_of, run_of, lent_short, Ho
 
 use crate::{LONGEST, serve_part};
 use answer::Refusal;
-use geometry::Geometry;
+use geometry::{Geometry, Numbers};
 use session::Session;
 use soundness::is_sound;
 
@@ -65,9 +65,7 @@ fn is_outside(s: Session) -> bool
     if s.made == 0 {
         return false;
     }
-    let g = s.g;
-    let made = Geometry::new(g.arenas, g.per, g.pages, g.records, g.turn, g.words);
-    made.is_err()
+    Geometry::new(Numbers::from(s.g)).is_err()
 }
 
 fn is_too_short(run: &[u32], tables: &[u32], log: &[u8], out: &[u32], replies: &[u8]) -> bool

@@ -34,7 +34,8 @@ pub fn serve_part(
     replies: &mut [u8],
 ) -> Served
     requires { Kept session t.old log.old out.old }
-    ensures { Serves (served text.now (length replies.old) (begun at session (lent t.old log.old out.old))) replies.old result (lent t.new log.new out.new) replies.new }
+    ensures { Serves (served text.now (length replies.old) (begun at session (lent t.old log.old out.old))) replies.old result
+        (lent t.new log.new out.new) replies.new }
 {
     let mut s = session;
     let mut used: usize = 0;
@@ -48,6 +49,7 @@ pub fn serve_part(
     }
     let most = replies.len() - LONGEST;
     let mut hints = [0u8; 1024];
+    // Kept: where a line ends is known only after it is read, which no range tells.
     while i < text.len() {
         if most < used {
             return Served {

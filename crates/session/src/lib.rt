@@ -7,12 +7,13 @@ ghost use Rattle.model.specs.Command.{command, command_on};
 ghost use Rattle.model.specs.Memory.{lent};
 ghost use Rattle.script.specs.Spoken.{makes, asks, spoken_at};
 ghost use Rattle.script.specs.Said.{NameIn};
-ghost use Rattle.session.specs.Step.{no_store, step_reply, step_memory, step_session, step_hints, Kept, Uncalled, Few, Stepping};
+ghost use Rattle.geometry.specs.Limits.{asked};
+ghost use Rattle.session.specs.Step.{no_store, geometry_in, step_reply, step_memory, step_session, step_hints, Kept, Uncalled, Few, Stepping};
 
 use answer::{Answer, Refusal};
 use engine::names::{name, record_named};
 use engine::{perform, record_of};
-use geometry::{Geometry, copied};
+use geometry::{Geometry, Numbers, copied};
 use model::{Call, Naming};
 use script::parse::{Parsed, Six};
 use store::make::make;
@@ -56,26 +57,31 @@ fn refuse(s: Session, refusal: Refusal) -> Stepped
     }
 }
 
-// A store line: an accepted one starts afresh, a refused one changes nothing.
-fn store_line(s: Session, x: Six, t: &mut [u32], log: &[u8], out: &[u32]) -> Stepped
-    requires { Kept s t.old log.now out.now }
-    ensures { Stepping s (lent t.old log.now out.now) (makes x) result
-        (lent t.new log.now out.now) }
+// The six numbers of a store line, as a making takes them.
+fn widened(x: Six) -> Numbers
+    ensures { asked result ≡ geometry_in x }
 {
-    let made = Geometry::new(
+    Numbers::of(
         wide(x.arenas),
         wide(x.per),
         wide(x.pages),
         wide(x.records),
         wide(x.turn),
         wide(x.words),
-    );
-    let Ok(g) = made else {
+    )
+}
+
+// A store line: an accepted one starts afresh, a refused one changes nothing.
+fn store_line(s: Session, x: Six, t: &mut [u32], log: &[u8], out: &[u32]) -> Stepped
+    requires { Kept s t.old log.now out.now }
+    ensures { Stepping s (lent t.old log.now out.now) (makes x) result
+        (lent t.new log.now out.now) }
+{
+    let numbers = widened(x);
+    let Ok(g) = Geometry::new(numbers) else {
         return refuse(s, Refusal::OutsideLimits);
     };
-    let answer = make(
-        g.arenas, g.per, g.pages, g.records, g.turn, g.words, t, log, out,
-    );
+    let answer = make(numbers, t, log, out);
     let Ok(n) = answer else {
         return Stepped { session: s, answer };
     };

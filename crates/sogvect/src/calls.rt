@@ -7,6 +7,7 @@ ghost use Rattle.sogvect.specs.Coded.{Answered};
 ghost use Rattle.sogvect.specs.Letters.{asked_by};
 
 use crate::coded;
+use geometry::Numbers;
 use script::parse::{Parsed, bare_of, one_of, three_of, two_of};
 use store::call::call;
 
@@ -62,8 +63,7 @@ pub extern "C" fn sogvect_call(
     let Parsed::Asks(c) = asked else {
         return NO_CALL;
     };
-    let a = call(
-        arenas, per, pages, records, turn, words, tables, log, out, c,
-    );
+    let numbers = Numbers::of(arenas, per, pages, records, turn, words);
+    let a = call(numbers, tables, log, out, c);
     coded(a, count)
 }

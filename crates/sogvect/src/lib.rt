@@ -15,6 +15,7 @@ pub mod scripts;
 
 use alloc_log::tool::{compact, compare, read_held};
 use answer::Refusal;
+use geometry::Numbers;
 use store::make::make;
 
 // The code of a call that was done; a refusal's is its number.
@@ -50,7 +51,8 @@ pub extern "C" fn sogvect_make(
     ensures code { result ≡ code_of (make_reply (geometry_of arenas per pages records turn words) (lent tables.old log.now out.now)) }
     ensures tables { tables.new ≡ (make_after (geometry_of arenas per pages records turn words) (lent tables.old log.now out.now)).tables }
 {
-    let a = make(arenas, per, pages, records, turn, words, tables, log, out);
+    let numbers = Numbers::of(arenas, per, pages, records, turn, words);
+    let a = make(numbers, tables, log, out);
     let mut count: usize = 0;
     coded(a, &mut count)
 }
@@ -72,7 +74,8 @@ pub extern "C" fn sogvect_log_read(
     ensures count { count.new ≡ count_after (read_reply (geometry_of arenas per pages records turn words) log.now out.old) count.old }
     ensures out { out.new ≡ read_out (geometry_of arenas per pages records turn words) log.now out.old }
 {
-    let a = read_held(arenas, per, pages, records, turn, words, log, out);
+    let numbers = Numbers::of(arenas, per, pages, records, turn, words);
+    let a = read_held(numbers, log, out);
     coded(a, count)
 }
 
@@ -92,11 +95,12 @@ pub extern "C" fn sogvect_log_compare(
     ensures code { result ≡ verdict_code (compare_verdict (geometry_of arenas per pages records turn words) first.now second.now) }
     ensures alike { alike.new ≡ alike_after (compare_verdict (geometry_of arenas per pages records turn words) first.now second.now) alike.old }
 {
-    let answer = compare(arenas, per, pages, records, turn, words, first, second);
+    let numbers = Numbers::of(arenas, per, pages, records, turn, words);
+    let answer = compare(numbers, first, second);
     coded(answer.map(u32::from), alike)
 }
 
-// Writes a log of any length anew, compressed, at the start of `out`; `count` becomes the number of its words.
+// Writes a log of any length again, compressed, at the start of `out`; `count` becomes the number of its words.
 #[unsafe(no_mangle)]
 pub extern "C" fn sogvect_log_compact(
     arenas: usize,
@@ -113,6 +117,7 @@ pub extern "C" fn sogvect_log_compact(
     ensures count { count.new ≡ words_after (compact_reply (geometry_of arenas per pages records turn words) log.now out.old) count.old }
     ensures out { out.new ≡ compact_out (geometry_of arenas per pages records turn words) log.now out.old }
 {
-    let a = compact(arenas, per, pages, records, turn, words, log, out);
+    let numbers = Numbers::of(arenas, per, pages, records, turn, words);
+    let a = compact(numbers, log, out);
     coded(a, count)
 }

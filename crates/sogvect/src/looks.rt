@@ -8,6 +8,7 @@ ghost use Rattle.sogvect.specs.Letters.{asked_by};
 use crate::calls::{NO_CALL, asked_by};
 use crate::coded;
 use engine::looks::look_of;
+use geometry::Numbers;
 use script::parse::Parsed;
 use store::look::look;
 
@@ -39,8 +40,7 @@ pub extern "C" fn sogvect_look(
     let Some(l) = look_of(c) else {
         return NO_CALL;
     };
-    let a = look(
-        arenas, per, pages, records, turn, words, tables, log, out, l,
-    );
+    let numbers = Numbers::of(arenas, per, pages, records, turn, words);
+    let a = look(numbers, tables, log, out, l);
     coded(a, count)
 }

@@ -6,9 +6,11 @@ ghost use Rattle.model.specs.Memory.{reply, lent};
 ghost use Rattle.sogvect.specs.Coded.{count_after, Replied};
 
 use crate::coded;
+use geometry::Numbers;
 use store::names::{attach, detach, resolve};
 
 // N: the name goes on a record. It has no result.
+// Kept: this function and the next two have one form, since the C interface needs each by its own name.
 #[unsafe(no_mangle)]
 pub extern "C" fn sogvect_name(
     arenas: usize,
@@ -27,9 +29,8 @@ pub extern "C" fn sogvect_name(
         (lent tables.old log.now out.now) (Attach name.now «record») result
         (lent tables.new log.now out.now) }
 {
-    let a = attach(
-        arenas, per, pages, records, turn, words, tables, log, out, name, record,
-    );
+    let numbers = Numbers::of(arenas, per, pages, records, turn, words);
+    let a = attach(numbers, tables, log, out, name, record);
     let mut count: usize = 0;
     coded(a, &mut count)
 }
@@ -52,9 +53,8 @@ pub extern "C" fn sogvect_unname(
         (lent tables.old log.now out.now) (Detach name.now) result
         (lent tables.new log.now out.now) }
 {
-    let a = detach(
-        arenas, per, pages, records, turn, words, tables, log, out, name,
-    );
+    let numbers = Numbers::of(arenas, per, pages, records, turn, words);
+    let a = detach(numbers, tables, log, out, name);
     let mut count: usize = 0;
     coded(a, &mut count)
 }
@@ -80,8 +80,7 @@ pub extern "C" fn sogvect_resolve(
     ensures count { count.new ≡ count_after (reply (geometry_of arenas per pages records turn words)
         (lent tables.now log.now out.old) (Resolve name.now)) count.old }
 {
-    let a = resolve(
-        arenas, per, pages, records, turn, words, tables, log, out, name,
-    );
+    let numbers = Numbers::of(arenas, per, pages, records, turn, words);
+    let a = resolve(numbers, tables, log, out, name);
     coded(a, count)
 }

@@ -1,18 +1,14 @@
 -- Clamped reads, and parts of the tables.
-use Rattle.std.proofs.Common.{◌≡◌, ℕ, ◌+◌, ◌-◌, ◌<◌, ◌≤◌, ltb, List, length, get_or, take, drop, sym, ◌∙◌, arith, le-ltb, lt-ltb, length-drop, length-take-le, get_or-drop, get_or-take, ext_get_or}
+use Rattle.std.proofs.Common.{◌≡◌, ℕ, ◌+◌, ◌-◌, ◌<◌, ◌≤◌, ltb, List, length, get_or, take, drop, sym, ◌∙◌, arith, lt-ltb, length-drop, length-take-le, get_or-drop, get_or-take, ext_get_or}
 use Rattle.geometry.specs.declared.Geometry.{Geometry}
 use Rattle.model.specs.Layout.{field, numbers, state_of}
 use Rattle.model.proofs.LayoutFacts.{length_numbers, get_d_numbers}
 
 -- the number at address a, clamped
 module _ (t : List ℕ) (a n i : ℕ) where
-  pub field_in : {r : ℕ} → i < n → r ≡ get_or t a 0 → r ≡ field t (ltb i n) a
+  field_in : {r : ℕ} → i < n → r ≡ get_or t a 0 → r ≡ field t (ltb i n) a
   unfolding field
   field_in h e = rw (lt-ltb i n h) e
-
-  pub field_out : n ≤ i → 0 ≡ field t (ltb i n) a
-  unfolding field
-  field_out h = rw (le-ltb i n h)
 
 -- an arena's mark
 pub mark_is : (g : Geometry) (t : List ℕ) (a : ℕ) {m : ℕ} → a < g.arenas → m ≡ get_or t (16 + a) 0 → m ≡ (state_of g t).mark a

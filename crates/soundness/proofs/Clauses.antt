@@ -1,5 +1,31 @@
 -- Each clause of the test, from the numbers that were read.
-use Rattle.std.proofs.Common.{◌≡◌, ℕ, zero, suc, ◌-◌, ◌<◌, Bool, true, false, not, ◌&&◌, ◌||◌, eqb, ltb, leb, List, get_or, sym, refl, ap, ◌∙◌, arith, le-ltb, lt-ltb, ne_eqb}
+use Rattle.std.proofs.Common.{
+  ◌≡◌,
+  ℕ,
+  zero,
+  suc,
+  ◌-◌,
+  ◌<◌,
+  Bool,
+  true,
+  false,
+  not,
+  ◌&&◌,
+  ◌||◌,
+  eqb,
+  ltb,
+  leb,
+  List,
+  get_or,
+  sym,
+  refl,
+  ap,
+  ◌∙◌,
+  arith,
+  le-ltb,
+  lt-ltb,
+  ne_eqb,
+}
 use mathlib.Core.Bool.{beq}
 use Rattle.geometry.specs.declared.Geometry.{Geometry}
 use Rattle.geometry.specs.Limits.{blocks}

@@ -1,5 +1,37 @@
 -- The free words, as the check of them reads them: a copy of them, which the blocks that wait and those that are queued join, against the births.
-use Rattle.std.proofs.Common.{◌≡◌, ℕ, zero, suc, ◌+◌, ◌-◌, ◌*◌, ◌^◌, ◌<◌, ◌≤◌, min, Bool, true, false, ◌&&◌, ◌||◌, eqb, List, length, get_or, take, drop, sym, refl, ap, ◌∙◌, ap₂, arith, pow_pos, eq-eqb, eqb-true}
+use Rattle.std.proofs.Common.{
+  ◌≡◌,
+  ℕ,
+  zero,
+  suc,
+  ◌+◌,
+  ◌-◌,
+  ◌*◌,
+  ◌^◌,
+  ◌<◌,
+  ◌≤◌,
+  min,
+  Bool,
+  true,
+  false,
+  ◌&&◌,
+  ◌||◌,
+  eqb,
+  List,
+  length,
+  get_or,
+  take,
+  drop,
+  sym,
+  refl,
+  ap,
+  ◌∙◌,
+  ap₂,
+  arith,
+  pow_pos,
+  eq-eqb,
+  eqb-true,
+}
 use mathlib.Core.Bool.{and-true, or-true, or-false}
 use lib.ListN.{get_or-eq_default}
 use Rattle.answer.proofs.Cases.{cases, either, lt?}
@@ -147,6 +179,14 @@ module _ (T : State) (words : List ℕ) (p : ℕ → Bool) (size : length words 
 
 -- ── of the tables ──
 
+-- a copy of the free words has numbers of 32 bits
+pub copy_fits : (t : List ℕ) {words : List ℕ} → 128 ≤ length t → words ≡ take 64 (drop 64 t) → ((k : ℕ) → get_or t k 0 < 2 ^ 32) →
+    (k : ℕ) → get_or words k 0 < 2 ^ 32
+copy_fits t {words} room copied fits k =
+    cases (lt? k 64)
+    (λ h. rw (copied, part_at t 64 64 k h) (fits (64 + k)))
+    (λ h. rw (get_or-eq_default words 0 {n = k} (omega (arith, ap length copied ∙ part_long t 64 64 room))) (pow_pos 32))
+
 module _ (g : Geometry) (t : List ℕ) (roomy : Roomy g t) where
   abbrev start : ℕ
   start = 2048 + 512 * g.records
@@ -167,12 +207,6 @@ module _ (g : Geometry) (t : List ℕ) (roomy : Roomy g t) where
   pub births_long : (blocks g ≤ 2048) × (blocks g ≤ length births)
   births_long = let room = roomy.room in (omega (arith, roomy.inside.blocks_most), omega (arith, part_long t start (length t - start) (omega arith)))
 
-  copy_fits : ((k : ℕ) → get_or t k 0 < 2 ^ 32) → (k : ℕ) → get_or free_words k 0 < 2 ^ 32
-  copy_fits fits k =
-      cases (lt? k 64)
-      (λ h. rw (part_at t 64 64 k h) (fits (64 + k)))
-      (λ h. rw (get_or-eq_default free_words 0 {n = k} (omega (arith, copy_long refl))) (pow_pos 32))
-
   free_is : words_agree free_words (available (state_of g t)) (blocks g) 64 ≡ free? (state_of g t) t
   unfolding free? free_word state_of view_of
   free_is = words_are free_words (λ k. get_or t (free_cell k) 0) (available (state_of g t)) (blocks g) 64 (λ k h. part_at t 64 64 k h)
@@ -181,7 +215,17 @@ module _ (g : Geometry) (t : List ℕ) (roomy : Roomy g t) where
   unfolding born_free
   born b h = ap (λ (v : ℕ). eqb v 0) (part_at t start (length t - start) b (omega (arith, roomy.room)) ∙ sym (Fields.birth_is g t b h))
 
-  module _ (Q : QueueFits (state_of g t)) (fits : (k : ℕ) → get_or t k 0 < 2 ^ 32) where
+  -- more entries than blocks: one is none, or stands twice
+  pub fit_many : {n : ℕ} → n ≡ get_or t 11 0 → blocks g < n → false ≡ Fit
+  unfolding state_of view_of
+  fit_many en h =
+      cases (either (waiting? (state_of g t)))
+      (λ y.
+      let w = (says_waiting (state_of g t)).holds y in
+      absurd (let z : ⊥ = omega (arith, en, once_short (state_of g t).waiting (blocks g) w.once w.below, waiting_length g t) in z))
+      (λ y. rw y)
+
+  module _ (Q : QueueFits (state_of g t)) {words : List ℕ} (copied : words ≡ take 64 (drop 64 t)) (fits : (k : ℕ) → get_or words k 0 < 2 ^ 32) where
     -- the words with the blocks that wait, and with the queue's too
     abbrev waiting_words : List ℕ
     waiting_words = joined free_words (state_of g t).waiting
@@ -193,21 +237,11 @@ module _ (g : Geometry) (t : List ℕ) (roomy : Roomy g t) where
         (joins? (blocks g) waiting_words (state_of g t).queue.list && words_agree all_words_lem (born_free births) (blocks g) 64) ≡ Fit
     unfolding state_of view_of
     fit_of =
-        waiting_is (state_of g t) free_words (born_free births) (copy_long refl) births_long.0 (copy_fits fits) born Q ∙
+        waiting_is (state_of g t) free_words (born_free births) (copy_long refl) births_long.0 (rw copied at fits) born Q ∙
         ap (λ (x : Bool). waiting? (state_of g t) && x) free_is
 
     module _ {n : ℕ} (en : n ≡ get_or t 11 0) where
-      -- more entries than blocks: one is none, or stands twice
-      pub fit_many : blocks g < n → false ≡ Fit
-      unfolding state_of view_of
-      fit_many h =
-          cases (either (waiting? (state_of g t)))
-          (λ y.
-          let w = (says_waiting (state_of g t)).holds y in
-          absurd (let z : ⊥ = omega (arith, once_short (state_of g t).waiting (blocks g) w.once w.below, waiting_length g t) in z))
-          (λ y. rw y)
-
-      module _ {words after : List ℕ} {set : Bool} {from : ℕ} (copied : words ≡ take 64 (drop 64 t)) (ef : from ≡ wait_cell g.records (blocks g) 0)
+      module _ {after : List ℕ} {set : Bool} {from : ℕ} (ef : from ≡ wait_cell g.records (blocks g) 0)
           (is : (set ≡ joins? (blocks g) words (numbers t from n)) × (set ≡ true → after ≡ joined words (numbers t from n))) where
         tested : set ≡ joins? (blocks g) free_words (state_of g t).waiting
         unfolding state_of

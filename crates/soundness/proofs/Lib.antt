@@ -12,7 +12,6 @@ pub mod Short
 pub mod PagesLinks
 pub mod PagesMarks
 pub mod PagesWalk
-pub mod PagesBits
 pub mod PagesStep
 pub mod ListsStamps
 pub mod PagesSlots

@@ -1,5 +1,32 @@
 -- A deadlist, entry by entry, against the stamps of its slot.
-use Rattle.std.proofs.Common.{◌≡◌, ℕ, suc, ◌+◌, ◌-◌, ◌<◌, ◌≤◌, Bool, true, false, ◌&&◌, eqb, List, ◌∷◌, length, get_or, set, sym, ap, ◌∙◌, arith, length-set, get_or-set_other, get_or-set_same, eq-eqb, ne_eqb}
+use Rattle.std.proofs.Common.{
+  ◌≡◌,
+  ℕ,
+  suc,
+  ◌+◌,
+  ◌-◌,
+  ◌<◌,
+  ◌≤◌,
+  Bool,
+  true,
+  false,
+  ◌&&◌,
+  eqb,
+  List,
+  ◌∷◌,
+  length,
+  get_or,
+  set,
+  sym,
+  ap,
+  ◌∙◌,
+  arith,
+  length-set,
+  get_or-set_other,
+  get_or-set_same,
+  eq-eqb,
+  ne_eqb,
+}
 use lib.ListN.{get_or-eq_default}
 use Rattle.answer.proofs.Cases.{cases, same?}
 use Rattle.geometry.specs.declared.Geometry.{Geometry}

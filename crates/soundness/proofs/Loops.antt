@@ -1,5 +1,33 @@
 -- A loop that tests each number below n, in its turns, and tests that are joined.
-use Rattle.std.proofs.Common.{◌≡◌, ℕ, zero, suc, ◌+◌, ◌<◌, ◌≤◌, Bool, true, false, not, ◌&&◌, eqb, ltb, List, Option, sym, refl, ap, ◌∙◌, subst, add-one, arith, eq-eqb, ne_eqb, le-ltb, lt-ltb}
+use Rattle.std.proofs.Common.{
+  ◌≡◌,
+  ℕ,
+  zero,
+  suc,
+  ◌+◌,
+  ◌<◌,
+  ◌≤◌,
+  Bool,
+  true,
+  false,
+  not,
+  ◌&&◌,
+  eqb,
+  ltb,
+  List,
+  Option,
+  sym,
+  refl,
+  ap,
+  ◌∙◌,
+  subst,
+  add-one,
+  arith,
+  eq-eqb,
+  ne_eqb,
+  le-ltb,
+  lt-ltb,
+}
 use Rattle.std.proofs.iter.Yields.{nat_range_steps}
 use Rattle.std.proofs.lemmas.Bool.{and_left}
 use Rattle.std.proofs.lemmas.Iterator.{YieldsList-from_range}

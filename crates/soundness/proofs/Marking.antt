@@ -1,5 +1,42 @@
 -- The marks that the queue's blocks get, one after another, in a stranger's tables.
-use Rattle.std.proofs.Common.{◌≡◌, ℕ, suc, ◌+◌, ◌-◌, ◌<◌, ◌≤◌, Bool, true, false, not, ◌&&◌, ◌||◌, eqb, ltb, leb, List, [], ◌∷◌, length, get_or, set, sym, refl, ap, ◌∙◌, inl, inr, arith, length-set, get_or-set_other, get_or-set_same, le-ltb, lt-ltb, eq-eqb, ne_eqb}
+use Rattle.std.proofs.Common.{
+  ◌≡◌,
+  ℕ,
+  suc,
+  ◌+◌,
+  ◌-◌,
+  ◌<◌,
+  ◌≤◌,
+  Bool,
+  true,
+  false,
+  not,
+  ◌&&◌,
+  ◌||◌,
+  eqb,
+  ltb,
+  leb,
+  List,
+  [],
+  ◌∷◌,
+  length,
+  get_or,
+  set,
+  sym,
+  refl,
+  ap,
+  ◌∙◌,
+  inl,
+  inr,
+  arith,
+  length-set,
+  get_or-set_other,
+  get_or-set_same,
+  le-ltb,
+  lt-ltb,
+  eq-eqb,
+  ne_eqb,
+}
 use mathlib.Core.Bool.{and-false, or-false, or-true, or_assoc, false≢true}
 use Rattle.std.proofs.lemmas.Bool.{and_parts}
 use Rattle.soundness.proofs.Loops.{and_both_no}

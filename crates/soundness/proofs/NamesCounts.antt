@@ -1,5 +1,35 @@
 -- The counts of names of a stranger's tables: the rows of each link, counted one by one, and what is asked of a slot.
-use Rattle.std.proofs.Common.{◌≡◌, ℕ, suc, ◌+◌, ◌<◌, ◌≤◌, Bool, true, false, ◌&&◌, ◌||◌, eqb, leb, List, length, get_or, set, replicate, sym, refl, ap, ◌∙◌, add-one, arith, length-set, get_or-set_other, get_or-set_same, eq-eqb, ne_eqb}
+use Rattle.std.proofs.Common.{
+  ◌≡◌,
+  ℕ,
+  suc,
+  ◌+◌,
+  ◌<◌,
+  ◌≤◌,
+  Bool,
+  true,
+  false,
+  ◌&&◌,
+  ◌||◌,
+  eqb,
+  leb,
+  List,
+  length,
+  get_or,
+  set,
+  replicate,
+  sym,
+  refl,
+  ap,
+  ◌∙◌,
+  add-one,
+  arith,
+  length-set,
+  get_or-set_other,
+  get_or-set_same,
+  eq-eqb,
+  ne_eqb,
+}
 use lib.ListN.{get_or-replicate}
 use Rattle.answer.proofs.Cases.{cases, same?}
 use Rattle.geometry.specs.declared.Geometry.{Geometry}

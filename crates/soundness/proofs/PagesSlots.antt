@@ -1,5 +1,38 @@
 -- A slot: its walk and its deadlist together; and all slots.
-use Rattle.std.proofs.Common.{Option, Some, None, ◌≡◌, ℕ, suc, ◌+◌, ◌-◌, ◌<◌, ◌≤◌, Bool, true, false, cond, not, ◌&&◌, eqb, ltb, List, [], ◌∷◌, length, get_or, replicate, sym, refl, ap, ◌∙◌, add-one, arith, le-ltb, lt-ltb}
+use Rattle.std.proofs.Common.{
+  Option,
+  Some,
+  None,
+  ◌≡◌,
+  ℕ,
+  suc,
+  ◌+◌,
+  ◌-◌,
+  ◌<◌,
+  ◌≤◌,
+  Bool,
+  true,
+  false,
+  cond,
+  not,
+  ◌&&◌,
+  eqb,
+  ltb,
+  List,
+  [],
+  ◌∷◌,
+  length,
+  get_or,
+  replicate,
+  sym,
+  refl,
+  ap,
+  ◌∙◌,
+  add-one,
+  arith,
+  le-ltb,
+  lt-ltb,
+}
 use lib.ListN.{get_or-replicate, length-replicate, get_or-eq_default}
 use borrow.Author.Tests.{not-true, not-false}
 use Rattle.answer.proofs.Cases.{cases, same?, lt?}

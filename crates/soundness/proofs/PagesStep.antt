@@ -1,5 +1,41 @@
 -- The walk over a record's pages as the code goes it: a page that differs, the pages between, a word of pages, a row.
-use Rattle.std.proofs.Common.{Option, Some, None, ◌≡◌, ℕ, suc, ◌+◌, ◌-◌, ◌*◌, ◌^◌, ◌<◌, ◌≤◌, min, Bool, true, false, not, ◌&&◌, ltb, List, length, get_or, set, sym, refl, ap, ◌∙◌, lt_of_lt_of_le, lt_of_le_of_lt, arith, get_or-set_other, get_or-set_same, pow_mono, ltb-false, ltb-true}
+use Rattle.std.proofs.Common.{
+  Option,
+  Some,
+  None,
+  ◌≡◌,
+  ℕ,
+  suc,
+  ◌+◌,
+  ◌-◌,
+  ◌*◌,
+  ◌^◌,
+  ◌<◌,
+  ◌≤◌,
+  min,
+  Bool,
+  true,
+  false,
+  not,
+  ◌&&◌,
+  ltb,
+  List,
+  length,
+  get_or,
+  set,
+  sym,
+  refl,
+  ap,
+  ◌∙◌,
+  lt_of_lt_of_le,
+  lt_of_le_of_lt,
+  arith,
+  get_or-set_other,
+  get_or-set_same,
+  pow_mono,
+  ltb-false,
+  ltb-true,
+}
 use lib.Bits.{bit_and, and_le_l}
 use lib.Count.{count_trailing_zeros}
 use borrow.Author.Tests.{not-true, not-false}
@@ -18,7 +54,7 @@ use Rattle.tables.specs.Rows.{differs}
 use Rattle.tables.proofs.Fields.{page_is}
 use Rattle.soundness.specs.declared.pages.Kin.{Kin}
 use Rattle.soundness.specs.Pages.{reached, kin_of, younger, seen, left_at, Rest, rest_of, Walked, RowWords}
-use Rattle.soundness.proofs.PagesBits.{off_at, off_below, off_above}
+use Rattle.choice.proofs.Lowest.{off_at, off_below, off_above}
 use Rattle.soundness.proofs.PagesLinks.{reached_in, reached_out, page_reached}
 use Rattle.soundness.proofs.PagesWalk.{left_apart, left_first, rest_fails, rest_next, rest_skip}
 

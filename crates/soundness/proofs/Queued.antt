@@ -1,5 +1,33 @@
 -- The queue of a stranger's tables: its blocks have got marks, the births in it are counted, and both together are the test of it.
-use Rattle.std.proofs.Common.{◌≡◌, ℕ, zero, suc, ◌+◌, ◌<◌, ◌≤◌, Bool, true, false, not, ◌&&◌, ◌||◌, eqb, List, length, get_or, sym, refl, ap, ◌∙◌, ap₂, add-one, arith, eq-eqb, ne_eqb, eqb-true}
+use Rattle.std.proofs.Common.{
+  ◌≡◌,
+  ℕ,
+  zero,
+  suc,
+  ◌+◌,
+  ◌<◌,
+  ◌≤◌,
+  Bool,
+  true,
+  false,
+  not,
+  ◌&&◌,
+  ◌||◌,
+  eqb,
+  List,
+  length,
+  get_or,
+  sym,
+  refl,
+  ap,
+  ◌∙◌,
+  ap₂,
+  add-one,
+  arith,
+  eq-eqb,
+  ne_eqb,
+  eqb-true,
+}
 use mathlib.Core.Bool.{false≢true}
 use mir.Val.{bool_byte}
 use borrow.Author.Tests.{not-false}

@@ -1,5 +1,30 @@
 -- The header, the log, and the whole test.
-use Rattle.std.proofs.Common.{◌≡◌, ℕ, ◌*◌, ◌≤◌, Bool, true, false, cond, not, ◌&&◌, eqb, ltb, leb, List, get_or, take, replicate, sym, refl, ap, ◌∙◌, ap₂, arith, leb-true}
+use Rattle.std.proofs.Common.{
+  ◌≡◌,
+  ℕ,
+  ◌*◌,
+  ◌≤◌,
+  Bool,
+  true,
+  false,
+  cond,
+  not,
+  ◌&&◌,
+  eqb,
+  ltb,
+  leb,
+  List,
+  get_or,
+  take,
+  replicate,
+  sym,
+  refl,
+  ap,
+  ◌∙◌,
+  ap₂,
+  arith,
+  leb-true,
+}
 use mathlib.Core.Path.{fun_ext}
 use mathlib.Core.Bool.{and-false}
 use lib.ListN.{get_or-replicate, length-replicate, get_or-eq_default}

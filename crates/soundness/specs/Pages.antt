@@ -1,5 +1,31 @@
 -- The walk over the pages and deadlists of a stranger's tables.
-use Rattle.std.specs.Prelude.{◌≡◌, ℕ, zero, suc, ◌+◌, ◌-◌, ◌*◌, ◌<◌, ◌≤◌, min, Bool, true, false, cond, ◌&&◌, List, [], ◌∷◌, length, nat_le, nat_lt, slice_index, Option, Some, None}
+use Rattle.std.specs.Prelude.{
+  ◌≡◌,
+  ℕ,
+  zero,
+  suc,
+  ◌+◌,
+  ◌-◌,
+  ◌*◌,
+  ◌<◌,
+  ◌≤◌,
+  min,
+  Bool,
+  true,
+  false,
+  cond,
+  ◌&&◌,
+  List,
+  [],
+  ◌∷◌,
+  length,
+  nat_le,
+  nat_lt,
+  slice_index,
+  Option,
+  Some,
+  None,
+}
 use Rattle.choice.specs.Words.{word_of}
 use Rattle.model.specs.Table.{all}
 use Rattle.model.specs.Lists.{rows}

@@ -1,27 +1,27 @@
 // Which blocks are held: the births agree with marks, the queue has other blocks, and both agree with the free words and the blocks that wait, and with
 // what the log reads to.
-ghost use Rattle.std.specs.Prelude.{◌≡◌, ◌+◌, ℕ, ◌<◌, ◌≤◌, Bool, true, ◌&&◌, length, slice_index};
+ghost use Rattle.std.specs.Prelude.{◌≡◌, ◌+◌, ◌^◌, ℕ, ◌<◌, ◌≤◌, Bool, true, ◌&&◌, length, take, drop, slice_index};
 ghost use Rattle.geometry.specs.Limits.{blocks};
 ghost use Rattle.alloc_log.specs.Marks.{held_in};
 ghost use Rattle.model.specs.Table.{all};
 ghost use Rattle.model.specs.Check.{same};
 ghost use Rattle.model.specs.Held.{tally, on_pages, queued, held};
 ghost use Rattle.model.specs.State.{QueueFits};
-ghost use Rattle.model.specs.Layout.{numbers, view_of, state_of};
+ghost use Rattle.model.specs.Layout.{numbers};
 ghost use Rattle.model.specs.Memory.{queue?, waiting?, free?, log_holds?};
-ghost use Rattle.tables.specs.Ready.{Roomy, LogLong};
+ghost use Rattle.tables.specs.Ready.{LogLong};
+ghost use Rattle.tables.specs.Lent.{view_in, state_in};
 ghost use Rattle.soundness.specs.Waiting.{joined, joins?};
 ghost use Rattle.soundness.specs.Queue.{Marked, first_queued, marking, marks?};
 
-use crate::read::header_number;
 use alloc_log::read::read_log;
 use choice::{bit_of, words_agree};
-use geometry::Geometry;
 use tables::births::{queue_at, queue_births_at, waiting_at};
 use tables::cells::{FREE, LAST, PAGES, QUEUED, ROWS, USED, WAITS};
 use tables::find::wide;
+use tables::lent::Tables;
 
-// Of the first n blocks, those have a mark that pass a test, and no others. It looks at all of them, several in one instruction.
+// Of the first n blocks, those that pass a test have a mark, and no others. It looks at all of them, several in one instruction.
 fn marks_agree<F: Fn(usize) -> bool>(marks: &[u8; 2048], n: usize, passes: F) -> bool
     requires few { n ≤ 2048 }
     requires asked { (b : ℕ) → b < n → F.pre passes b }
@@ -36,24 +36,25 @@ fn marks_agree<F: Fn(usize) -> bool>(marks: &[u8; 2048], n: usize, passes: F) ->
 }
 
 // A block has a mark just where it has a birth.
-pub fn births_agree(g: Geometry, t: &[u32], marks: &[u8; 2048]) -> bool
-    requires { Roomy g t.now }
-    ensures { result ≡ all (blocks g) (λ b. same (held_in marks.now b) (on_pages (view_of g t.now) b)) }
+pub fn births_agree(tables: &Tables, marks: &[u8; 2048]) -> bool
+    ensures { result ≡ all (blocks tables.now.g) (λ b. same (held_in marks.now b) (on_pages (view_in tables.now) b)) }
 {
+    let g = tables.g;
     let births = PAGES + ROWS * g.records;
-    marks_agree(marks, g.arenas * g.per, |b| t[births + b] != 0)
+    marks_agree(marks, g.arenas * g.per, |b| tables.cells[births + b] != 0)
 }
 
 // Each of the n queued blocks is a block without a mark, and gets one: it is on no page, and not queued twice. Its birth in the queue is a number from 1 to
 // `last`.
-fn mark_queued(g: Geometry, t: &[u32], own: &mut [u8; 2048], n: usize, last: u32) -> bool
-    requires { Roomy g t.now × (n ≤ blocks g) × (length own.old ≡ 2048) }
-    ensures is { result ≡ marks? (blocks g) (state_of g t.now).queue.birth last own.old (first_queued g t.now n) }
-    ensures marked { result ≡ true → own.new ≡ marking own.old (first_queued g t.now n) }
+fn mark_queued(tables: &Tables, own: &mut [u8; 2048], n: usize, last: u32) -> bool
+    requires { (n ≤ blocks tables.now.g) × (length own.old ≡ 2048) }
+    ensures is { result ≡ marks? (blocks tables.now.g) (state_in tables.now).queue.birth last own.old (first_queued tables.now.g tables.now.cells.now n) }
+    ensures marked { result ≡ true → own.new ≡ marking own.old (first_queued tables.now.g tables.now.cells.now n) }
 {
+    let g = tables.g;
     let queue = queue_at(g);
     let births = queue_births_at(g);
-    for x in &t[queue..queue + n] {
+    for x in &tables.cells[queue..queue + n] {
         let b = wide(*x);
         if g.arenas * g.per <= b {
             return false;
@@ -61,7 +62,7 @@ fn mark_queued(g: Geometry, t: &[u32], own: &mut [u8; 2048], n: usize, last: u32
         if own[b] != 0 {
             return false;
         }
-        if !(1..=last).contains(&t[births + b]) {
+        if !(1..=last).contains(&tables.cells[births + b]) {
             return false;
         }
         own[b] = 1;
@@ -70,38 +71,40 @@ fn mark_queued(g: Geometry, t: &[u32], own: &mut [u8; 2048], n: usize, last: u32
 }
 
 // How many blocks have a birth in the queue. It looks at all blocks, several in one instruction.
-fn count_queued(g: Geometry, t: &[u32]) -> usize
-    requires { Roomy g t.now }
-    ensures { result ≡ tally (queued (state_of g t.now)) (blocks g) }
+fn count_queued(tables: &Tables) -> usize
+    ensures { result ≡ tally (queued (state_in tables.now)) (blocks tables.now.g) }
 {
+    let g = tables.g;
     let births = queue_births_at(g);
     let mut count: u32 = 0;
-    for birth in &t[births..births + g.arenas * g.per] {
+    for birth in &tables.cells[births..births + g.arenas * g.per] {
         count += u32::from(*birth != 0);
     }
     wide(count)
 }
 
 // The queue has each of its blocks once and none that has a mark, which is on a page; its blocks, and no others, have a birth in the queue. They get a mark.
-pub fn queue_fits(g: Geometry, t: &[u32], own: &mut [u8; 2048]) -> bool
-    requires { Roomy g t.now × (length own.old ≡ 2048) × Marked (blocks g) own.old (on_pages (view_of g t.now)) }
-    ensures is { result ≡ queue? (state_of g t.now) }
-    ensures marked { result ≡ true → Marked (blocks g) own.new (held (state_of g t.now)) }
+pub fn queue_fits(tables: &Tables, own: &mut [u8; 2048]) -> bool
+    requires { (length own.old ≡ 2048) × Marked (blocks tables.now.g) own.old (on_pages (view_in tables.now)) }
+    ensures is { result ≡ queue? (state_in tables.now) }
+    ensures marked { result ≡ true → Marked (blocks tables.now.g) own.new (held (state_in tables.now)) }
 {
-    let n = header_number(g, t, QUEUED);
+    let g = tables.g;
+    let n = tables.header_number(QUEUED);
     if g.arenas * g.per < n {
         return false;
     }
-    mark_queued(g, t, own, n, t[LAST]) && count_queued(g, t) == n
+    mark_queued(tables, own, n, tables.cells[LAST]) && count_queued(tables) == n
 }
 
 // Sets the bit of each of the n blocks of the list that begins at `from`. Each must be a block, and its bit not set before.
-fn set_listed(g: Geometry, t: &[u32], words: &mut [u32; 64], from: usize, n: usize) -> bool
-    requires { Roomy g t.now × (from + n ≤ length t.now) × (length words.old ≡ 64) }
-    ensures is { result ≡ joins? (blocks g) words.old (numbers t.now from n) }
-    ensures set { result ≡ true → words.new ≡ joined words.old (numbers t.now from n) }
+fn set_listed(tables: &Tables, words: &mut [u32; 64], from: usize, n: usize) -> bool
+    requires { (from + n ≤ length tables.now.cells.now) × (length words.old ≡ 64) }
+    ensures is { result ≡ joins? (blocks tables.now.g) words.old (numbers tables.now.cells.now from n) }
+    ensures set { result ≡ true → words.new ≡ joined words.old (numbers tables.now.cells.now from n) }
 {
-    for x in &t[from..from + n] {
+    let g = tables.g;
+    for x in &tables.cells[from..from + n] {
         let b = wide(*x);
         if g.arenas * g.per <= b {
             return false;
@@ -116,30 +119,48 @@ fn set_listed(g: Geometry, t: &[u32], words: &mut [u32; 64], from: usize, n: usi
     true
 }
 
+// A copy of the free words.
+fn free_words(t: &[u32]) -> [u32; 64]
+    requires { 128 ≤ length t.now }
+    ensures copy { result ≡ take 64 (drop 64 t.now) }
+    ensures range { (k : ℕ) → slice_index result k < 2 ^ 32 }
+{
+    let mut words = [0u32; 64];
+    words.copy_from_slice(&t[FREE..FREE + 64]);
+    words
+}
+
 // The free words tell the blocks that may be given: with those that wait and those that are queued, which are other ones, they are the blocks that have
 // no birth. The queue is known to fit.
-pub fn words_fit(g: Geometry, t: &[u32]) -> bool
-    requires { Roomy g t.now × QueueFits (state_of g t.now) }
-    ensures { result ≡ (waiting? (state_of g t.now) && free? (state_of g t.now) t.now) }
+pub fn words_fit(tables: &Tables) -> bool
+    requires { QueueFits (state_in tables.now) }
+    ensures { result ≡ (waiting? (state_in tables.now) && free? (state_in tables.now) tables.now.cells.now) }
 {
-    let n = header_number(g, t, WAITS);
+    let g = tables.g;
+    let n = tables.header_number(WAITS);
     if g.arenas * g.per < n {
         return false;
     }
-    let mut words = [0u32; 64];
-    words.copy_from_slice(&t[FREE..FREE + 64]);
+    let mut words = free_words(tables.cells);
     let births = PAGES + ROWS * g.records;
-    set_listed(g, t, &mut words, waiting_at(g), n)
-        && set_listed(g, t, &mut words, queue_at(g), header_number(g, t, QUEUED))
-        && words_agree(&words, &t[births..], g.arenas * g.per)
+    set_listed(tables, &mut words, waiting_at(g), n)
+        && set_listed(
+            tables,
+            &mut words,
+            queue_at(g),
+            tables.header_number(QUEUED),
+        )
+        && words_agree(&words, &tables.cells[births..], g.arenas * g.per)
 }
 
 // The log reads to the held blocks, on pages or queued, which are those with a mark in `own`.
-pub fn log_holds(g: Geometry, t: &[u32], log: &[u8], own: &[u8; 2048]) -> bool
-    requires { Roomy g t.now × LogLong g log.now × (slice_index t.now 9 ≤ g.words) × Marked (blocks g) own.now (held (state_of g t.now)) }
-    ensures { result ≡ log_holds? g (state_of g t.now) log.now }
+pub fn log_holds(tables: &Tables, log: &[u8], own: &[u8; 2048]) -> bool
+    requires { LogLong tables.now.g log.now × (slice_index tables.now.cells.now 9 ≤ tables.now.g.words) ×
+        Marked (blocks tables.now.g) own.now (held (state_in tables.now)) }
+    ensures { result ≡ log_holds? tables.now.g (state_in tables.now) log.now }
 {
-    let used = header_number(g, t, USED);
+    let g = tables.g;
+    let used = tables.header_number(USED);
     let end = 8 * used;
     let Some(marks) = read_log(&log[..end], g.arenas, g.per) else {
         return false;

@@ -8,7 +8,6 @@ pub mod lengths;
 mod lists;
 mod names;
 mod pages;
-mod read;
 mod records;
 
 ghost use Rattle.std.specs.Prelude.{◌≡◌};
@@ -21,21 +20,23 @@ use crate::names::names_fit;
 use crate::pages::pages_fit;
 use crate::records::{records_fit, windows_fit};
 use geometry::Geometry;
+use tables::lent::Tables;
 
 // Whether the tables and the log are a sound store.
 pub fn is_sound(g: Geometry, t: &[u32], log: &[u8]) -> bool
     requires { Roomy g t.now × LogLong g log.now }
     ensures { result ≡ sound? g t.now log.now }
 {
-    if !(numbers_fit(g, t) && ranges_fit(g, t) && records_fit(g, t)) {
+    let tables = Tables { g, cells: t };
+    if !(numbers_fit(&tables) && ranges_fit(&tables) && records_fit(&tables)) {
         return false;
     }
     let mut own = [0u8; 2048];
-    pages_fit(g, t, &mut own)
-        && births_agree(g, t, &own)
-        && queue_fits(g, t, &mut own)
-        && words_fit(g, t)
-        && windows_fit(g, t)
-        && names_fit(g, t)
-        && log_holds(g, t, log, &own)
+    pages_fit(&tables, &mut own)
+        && births_agree(&tables, &own)
+        && queue_fits(&tables, &mut own)
+        && words_fit(&tables)
+        && windows_fit(&tables)
+        && names_fit(&tables)
+        && log_holds(&tables, log, &own)
 }

@@ -3,14 +3,13 @@ ghost use Rattle.std.specs.Prelude.{◌≡◌, ℕ, suc, ◌+◌, ◌<◌, ◌�
 ghost use Rattle.model.specs.Table.{all};
 ghost use Rattle.model.specs.Names.{letters, valid_name};
 ghost use Rattle.model.specs.NamesAgree.{owned};
-ghost use Rattle.model.specs.Layout.{title_cell, letters_cell, numbers, titles_of, view_of, state_of};
+ghost use Rattle.model.specs.Layout.{title_cell, letters_cell, numbers, titles_of};
 ghost use Rattle.model.specs.Memory.{other_name?, row?, count?, names?};
-ghost use Rattle.tables.specs.Ready.{Roomy};
+ghost use Rattle.tables.specs.Lent.{view_in, state_in};
 
-use crate::read::column_number;
-use geometry::Geometry;
 use tables::cells::{LETTERS, NAMES, NUMBER, OPEN, TITLE, TITLES};
 use tables::find::wide;
+use tables::lent::Tables;
 use tables::titles::is_letter;
 
 // The n numbers from `at` on are letters.
@@ -22,20 +21,22 @@ fn letters_fit(t: &[u32], at: usize, n: usize) -> bool
 }
 
 // The name that stands in row i has 1 to 32 letters a to z. Of a longer one none is looked at.
-fn name_fits(t: &[u32], i: usize) -> bool
-    requires { (2048 ≤ length t.now) × (i < 32) }
-    ensures is { result ≡ valid_name (numbers t.now (letters_cell i) (slice_index t.now (title_cell i + 1))) }
-    ensures range { result ≡ true → slice_index t.now (title_cell i + 1) ≤ 32 }
+fn name_fits(tables: &Tables, i: usize) -> bool
+    requires { i < 32 }
+    ensures is { result ≡ valid_name (numbers tables.now.cells.now (letters_cell i) (slice_index tables.now.cells.now (title_cell i + 1))) }
+    ensures range { result ≡ true → slice_index tables.now.cells.now (title_cell i + 1) ≤ 32 }
 {
-    let n = wide(t[TITLES + TITLE * i + 1]);
-    (1..=32).contains(&n) && letters_fit(t, TITLES + LETTERS + TITLE * i, n)
+    let n = wide(tables.cells[TITLES + TITLE * i + 1]);
+    (1..=32).contains(&n) && letters_fit(tables.cells, TITLES + LETTERS + TITLE * i, n)
 }
 
 // Row j is empty, or its name is another than that of row i, which is in use.
-fn is_other(t: &[u32], i: usize, j: usize) -> bool
-    requires { (2048 ≤ length t.now) × (i < 32) × (j < 32) × (0 < slice_index t.now (title_cell i)) × (slice_index t.now (title_cell i + 1) ≤ 32) }
-    ensures { result ≡ other_name? (titles_of t.now) i j }
+fn is_other(tables: &Tables, i: usize, j: usize) -> bool
+    requires { (i < 32) × (j < 32) × (0 < slice_index tables.now.cells.now (title_cell i)) ×
+        (slice_index tables.now.cells.now (title_cell i + 1) ≤ 32) }
+    ensures { result ≡ other_name? (titles_of tables.now.cells.now) i j }
 {
+    let t = tables.cells;
     if t[TITLES + TITLE * j] == 0 {
         return true;
     }
@@ -49,41 +50,40 @@ fn is_other(t: &[u32], i: usize, j: usize) -> bool
 }
 
 // No row before row i, which is in use, has its name.
-fn is_first(t: &[u32], i: usize) -> bool
-    requires { (2048 ≤ length t.now) × (i < 32) × (0 < slice_index t.now (title_cell i)) × (slice_index t.now (title_cell i + 1) ≤ 32) }
-    ensures { result ≡ all i (other_name? (titles_of t.now) i) }
+fn is_first(tables: &Tables, i: usize) -> bool
+    requires { (i < 32) × (0 < slice_index tables.now.cells.now (title_cell i)) × (slice_index tables.now.cells.now (title_cell i + 1) ≤ 32) }
+    ensures { result ≡ all i (other_name? (titles_of tables.now.cells.now) i) }
 {
-    (0..i).all(|j| is_other(t, i, j))
+    (0..i).all(|j| is_other(tables, i, j))
 }
 
 // Row i is empty, or it names a record in the store by a valid name that no row before it has.
-fn row_fits(g: Geometry, t: &[u32], i: usize) -> bool
-    requires { Roomy g t.now × (i < 32) }
-    ensures { result ≡ row? (view_of g t.now) (titles_of t.now) i }
+fn row_fits(tables: &Tables, i: usize) -> bool
+    requires { i < 32 }
+    ensures { result ≡ row? (view_in tables.now) (titles_of tables.now.cells.now) i }
 {
-    let link = wide(t[TITLES + TITLE * i]);
+    let link = wide(tables.cells[TITLES + TITLE * i]);
     if link == 0 {
         return true;
     }
-    column_number(g, t, NUMBER, link - 1) != 0 && name_fits(t, i) && is_first(t, i)
+    tables.column_number(NUMBER, link - 1) != 0 && name_fits(tables, i) && is_first(tables, i)
 }
 
 // All rows.
-fn rows_fit(g: Geometry, t: &[u32]) -> bool
-    requires { Roomy g t.now }
-    ensures { result ≡ all 32 (row? (view_of g t.now) (titles_of t.now)) }
+fn rows_fit(tables: &Tables) -> bool
+    ensures { result ≡ all 32 (row? (view_in tables.now) (titles_of tables.now.cells.now)) }
 {
-    (0..32).all(|i| row_fits(g, t, i))
+    (0..32).all(|i| row_fits(tables, i))
 }
 
 // How many rows each link has: number s + 1 is how many rows are of slot s, and the first how many are empty.
-fn count_rows(t: &[u32]) -> [u32; 65]
-    requires { (2048 ≤ length t.now) × ((i : ℕ) → i < 32 → slice_index t.now (title_cell i) ≤ 64) }
-    ensures { (s : ℕ) → s < 64 → slice_index result (s + 1) ≡ owned (titles_of t.now) s }
+fn count_rows(tables: &Tables) -> [u32; 65]
+    requires { (i : ℕ) → i < 32 → slice_index tables.now.cells.now (title_cell i) ≤ 64 }
+    ensures { (s : ℕ) → s < 64 → slice_index result (s + 1) ≡ owned (titles_of tables.now.cells.now) s }
 {
     let mut rows = [0u32; 65];
     for i in 0..32 {
-        let link = wide(t[TITLES + TITLE * i]);
+        let link = wide(tables.cells[TITLES + TITLE * i]);
         rows[link] += 1;
     }
     rows
@@ -97,21 +97,21 @@ fn count_fits(number: u32, opened: u32, count: u32, rows: u32) -> bool
 }
 
 // All counts. It looks at all slots, several in one instruction.
-fn counts_fit(g: Geometry, t: &[u32], rows: &[u32; 65]) -> bool
-    requires { Roomy g t.now × ((s : ℕ) → s < 64 → slice_index rows.now (s + 1) ≡ owned (titles_of t.now) s) }
-    ensures { result ≡ all g.records (count? (view_of g t.now) (titles_of t.now) (state_of g t.now).notes.names) }
+fn counts_fit(tables: &Tables, rows: &[u32; 65]) -> bool
+    requires { (s : ℕ) → s < 64 → slice_index rows.now (s + 1) ≡ owned (titles_of tables.now.cells.now) s }
+    ensures { result ≡ all tables.now.g.records (count? (view_in tables.now) (titles_of tables.now.cells.now) (state_in tables.now).notes.names) }
 {
+    let t = tables.cells;
     let mut fit = true;
-    for s in 0..g.records {
+    for s in 0..tables.g.records {
         fit &= count_fits(t[NUMBER + s], t[OPEN + s], t[NAMES + s], rows[s + 1]);
     }
     fit
 }
 
 // The rows of names, then the counts of the records: each row is counted once.
-pub fn names_fit(g: Geometry, t: &[u32]) -> bool
-    requires { Roomy g t.now }
-    ensures { result ≡ names? (view_of g t.now) (state_of g t.now).notes }
+pub fn names_fit(tables: &Tables) -> bool
+    ensures { result ≡ names? (view_in tables.now) (state_in tables.now).notes }
 {
-    rows_fit(g, t) && counts_fit(g, t, &count_rows(t))
+    rows_fit(tables) && counts_fit(tables, &count_rows(tables))
 }

@@ -2,51 +2,46 @@
 ghost use Rattle.std.specs.Prelude.{◌≡◌, ◌<◌, not, ◌&&◌, ◌||◌, ◌==◌, nat_le, nat_lt};
 ghost use Rattle.model.specs.Table.{all};
 ghost use Rattle.model.specs.Check.{imp, prev?, base?, two?};
-ghost use Rattle.model.specs.Layout.{view_of, state_of};
 ghost use Rattle.model.specs.Memory.{windows?};
-ghost use Rattle.tables.specs.Ready.{Roomy};
+ghost use Rattle.tables.specs.Lent.{view_in, state_in};
 ghost use Rattle.soundness.specs.Pairs.{linked_to?};
 
-use crate::read::{column_number, header_number};
-use geometry::Geometry;
 use tables::cells::{BASE, LAST, NUMBER, OPEN, PREV, WINDOW};
+use tables::lent::Tables;
 
 // The record behind a link, if there is one, is in the store, sealed, and older than the one in slot s.
-fn link_fits(g: Geometry, t: &[u32], s: usize, link: usize) -> bool
-    requires { Roomy g t.now }
-    ensures { result ≡ base? (view_of g t.now) s link }
+fn link_fits(tables: &Tables, s: usize, link: usize) -> bool
+    ensures { result ≡ base? (view_in tables.now) s link }
 {
     if link == 0 {
         return true;
     }
     let p = link - 1;
-    let older = column_number(g, t, NUMBER, p);
-    let opened = column_number(g, t, OPEN, p);
-    let number = column_number(g, t, NUMBER, s);
+    let older = tables.column_number(NUMBER, p);
+    let opened = tables.column_number(OPEN, p);
+    let number = tables.column_number(NUMBER, s);
     (0 < older) & (opened == 0) & (older < number)
 }
 
 // The base of the line of the record in slot s.
-fn base_fits(g: Geometry, t: &[u32], s: usize) -> bool
-    requires { Roomy g t.now }
-    ensures { result ≡ base? (view_of g t.now) s ((view_of g t.now).base s) }
+fn base_fits(tables: &Tables, s: usize) -> bool
+    ensures { result ≡ base? (view_in tables.now) s ((view_in tables.now).base s) }
 {
-    let link = column_number(g, t, BASE, s);
-    link_fits(g, t, s, link)
+    let link = tables.column_number(BASE, s);
+    link_fits(tables, s, link)
 }
 
 // The record before the one in slot s in its line: it has the same base.
-fn prev_fits(g: Geometry, t: &[u32], s: usize) -> bool
-    requires { Roomy g t.now }
-    ensures { result ≡ prev? (view_of g t.now) s ((view_of g t.now).prev s) }
+fn prev_fits(tables: &Tables, s: usize) -> bool
+    ensures { result ≡ prev? (view_in tables.now) s ((view_in tables.now).prev s) }
 {
-    let link = column_number(g, t, PREV, s);
+    let link = tables.column_number(PREV, s);
     if link == 0 {
         return true;
     }
-    let older = link_fits(g, t, s, link);
-    let before = column_number(g, t, BASE, link - 1);
-    let base = column_number(g, t, BASE, s);
+    let older = link_fits(tables, s, link);
+    let before = tables.column_number(BASE, link - 1);
+    let base = tables.column_number(BASE, s);
     older & (before == base)
 }
 
@@ -60,10 +55,11 @@ fn two_fit(number: u32, prev: u32, other: u32, others: u32) -> bool
 }
 
 // The record in slot s beside those in the slots before: two are compared once. It looks at all, several in one instruction.
-fn others_fit(g: Geometry, t: &[u32], s: usize) -> bool
-    requires { Roomy g t.now × (s < g.records) }
-    ensures { result ≡ all s (λ k. imp (nat_lt 0 ((view_of g t.now).num k)) (two? (view_of g t.now) s k)) }
+fn others_fit(tables: &Tables, s: usize) -> bool
+    requires { s < tables.now.g.records }
+    ensures { result ≡ all s (λ k. imp (nat_lt 0 ((view_in tables.now).num k)) (two? (view_in tables.now) s k)) }
 {
+    let t = tables.cells;
     let number = t[NUMBER + s];
     let prev = t[PREV + s];
     let mut fit = true;
@@ -74,27 +70,26 @@ fn others_fit(g: Geometry, t: &[u32], s: usize) -> bool
 }
 
 // The record in slot s, if there is one.
-fn record_fits(g: Geometry, t: &[u32], s: usize) -> bool
-    requires { Roomy g t.now × (s < g.records) }
-    ensures { result ≡ imp (nat_lt 0 ((view_of g t.now).num s)) (linked_to? (view_of g t.now) s s) }
+fn record_fits(tables: &Tables, s: usize) -> bool
+    requires { s < tables.now.g.records }
+    ensures { result ≡ imp (nat_lt 0 ((view_in tables.now).num s)) (linked_to? (view_in tables.now) s s) }
 {
-    let number = column_number(g, t, NUMBER, s);
+    let number = tables.column_number(NUMBER, s);
     if number == 0 {
         return true;
     }
-    let given = number <= header_number(g, t, LAST);
-    let others = others_fit(g, t, s);
-    let prev = prev_fits(g, t, s);
-    let base = base_fits(g, t, s);
+    let given = number <= tables.header_number(LAST);
+    let others = others_fit(tables, s);
+    let prev = prev_fits(tables, s);
+    let base = base_fits(tables, s);
     given & others & prev & base
 }
 
 // All records.
-pub fn records_fit(g: Geometry, t: &[u32]) -> bool
-    requires { Roomy g t.now }
-    ensures { result ≡ all g.records (λ s. imp (nat_lt 0 ((view_of g t.now).num s)) (linked_to? (view_of g t.now) s s)) }
+pub fn records_fit(tables: &Tables) -> bool
+    ensures { result ≡ all tables.now.g.records (λ s. imp (nat_lt 0 ((view_in tables.now).num s)) (linked_to? (view_in tables.now) s s)) }
 {
-    (0..g.records).all(|s| record_fits(g, t, s))
+    (0..tables.g.records).all(|s| record_fits(tables, s))
 }
 
 // The window of one slot: of an open record it is at most 62.
@@ -105,12 +100,12 @@ fn window_fits(number: u32, opened: u32, window: u32) -> bool
 }
 
 // All windows. It looks at all slots, several in one instruction.
-pub fn windows_fit(g: Geometry, t: &[u32]) -> bool
-    requires { Roomy g t.now }
-    ensures { result ≡ windows? (view_of g t.now) (state_of g t.now).notes }
+pub fn windows_fit(tables: &Tables) -> bool
+    ensures { result ≡ windows? (view_in tables.now) (state_in tables.now).notes }
 {
+    let t = tables.cells;
     let mut fit = true;
-    for s in 0..g.records {
+    for s in 0..tables.g.records {
         fit &= window_fits(t[NUMBER + s], t[OPEN + s], t[WINDOW + s]);
     }
     fit

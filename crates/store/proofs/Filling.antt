@@ -46,7 +46,8 @@ zeros_at t n i h l =
     get_or-append (replicate n 0) (drop (0 + length (replicate n 0)) t) 0 i (omega arith) ∙ get_or-replicate n i 0 0 l
 
 -- a store of what u has there
-stores : (t u : List ℕ) (i v : ℕ) → i < length t → get_or u i 0 ≡ v → (j : ℕ) → ((j ≡ i → ⊥) → get_or t j 0 ≡ get_or u j 0) → get_or (set t i v) j 0 ≡ get_or u j 0
+stores : (t u : List ℕ) (i v : ℕ) → i < length t → get_or u i 0 ≡ v → (j : ℕ) → ((j ≡ i → ⊥) → get_or t j 0 ≡ get_or u j 0) →
+    get_or (set t i v) j 0 ≡ get_or u j 0
 stores t u i v h e j other =
     cases (same? j i)
     (λ s. rw s (get_or-set_same t i v 0 h ∙ sym e))

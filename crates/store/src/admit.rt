@@ -1,29 +1,24 @@
 // What a call asks of what it was lent before it acts.
-ghost use Rattle.geometry.specs.Limits.{geometry_of};
+ghost use Rattle.geometry.specs.Limits.{asked};
 ghost use Rattle.model.specs.Memory.{lent};
 ghost use Rattle.store.specs.Admitted.{Admits};
 
 use answer::Refusal;
-use geometry::Geometry;
+use geometry::{Geometry, Numbers};
 use soundness::is_sound;
 use soundness::lengths::is_short;
 
 // The geometry of six numbers, where the memory is long enough for it, and tables and log are a sound store. Refusals 2, 3, 4.
 pub fn admitted(
-    arenas: usize,
-    per: usize,
-    pages: usize,
-    records: usize,
-    turn: usize,
-    words: usize,
+    numbers: Numbers,
     tables: &[u32],
     log: &[u8],
     out: &[u32],
 ) -> Result<Geometry, Refusal>
-    ensures { Admits (geometry_of arenas per pages records turn words)
+    ensures { Admits (asked numbers)
         (lent tables.now log.now out.now) result }
 {
-    let g = Geometry::new(arenas, per, pages, records, turn, words)?;
+    let g = Geometry::new(numbers)?;
     if is_short(g, tables, log, out) {
         return Err(Refusal::TooShort);
     }

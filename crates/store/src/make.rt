@@ -2,13 +2,13 @@
 ghost use Rattle.std.specs.Prelude.{◌≡◌, ◌≤◌, ◌<◌, length, replicate};
 ghost use Rattle.std.proofs.lemmas.List.Edits.{sets};
 ghost use Rattle.answer.specs.Reply.{reply_of};
-ghost use Rattle.geometry.specs.Limits.{Inside, geometry_of};
+ghost use Rattle.geometry.specs.Limits.{Inside, asked};
 ghost use Rattle.model.specs.Layout.{need, made, listed};
 ghost use Rattle.model.specs.Memory.{make_reply, make_after, lent};
 ghost use Rattle.store.specs.Fresh.{full_word, six_numbers};
 
 use answer::{Answer, Refusal};
-use geometry::Geometry;
+use geometry::{Geometry, Numbers};
 use soundness::lengths::is_short;
 use tables::cells::{FREE, PAGES, ROWS};
 
@@ -55,21 +55,11 @@ fn fill(t: &mut [u32], g: Geometry)
     put_six(t, g);
 }
 
-pub fn make(
-    arenas: usize,
-    per: usize,
-    pages: usize,
-    records: usize,
-    turn: usize,
-    words: usize,
-    tables: &mut [u32],
-    log: &[u8],
-    out: &[u32],
-) -> Answer
-    ensures reply { reply_of result out.now ≡ make_reply (geometry_of arenas per pages records turn words) (lent tables.old log.now out.now) }
-    ensures tables { tables.new ≡ (make_after (geometry_of arenas per pages records turn words) (lent tables.old log.now out.now)).tables }
+pub fn make(numbers: Numbers, tables: &mut [u32], log: &[u8], out: &[u32]) -> Answer
+    ensures reply { reply_of result out.now ≡ make_reply (asked numbers) (lent tables.old log.now out.now) }
+    ensures tables { tables.new ≡ (make_after (asked numbers) (lent tables.old log.now out.now)).tables }
 {
-    let g = Geometry::new(arenas, per, pages, records, turn, words)?;
+    let g = Geometry::new(numbers)?;
     if is_short(g, tables, log, out) {
         return Err(Refusal::TooShort);
     }

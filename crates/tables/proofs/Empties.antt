@@ -36,7 +36,8 @@ module _ (p : ℕ → Bool) where
 
   pub two_words : (low high : ℕ) → low ≡ word_of p 0 32 → high ≡ word_of p 32 32 → bit_or low (high * 2 ^ 32 % 2 ^ 64) ≡ word_of p 0 64
   two_words low high e d =
-      rw (e, d, shl_exact 32 32 64 (word_lt p 32 32) (omega arith)) (or_shifted_r (word_of p 32 32) 32 (word_of p 0 32) (word_lt p 0 32) ∙ sym (word_split 32 32))
+      rw (e, d, shl_exact 32 32 64 (word_lt p 32 32) (omega arith))
+      (or_shifted_r (word_of p 32 32) 32 (word_of p 0 32) (word_lt p 0 32) ∙ sym (word_split 32 32))
 
   -- ── the first slot of a word ──
 

@@ -1,18 +1,11 @@
--- Words that say where two rows of pages differ, and how the bits of such a word are used up.
-use mathlib.Core.Path.{◌≡◌, refl, sym, ap, ◌∙◌}
-use mathlib.Core.Bool.{Bool, true, false}
+-- Words that say where two rows of pages differ.
+use mathlib.Core.Path.{◌≡◌, refl, sym, ◌∙◌}
+use mathlib.Core.Bool.{Bool}
 use mathlib.Core.List.{List}
-use Prim.Native.Nat.{ℕ, zero, suc, ◌+◌, ◌-◌, ◌/◌, ◌^◌, ◌≤◌, ◌<◌}
+use Prim.Native.Nat.{ℕ, zero, suc, ◌+◌, ◌-◌, ◌≤◌, ◌<◌}
 use native.Mathlib.Omega.{arith}
 use lib.ListN.{get_or}
-use native.Mathlib.Nat.{lt_of_lt_of_le}
-use lib.Count.{count_trailing_zeros}
-use lib.Pow.{pow_mono, shr_lt, shr-shr}
-use Rattle.answer.proofs.Cases.{cases, lt?}
-use Rattle.choice.specs.Words.{bit, word_of}
-use Rattle.choice.proofs.Bit.{bit_shift, bit_high, no_bit, tz_below, tz_at}
-use Rattle.choice.proofs.Births.{word_bit, word_lt}
-use Rattle.choice.proofs.Finds.{true_false}
+use Rattle.choice.specs.Words.{word_of}
 use Rattle.geometry.specs.declared.Geometry.{Geometry}
 use Rattle.model.specs.Table.{via}
 use Rattle.model.specs.Layout.{page_cell, view_of}
@@ -47,49 +40,3 @@ module _ (g : Geometry) (t : List ℕ) (s x n : ℕ) (hs : s < g.records) (hx : 
   word_filled zero d e =
       e ∙ word_ext (filled t (page_cell s x)) (differs (view_of g t) s 0) 0 x n (λ k l. rw (page_at s k hs l))
   word_filled (suc r) d e = absurd (let z : ⊥ = omega arith in z)
-
--- ── the bits of a word used up ──
-
--- `rest` is what is left of the word of n places from x on, from place y on
-module _ (p : ℕ → Bool) (x n y : ℕ) {rest : ℕ} (few : n ≤ 32) (from : x ≤ y) (e : rest ≡ word_of p x n / 2 ^ (y - x)) where
-  rest_bit : (j : ℕ) → y + j < x + n → p (y + j) ≡ bit rest j
-  rest_bit j h =
-      let z : y + j ≡ x + (y - x + j) = omega arith in
-      ap p z ∙ sym (word_bit p x n (y - x + j) (omega arith)) ∙ sym (bit_shift (word_of p x n) (y - x) j) ∙ ap (λ (w : ℕ). bit w j) (sym e)
-
-  -- no place is left
-  pub bits_none : rest ≡ 0 → (j : ℕ) → y + j < x + n → p (y + j) ≡ false
-  bits_none z j h = rest_bit j h ∙ ap (λ (w : ℕ). bit w j) z ∙ no_bit j
-
-  bits_wide : rest < 2 ^ 32
-  bits_wide = rw e (shr_lt 32 (y - x) (lt_of_lt_of_le (word_lt p x n) (pow_mono (omega arith))))
-
-  -- the next one
-  module _ (some : rest ≡ 0 → ⊥) where
-    more : 0 < rest
-    more = pos rest some
-      where
-        pos : (k : ℕ) → (k ≡ 0 → ⊥) → 0 < k
-        pos k m = omega arith
-
-    pub bits_inside : y + count_trailing_zeros 32 rest < x + n
-    bits_inside =
-        cases (lt? (y + count_trailing_zeros 32 rest) (x + n))
-        (λ h. h)
-        (λ h. absurd (true_false (tz_at 32 rest more bits_wide).1
-        (ap (λ (w : ℕ). bit w (count_trailing_zeros 32 rest)) e ∙ bit_shift (word_of p x n) (y - x) (count_trailing_zeros 32 rest)
-        ∙ bit_high n (word_of p x n) (y - x + count_trailing_zeros 32 rest) (word_lt p x n) (omega arith))))
-
-    pub bits_few : count_trailing_zeros 32 rest < 32
-    bits_few = (tz_at 32 rest more bits_wide).0
-
-    pub bits_below : (j : ℕ) → j < count_trailing_zeros 32 rest → p (y + j) ≡ false
-    bits_below j h = rest_bit j (omega (arith, bits_inside)) ∙ tz_below 32 rest j h
-
-    pub bits_at : p (y + count_trailing_zeros 32 rest) ≡ true
-    bits_at = rest_bit (count_trailing_zeros 32 rest) bits_inside ∙ (tz_at 32 rest more bits_wide).1
-
-  pub bits_next : (k : ℕ) → rest / 2 ^ k / 2 ^ 1 ≡ word_of p x n / 2 ^ (y + k + 1 - x)
-  bits_next k =
-      let z : y - x + k + 1 ≡ y + k + 1 - x = omega arith in
-      rw (e, shr-shr (word_of p x n) (y - x) k, shr-shr (word_of p x n) (y - x + k) 1, z)

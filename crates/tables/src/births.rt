@@ -22,6 +22,7 @@ pub fn give_block(t: &mut [u32], g: Geometry, b: usize, n: u32)
 }
 
 // Where the queue begins: its blocks, in order.
+// Kept: this function and the next two have one form, since their names say more at a call than a number from 1 to 3.
 pub fn queue_at(g: Geometry) -> usize
     requires { Inside g }
     ensures { result ≡ queue_cell g.records (blocks g) 0 }

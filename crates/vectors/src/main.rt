@@ -22,6 +22,7 @@ fn serve(rt: &HostRuntime, text: &[u8]) -> io::Result<()> {
     let mut session = start();
     let mut at: usize = 0;
     let mut output = io::writer(rt);
+    // Kept: how far a part goes is known only after it, which no range tells.
     while at < text.len() {
         let served = serve_part(text, at, session, &mut t, &mut log, &mut out, &mut replies);
         let used = served.used;
@@ -37,6 +38,7 @@ fn read_full(file: &mut File, space: &mut [u8]) -> io::Result<usize>
     ensures { IfOk result (λ n. n ≤ length space.new) }
 {
     let mut n: usize = 0;
+    // Kept: `read_exact` fails at the end of the input, and `read_to_end` needs a `Vec` and goes on where a signal interrupts it.
     while n < space.len() {
         let more = file.read(&mut space[n..])?;
         if more == 0 {

@@ -1,31 +1,16 @@
--- The free block stands in the arena that is reached, or after it, at the head of the loop.
-use Prim.Native.Nat.{◌+◌, ◌*◌, ◌≤◌}
-use native.Mathlib.Omega.{arith}
+-- The arena that is found begins no later than the free block; those before it end no later.
+use Rattle.std.proofs.Common.{◌+◌, ◌*◌, ◌<◌, ◌≤◌, lt_of_lt_of_le, rules}
+use Rattle.std.proofs.lemmas.Iterator.{first_from_Range}
 use Rattle.choice.specs.Words.{free_in}
-use Rattle.choice.proofs.Passes.{next_start, arena_most, free_after}
+use Rattle.choice.proofs.Passes.{begins_first, free_after}
 use Rattle.choice.proofs.arena_after.Goals as goal
 
-pub loop-end-init : goal.loop-end-init
-loop-end-init c =
+pub returns-clause-none : goal.returns-clause-none
+returns-clause-none c =
     let s = c.args in
+    let free = c.first_given-free.result in
     let found = free_after (free_in s.words.now) s.arenas s.per s.arena c.requires.1 c.requires.3 c.requires.0 c.first_given-free.ensures in
-    let e = next_start s.arena s.per in
-    (omega arith, omega arith, omega arith, omega (arith, found.from))
-
-pub loop-end-preserved : goal.loop-end-preserved
-loop-end-preserved c =
-    let s = c.args in
-    let found = free_after (free_in s.words.now) s.arenas s.per s.arena c.requires.1 c.requires.3 c.requires.0 c.first_given-free.ensures in
-    let e = next_start c.loop-end.next s.per in
-    let u = found.to in
-    let l : (c.loop-end.next + 1) * s.per ≤ s.arenas * s.per = omega arith in
-    (omega arith, omega arith, arena_most s.arenas s.per (c.loop-end.next + 1) (omega arith) l, omega arith)
-
-pub returns : goal.returns
-returns c =
-    let s = c.args in
-    let found = free_after (free_in s.words.now) s.arenas s.per s.arena c.requires.1 c.requires.3 c.requires.0 c.first_given-free.ensures in
-    let i = c.loop-end.invariant in record {
-      range = (i.1, i.2);
-      none = λ b l u. found.none b l (omega arith);
-    }
+    let first = first_from_Range _ _ _ _ (λ i. free < i * s.per + s.per) (λ i. i * s.per + s.per ≤ free) c.find.ensures.ran
+    (λ x q e. search rules) (λ x q e. (search rules, search rules)) in
+    let low = begins_first s.arenas s.per s.arena free c.find.result c.requires.0 found.from first in
+    λ b l u. found.none b l (lt_of_lt_of_le (rw c.unwrap_or.ensures at u) low)

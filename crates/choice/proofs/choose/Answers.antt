@@ -58,19 +58,22 @@ loop-at-init c =
 pub overflow_mul-block : goal.overflow_mul-block
 overflow_mul-block c =
     let ends : (let s = c.args in
-    (c.search.arena * s.per + s.per ≤ s.arenas * s.per) × (s.arenas * s.per ≤ 16384)) = (let p = c.requires in few _ _ c.search.arena p.arenas_most p.per_most c.search.invariant.low) in
+    (c.search.arena * s.per + s.per ≤ s.arenas * s.per) × (s.arenas * s.per ≤ 16384)) =
+    (let p = c.requires in few _ _ c.search.arena p.arenas_most p.per_most c.search.invariant.low) in
     omega (arith, ends)
 
 pub overflow_add-block : goal.overflow_add-block
 overflow_add-block c =
     let ends : (let s = c.args in
-    (c.search.arena * s.per + s.per ≤ s.arenas * s.per) × (s.arenas * s.per ≤ 16384)) = (let p = c.requires in few _ _ c.search.arena p.arenas_most p.per_most c.search.invariant.low) in
+    (c.search.arena * s.per + s.per ≤ s.arenas * s.per) × (s.arenas * s.per ≤ 16384)) =
+    (let p = c.requires in few _ _ c.search.arena p.arenas_most p.per_most c.search.invariant.low) in
     omega (arith, ends, c.loop-at.invariant.end_inside)
 
 pub look-near-requires : goal.look-near-requires
 look-near-requires c =
     let ends : (let s = c.args in
-    (c.search.arena * s.per + s.per ≤ s.arenas * s.per) × (s.arenas * s.per ≤ 16384)) = (let p = c.requires in few _ _ c.search.arena p.arenas_most p.per_most c.search.invariant.low) in
+    (c.search.arena * s.per + s.per ≤ s.arenas * s.per) × (s.arenas * s.per ≤ 16384)) =
+    (let p = c.requires in few _ _ c.search.arena p.arenas_most p.per_most c.search.invariant.low) in
     let e = ends in
     let i = c.loop-at.invariant.end_inside in
     let w = c.requires.words_long in
@@ -82,19 +85,22 @@ overflow_add-offset c = let d = c.before.before in omega (arith, d.loop-at.invar
 pub overflow_mul-arenas : goal.overflow_mul-arenas
 overflow_mul-arenas c =
     let ends : (let s = c.args in
-    (c.search.arena * s.per + s.per ≤ s.arenas * s.per) × (s.arenas * s.per ≤ 16384)) = (let p = c.requires in few _ _ c.search.arena p.arenas_most p.per_most c.search.invariant.low) in
+    (c.search.arena * s.per + s.per ≤ s.arenas * s.per) × (s.arenas * s.per ≤ 16384)) =
+    (let p = c.requires in few _ _ c.search.arena p.arenas_most p.per_most c.search.invariant.low) in
     omega (arith, ends)
 
 pub none_free-requires : goal.none_free-requires
 none_free-requires c =
     let ends : (let s = c.args in
-    (c.search.arena * s.per + s.per ≤ s.arenas * s.per) × (s.arenas * s.per ≤ 16384)) = (let p = c.requires in few _ _ c.search.arena p.arenas_most p.per_most c.search.invariant.low) in
+    (c.search.arena * s.per + s.per ≤ s.arenas * s.per) × (s.arenas * s.per ≤ 16384)) =
+    (let p = c.requires in few _ _ c.search.arena p.arenas_most p.per_most c.search.invariant.low) in
     let o = c in ((ends).1, c.requires.words_long)
 
 pub jump-at-requires : goal.jump-at-requires
 jump-at-requires c =
     let ends : (let s = c.args in
-    (c.search.arena * s.per + s.per ≤ s.arenas * s.per) × (s.arenas * s.per ≤ 16384)) = (let p = c.requires in few _ _ c.search.arena p.arenas_most p.per_most c.search.invariant.low) in
+    (c.search.arena * s.per + s.per ≤ s.arenas * s.per) × (s.arenas * s.per ≤ 16384)) =
+    (let p = c.requires in few _ _ c.search.arena p.arenas_most p.per_most c.search.invariant.low) in
     let d = c.before.before.before.before in
     let e = ends in
     let i = d.loop-at.invariant.end_inside in

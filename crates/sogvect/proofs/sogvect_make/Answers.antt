@@ -6,6 +6,6 @@ use Rattle.sogvect.proofs.sogvect_make.Goals as goal
 pub returns : goal.returns
 returns c =
     let m = c.make-a.ensures in record {
-      code = c.coded.ensures.code ∙ code_is _ _ _ m.reply;
-      tables = m.tables;
+      code = c.coded.ensures.code ∙ code_is _ _ _ (rw c.of-numbers.ensures at m.reply);
+      tables = rw c.of-numbers.ensures at m.tables;
     }

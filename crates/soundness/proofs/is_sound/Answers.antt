@@ -29,7 +29,6 @@ returns-then-not-records_fit c =
 
 pub queue_fits-requires : goal.queue_fits-requires
 queue_fits-requires c = (
-  c.requires.0,
   c.pages_fit.ensures.size,
   elim c.if-pages_fit.branch [
     | then-pages_fit w ↦ own_are c.args.g c.args.t.now _ (sym w.births_agree.ensures ∙ sym w.value-is ∙ c.if-births_agree.true)
@@ -38,13 +37,11 @@ queue_fits-requires c = (
 )
 
 pub words_fit-requires : goal.words_fit-requires
-words_fit-requires c = (
-  c.requires.0,
-  elim c.if-births_agree.branch [
-    | then-births_agree w ↦ (queue_says c.args.g c.args.t.now).holds (sym w.queue_fits.ensures.is ∙ sym w.value-is ∙ c.if-queue_fits.true)
-    | else-births_agree w ↦ absurd (false≢true (sym (w.value-is ∙ w.if-births_agree.false) ∙ c.if-queue_fits.true))
-  ],
-)
+words_fit-requires c =
+    elim c.if-births_agree.branch [
+      | then-births_agree w ↦ (queue_says c.args.g c.args.t.now).holds (sym w.queue_fits.ensures.is ∙ sym w.value-is ∙ c.if-queue_fits.true)
+      | else-births_agree w ↦ absurd (false≢true (sym (w.value-is ∙ w.if-births_agree.false) ∙ c.if-queue_fits.true))
+    ]
 
 pub log_holds-requires : goal.log_holds-requires
 log_holds-requires c =
@@ -64,7 +61,6 @@ log_holds-requires c =
       | then-queue_fits w ↦ w.if-queue_fits.true
       | else-queue_fits w ↦ absurd (false≢true (sym (w.value-is ∙ w.if-queue_fits.false) ∙ five))
     ] in (
-      c.requires.0,
       c.requires.1,
       elim c.if-numbers_fit.branch [
         | then-numbers_fit w ↦ range_known c.args.g c.args.t.now (sym w.ranges_fit.ensures ∙ sym w.value-is ∙ headed)

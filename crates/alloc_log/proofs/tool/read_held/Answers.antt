@@ -1,7 +1,7 @@
 -- `read_held`: each return is one law of `Tools`, from the tests that led there.
 use Rattle.std.proofs.Common.{◌≡◌, Err, ap, ◌∙◌, arith}
 use Rattle.geometry.specs.declared.Geometry.{Geometry}
-use Rattle.geometry.specs.Limits.{geometry_of}
+use Rattle.geometry.specs.Limits.{asked}
 use Rattle.alloc_log.specs.Read.{told, read_log}
 use Rattle.alloc_log.specs.Settled.{settled}
 use Rattle.alloc_log.proofs.Tools.{MadeOf, made_of, settled_part, read_outside, read_refused_3, read_refused_7, read_done}
@@ -9,7 +9,7 @@ use Rattle.alloc_log.proofs.tool.read_held.Goals as goal
 
 pub returns-in_err-g : goal.returns-in_err-g
 returns-in_err-g c =
-    let six : (Geometry) = (geometry_of c.args.arenas c.args.per c.args.pages c.args.records c.args.turn c.args.words) in
+    let six : (Geometry) = (asked c.args.numbers) in
     let gone : c.from_residual.result ≡ Err c.in_err-g.field-0.0 = grind arith in
     let both = read_outside c.args.log.now c.args.out.now (six) c.in_err-g.ensures.is in record {
       reply = rw gone both.0;
@@ -18,25 +18,25 @@ returns-in_err-g c =
 
 pub overflow_mul-blocks : goal.overflow_mul-blocks
 overflow_mul-blocks c =
-    let six : (Geometry) = (geometry_of c.args.arenas c.args.per c.args.pages c.args.records c.args.turn c.args.words) in
+    let six : (Geometry) = (asked c.args.numbers) in
     let is_made : (MadeOf (six) c.in_ok-g.g) = (made_of (six) c.in_ok-g.g c.in_ok-g.ensures.is) in
     omega (arith, (is_made).inside.blocks_most)
 
 pub overflow_mul-blocks-2 : goal.overflow_mul-blocks-2
 overflow_mul-blocks-2 c =
-    let six : (Geometry) = (geometry_of c.args.arenas c.args.per c.args.pages c.args.records c.args.turn c.args.words) in
+    let six : (Geometry) = (asked c.args.numbers) in
     let is_made : (MadeOf (six) c.in_ok-g.g) = (made_of (six) c.in_ok-g.g c.in_ok-g.ensures.is) in
     omega (arith, (is_made).inside.blocks_most)
 
 pub overflow_add-blocks : goal.overflow_add-blocks
 overflow_add-blocks c =
-    let six : (Geometry) = (geometry_of c.args.arenas c.args.per c.args.pages c.args.records c.args.turn c.args.words) in
+    let six : (Geometry) = (asked c.args.numbers) in
     let is_made : (MadeOf (six) c.in_ok-g.g) = (made_of (six) c.in_ok-g.g c.in_ok-g.ensures.is) in
     omega (arith, (is_made).inside.blocks_most)
 
 pub returns-then-out-blocks : goal.returns-then-out-blocks
 returns-then-out-blocks c =
-    let six : (Geometry) = (geometry_of c.args.arenas c.args.per c.args.pages c.args.records c.args.turn c.args.words) in
+    let six : (Geometry) = (asked c.args.numbers) in
     let is_made : (MadeOf (six) c.in_ok-g.g) = (made_of (six) c.in_ok-g.g c.in_ok-g.ensures.is) in
     let both = read_refused_3 _ _ (is_made) c.if-out-blocks.true in record {
       reply = both.0;
@@ -45,14 +45,14 @@ returns-then-out-blocks c =
 
 pub read_log-requires : goal.read_log-requires
 read_log-requires c =
-    let six : (Geometry) = (geometry_of c.args.arenas c.args.per c.args.pages c.args.records c.args.turn c.args.words) in
+    let six : (Geometry) = (asked c.args.numbers) in
     let is_made : (MadeOf (six) c.in_ok-g.g) = (made_of (six) c.in_ok-g.g c.in_ok-g.ensures.is) in
     let i = (is_made).inside in
     (i.per_least, i.blocks_most)
 
 pub returns-in_default : goal.returns-in_default
 returns-in_default c =
-    let six : (Geometry) = (geometry_of c.args.arenas c.args.per c.args.pages c.args.records c.args.turn c.args.words) in
+    let six : (Geometry) = (asked c.args.numbers) in
     let is_made : (MadeOf (six) c.in_ok-g.g) = (made_of (six) c.in_ok-g.g c.in_ok-g.ensures.is) in
     let reads : (let s = c.args in
     let g = c.in_ok-g.g in
@@ -67,14 +67,14 @@ returns-in_default c =
 
 pub list_held-requires : goal.list_held-requires
 list_held-requires c =
-    let six : (Geometry) = (geometry_of c.args.arenas c.args.per c.args.pages c.args.records c.args.turn c.args.words) in
+    let six : (Geometry) = (asked c.args.numbers) in
     let is_made : (MadeOf (six) c.in_ok-g.g) = (made_of (six) c.in_ok-g.g c.in_ok-g.ensures.is) in
     let i = (is_made).inside in
     omega (arith, i.blocks_most, c.if-out-blocks.false)
 
 pub returns : goal.returns
 returns c =
-    let six : (Geometry) = (geometry_of c.args.arenas c.args.per c.args.pages c.args.records c.args.turn c.args.words) in
+    let six : (Geometry) = (asked c.args.numbers) in
     let is_made : (MadeOf (six) c.in_ok-g.g) = (made_of (six) c.in_ok-g.g c.in_ok-g.ensures.is) in
     let reads : (let s = c.args in
     let g = c.in_ok-g.g in

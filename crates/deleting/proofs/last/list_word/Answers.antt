@@ -1,10 +1,13 @@
--- The blocks of the pages passed are listed, and the word's bits from `from` on are left.
+-- The blocks of the pages passed are listed, and the bits of the others are left.
 use mathlib.Core.Path.{refl, sym, ap, ◌∙◌}
-use Prim.Native.Nat.{◌/◌, ◌^◌, ◌+◌}
+use Prim.Native.Nat.{◌+◌}
 use lib.ListN.{length, length-set}
 use lib.Seq.{sets}
 use Rattle.model.specs.Lists.{rows}
 use Rattle.model.specs.Layout.{view_of}
+use Rattle.tables.specs.Rows.{differs}
+use Rattle.choice.specs.declared.bits.Bits.{Bits}
+use Rattle.choice.proofs.Taking.{left_all}
 use Rattle.deleting.proofs.Owning
 use native.Mathlib.Omega.{arith}
 use Rattle.deleting.proofs.last.list_word.Goals as goal
@@ -14,8 +17,10 @@ differing-word-requires c = (c.requires.0.roomy, c.requires.2, c.requires.4, c.r
 
 pub loop-k-init : goal.loop-k-init
 unfolding rows
-loop-k-init c = rw (c.into_iter-k-iterator.ensures.into_iter_gives, c.of-k-items.ensures)
-    (c.differing-word.ensures, omega arith, omega (arith, c.requires.7), refl, omega arith, refl)
+loop-k-init c =
+    let a = c.args in
+    let e = ap (λ (b : Bits). b.word) (c.into_iter-k-iterator.ensures.into_iter_gives ∙ c.of-k-items.ensures) ∙ c.differing-word.ensures in
+    (0, left_all (differs (view_of a.g a.t.now) a.s a.pred) a.x a.n e, omega (arith, c.requires.7), refl, omega arith, refl)
 
 pub page_at-link-requires : goal.page_at-link-requires
 page_at-link-requires c =
@@ -23,13 +28,12 @@ page_at-link-requires c =
     let l = c.loop-k in
     let i = l.invariant in
     let K = view_of a.g a.t.now in
-    let e = ap (λ w. w / 2 ^ l.k-iterator.from) i.0 in
     let next = c.in-Some.ensures.steps in (
       c.requires.0.roomy,
       c.requires.2,
       omega (
         arith,
-        Owning.listed_inside K a.s a.pred c.requires.3 a.x a.n l.k-iterator.from c.requires.5 i.1 e next.0
+        Owning.listed_inside K a.s a.pred c.requires.3 a.x a.n i.0 c.requires.5 i.1 next.0
             c.in-Some.k next.1,
         c.requires.6,
       ),
@@ -41,11 +45,10 @@ bounds-out-found c =
     let l = c.loop-k in
     let i = l.invariant in
     let K = view_of a.g a.t.now in
-    let e = ap (λ w. w / 2 ^ l.k-iterator.from) i.0 in
     let next = c.in-Some.ensures.steps in
     omega (
       arith,
-      Owning.listed_room K a.s a.pred c.requires.3 a.x a.n l.k-iterator.from c.requires.5 i.1 e next.0 c.in-Some.k next.1 _
+      Owning.listed_room K a.s a.pred c.requires.3 a.x a.n i.0 c.requires.5 i.1 next.0 c.in-Some.k next.1 _
           c.page_at-link.ensures c.if-link-ne0.true,
       c.requires.1,
       i.3,
@@ -58,14 +61,14 @@ loop-k-preserved-then-link-ne0 c =
     let l = c.loop-k in
     let i = l.invariant in
     let K = view_of a.g a.t.now in
-    let e = ap (λ w. w / 2 ^ l.k-iterator.from) i.0 in
     let next = c.in-Some.ensures.steps in
-    let inside = Owning.listed_inside K a.s a.pred c.requires.3 a.x a.n l.k-iterator.from c.requires.5 i.1 e next.0 c.in-Some.k next.1 in
-    let one = Owning.listed_count K a.s a.pred c.requires.3 a.x a.n l.k-iterator.from c.requires.5 i.1 e next.0 c.in-Some.k next.1 _ c.page_at-link.ensures
+    let from = Owning.listed_from K a.s a.pred c.requires.3 a.x a.n i.0 c.requires.5 i.1 next.0 c.in-Some.k next.1 in
+    let left = Owning.listed_left K a.s a.pred c.requires.3 a.x a.n i.0 c.requires.5 i.1 next.0 c.in-Some.k next.1 in
+    let one = Owning.listed_count K a.s a.pred c.requires.3 a.x a.n i.0 c.requires.5 i.1 next.0 c.in-Some.k next.1 _ c.page_at-link.ensures
     c.if-link-ne0.true in
-    let out = Owning.listed_out K a.s a.pred c.requires.3 a.x a.n l.k-iterator.from c.requires.5 i.1 e next.0 c.in-Some.k next.1 _ c.page_at-link.ensures
+    let out = Owning.listed_out K a.s a.pred c.requires.3 a.x a.n i.0 c.requires.5 i.1 next.0 c.in-Some.k next.1 _ c.page_at-link.ensures
     c.if-link-ne0.true _ _ _ _ i.4 i.5 in
-    rw (next.2, next.3) (i.0, omega (arith, inside), omega (arith, i.2, next.1), simp length-set i.3, omega (arith, i.4, one), out)
+    rw next.2 (c.in-Some.k + 1, left, omega (arith, i.2, from), simp length-set i.3, omega (arith, i.4, one), out)
 
 pub loop-k-preserved : goal.loop-k-preserved
 loop-k-preserved c =
@@ -73,15 +76,15 @@ loop-k-preserved c =
     let l = c.loop-k in
     let i = l.invariant in
     let K = view_of a.g a.t.now in
-    let e = ap (λ w. w / 2 ^ l.k-iterator.from) i.0 in
     let next = c.in-Some.ensures.steps in
-    let inside = Owning.listed_inside K a.s a.pred c.requires.3 a.x a.n l.k-iterator.from c.requires.5 i.1 e next.0 c.in-Some.k next.1 in
-    let same = Owning.listed_none K a.s a.pred c.requires.3 a.x a.n l.k-iterator.from c.requires.5 i.1 e next.0 c.in-Some.k next.1 _ c.page_at-link.ensures
+    let from = Owning.listed_from K a.s a.pred c.requires.3 a.x a.n i.0 c.requires.5 i.1 next.0 c.in-Some.k next.1 in
+    let left = Owning.listed_left K a.s a.pred c.requires.3 a.x a.n i.0 c.requires.5 i.1 next.0 c.in-Some.k next.1 in
+    let same = Owning.listed_none K a.s a.pred c.requires.3 a.x a.n i.0 c.requires.5 i.1 next.0 c.in-Some.k next.1 _ c.page_at-link.ensures
     c.if-link-ne0.false in
-    rw (next.2, next.3) (
-      i.0,
-      omega (arith, inside),
-      omega (arith, i.2, next.1),
+    rw next.2 (
+      c.in-Some.k + 1,
+      left,
+      omega (arith, i.2, from),
       i.3,
       i.4 ∙ ap (λ m. a.count + length m) (sym same),
       i.5 ∙ ap (sets a.out.now a.count) (sym same),
@@ -93,10 +96,9 @@ returns c =
     let l = c.loop-k in
     let i = l.invariant in
     let K = view_of a.g a.t.now in
-    let e = ap (λ w. w / 2 ^ l.k-iterator.from) i.0 in
-    let all = Owning.listed_end K a.s a.pred c.requires.3 a.x a.n l.k-iterator.from c.requires.5 i.1 e c.in-None.ensures.steps in
+    let all = Owning.listed_end K a.s a.pred c.requires.3 a.x a.n i.0 c.requires.5 i.1 c.in-None.ensures.steps in
     record {
       count = i.4 ∙ ap (λ m. a.count + length m) all;
-      range = omega (arith, i.1, i.2);
+      range = omega (arith, i.1.to, i.2);
       out = i.5 ∙ ap (sets a.out.now a.count) all;
     }

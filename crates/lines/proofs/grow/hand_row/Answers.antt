@@ -3,8 +3,8 @@ use native.Mathlib.Omega.{arith}
 use Rattle.lines.proofs.Growing
 use Rattle.lines.proofs.grow.hand_row.Goals as goal
 
-pub returns-then-row-eq0 : goal.returns-then-row-eq0
-returns-then-row-eq0 c = Growing.handed_none _ _ _ c.if-row-eq0.true
+pub returns-in_default : goal.returns-in_default
+returns-in_default c = Growing.handed_none _ _ _ c.in_default.is
 
-pub returns : goal.returns
-returns c = Growing.handed_some _ _ _ _ c.if-row-eq0.false (omega arith)
+pub returns-in-Some : goal.returns-in-Some
+returns-in-Some c = Growing.handed_some _ _ _ _ _ c.in-Some.is (omega arith)

@@ -6,8 +6,12 @@ use Rattle.paging.proofs.erase.erase.Goals as goal
 
 pub erase_page-requires : goal.erase_page-requires
 erase_page-requires c =
-    let j = c.in_ok-s.ensures in
-    (Erasing.erase_target c.requires.0 _ _ _ _ j.0 j.1 c.wide.ensures, Erasing.erase_fits c.requires.0 _ _ _ _ j.0 j.1 c.wide.ensures, c.requires.1, c.requires.2)
+    let j = c.in_ok-s.ensures in (
+      Erasing.erase_target c.requires.0 _ _ _ _ j.0 j.1 c.wide.ensures,
+      Erasing.erase_fits c.requires.0 _ _ _ _ j.0 j.1 c.wide.ensures,
+      c.requires.1,
+      c.requires.2,
+    )
 
 pub returns-in_err-s : goal.returns-in_err-s
 returns-in_err-s c =

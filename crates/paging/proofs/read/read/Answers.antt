@@ -16,10 +16,11 @@ returns-then-g-wide c = let both = Answers.refused_out _ _ _ NoSuchPage (Looking
 }
 
 pub returns-then-link-eq0 : goal.returns-then-link-eq0
-returns-then-link-eq0 c = let both = Answers.refused_out _ _ _ NoSuchRecord (Looking.read_8 _ _ _ _ _ c.wide.ensures _ c.if-g-wide.false c.requires.2.0 c.if-link-eq0.true) _ in record {
-  reply = both.0;
-  out = both.1;
-}
+returns-then-link-eq0 c = let both = Answers.refused_out _ _ _ NoSuchRecord (Looking.read_8 _ _ _ _ _ c.wide.ensures _
+    c.if-g-wide.false c.requires.2.0 c.if-link-eq0.true) _ in record {
+      reply = both.0;
+      out = both.1;
+    }
 
 pub returns-then-there-eq0 : goal.returns-then-there-eq0
 returns-then-there-eq0 c = let both = Looking.read_empty _ _ _ _ _ c.wide.ensures c.requires.0 _ c.if-g-wide.false c.requires.2.0 c.if-link-eq0.false _ _

@@ -22,7 +22,7 @@ pub loop-link-init : goal.loop-link-init
 loop-link-init c = (
   omega arith,
   omega (arith, c.wide-link.ensures, Ranges.prev_cell_le c.requires.0 c.args.s c.requires.1),
-  λ g R h. Lining.lining_first R c.args.s h c.args.line.now _ c.requires.2 c.wide-link.ensures,
+  λ g R h. Lining.lining_first R c.args.s h c.args.line.now _ (omega arith) c.wide-link.ensures,
 )
 
 pub bounds-line-count : goal.bounds-line-count

@@ -1,4 +1,5 @@
 -- `call_line` meets its contract.
+use native.Mathlib.Omega.{arith}
 use mathlib.Core.Path.{sym, ◌∙◌}
 use borrow.Author.Tests.{eqb-true, eqb-false}
 use lib.ListN.{length}
@@ -18,4 +19,4 @@ pub returns : goal.returns
 returns c =
     let xs = c.args.line.now in
     let read = c.numbers_at.ensures in
-    c.call_of.ensures ∙ call_says xs _ _ (eqb-false (length xs) 0 (sym c.is_empty.ensures ∙ c.if-is_empty.false)) read.long (rw c.in-Some.is at read.is)
+    c.call_of.ensures ∙ call_says xs _ _ (eqb-false (length xs) 0 (sym c.is_empty.ensures ∙ c.if-is_empty.false)) (omega arith) (rw c.in-Some.is at read.is)

@@ -1,4 +1,5 @@
 -- `name_line` meets its contract, test by test.
+use native.Mathlib.Omega.{arith}
 use mathlib.Core.Path.{◌≡◌, refl, ap, ◌∙◌}
 use Prim.Native.Nat.{ℕ, ◌+◌}
 use lib.ListN.{drop}
@@ -32,4 +33,4 @@ returns c =
     let end : 2 + c.run_to-end.result ≡ 2 + name_run (drop 2 xs) = ap (λ (n : ℕ). 2 + n) (c.run_to-end.ensures.is ∙ name_is xs 2 _ refl) in
     let read = c.numbers_at in
     c.naming_of.ensures
-    ∙ name_says xs _ _ read.new.out c.if-line-lt3.false c.if-line-ne32.false end c.if-end-eq2.false read.ensures.long (rw c.in-Some.is at read.ensures.is)
+    ∙ name_says xs _ _ read.new.out c.if-line-lt3.false c.if-line-ne32.false end c.if-end-eq2.false (omega arith) (rw c.in-Some.is at read.ensures.is)

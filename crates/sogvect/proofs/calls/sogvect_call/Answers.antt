@@ -17,4 +17,4 @@ returns c =
     let six : (Geometry) = (geometry_of c.args.arenas c.args.per c.args.pages c.args.records c.args.turn c.args.words) in
     let memory : (Memory) = (lent c.args.tables.now c.args.log.now c.args.out.now) in
     called (six) (memory) _ _ _ _ c.in-Asks.c _ _ _ _
-    (is_call _ _ _ c.asked_by-asked.ensures c.in-Asks.is) c.call-a.ensures (c.coded.ensures.code, c.coded.ensures.given)
+    (is_call _ _ _ c.asked_by-asked.ensures c.in-Asks.is) (rw c.of-numbers.ensures at c.call-a.ensures) (c.coded.ensures.code, c.coded.ensures.given)

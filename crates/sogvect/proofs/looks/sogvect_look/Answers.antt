@@ -34,4 +34,4 @@ returns c =
     let asked = is_call _ (asks) _ c.asked_by-asked.ensures c.in-Asks.is in
     let seen = sym c.look_of.ensures ∙ ap seen_call c.in-Some.is in
     called (six) (memory) _ _ _ _ (look_call c.in-Some.l) _ _ _ _
-    (ap only_looks asked ∙ seen) c.look-a.ensures (c.coded.ensures.code, c.coded.ensures.given)
+    (ap only_looks asked ∙ seen) (rw c.of-numbers.ensures at c.look-a.ensures) (c.coded.ensures.code, c.coded.ensures.given)

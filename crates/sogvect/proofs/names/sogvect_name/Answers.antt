@@ -9,4 +9,4 @@ pub returns : goal.returns
 returns c =
     let a = c.args in
     (replied (geometry_of a.arenas a.per a.pages a.records a.turn a.words) (lent a.tables.now a.log.now a.out.now) _ _ _ _
-    (Attach a.name.now a.«record») _ _ _ c.attach-a.ensures (c.coded.ensures.code, c.coded.ensures.given)).0
+    (Attach a.name.now a.«record») _ _ _ (rw c.of-numbers.ensures at c.attach-a.ensures) (c.coded.ensures.code, c.coded.ensures.given)).0

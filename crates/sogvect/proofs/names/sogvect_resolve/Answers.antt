@@ -8,7 +8,7 @@ use Rattle.sogvect.proofs.names.sogvect_resolve.Goals as goal
 pub returns : goal.returns
 returns c =
     let a = c.args in let both = replied (geometry_of a.arenas a.per a.pages a.records a.turn a.words) (lent a.tables.now a.log.now a.out.now) _ _ _ _
-    (Resolve a.name.now) _ _ _ c.resolve-a.ensures (c.coded.ensures.code, c.coded.ensures.given) in record {
+    (Resolve a.name.now) _ _ _ (rw c.of-numbers.ensures at c.resolve-a.ensures) (c.coded.ensures.code, c.coded.ensures.given) in record {
       answer = both.0;
       count = both.1;
     }

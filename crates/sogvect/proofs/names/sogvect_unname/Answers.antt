@@ -9,4 +9,4 @@ pub returns : goal.returns
 returns c =
     let a = c.args in
     (replied (geometry_of a.arenas a.per a.pages a.records a.turn a.words) (lent a.tables.now a.log.now a.out.now) _ _ _ _
-    (Detach a.name.now) _ _ _ c.detach-a.ensures (c.coded.ensures.code, c.coded.ensures.given)).0
+    (Detach a.name.now) _ _ _ (rw c.of-numbers.ensures at c.detach-a.ensures) (c.coded.ensures.code, c.coded.ensures.given)).0

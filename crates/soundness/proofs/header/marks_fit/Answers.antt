@@ -7,6 +7,6 @@ use Rattle.soundness.proofs.header.marks_fit.Goals as goal
 
 pub returns : goal.returns
 returns c =
-    let a = c.args in
-    all_of_range a.g.arenas (λ k. ltb (get_or a.t.now (16 + k) 0) a.g.per) _ _ _ c.all.ensures.ran refl (λ x b q k. search (rules, tests)) ∙
-    all_same a.g.arenas _ _ (λ k h. ap (λ (m : ℕ). ltb m a.g.per) (mark_is a.g a.t.now k h refl))
+    let a = c.args in let g = a.tables.now.g in let t = a.tables.now.cells.now in
+    all_of_range g.arenas (λ k. ltb (get_or t (16 + k) 0) g.per) _ _ _ c.all.ensures.ran refl (λ x b q k. search (rules, tests)) ∙
+    all_same g.arenas _ _ (λ k h. ap (λ (m : ℕ). ltb m g.per) (mark_is g t k h refl))

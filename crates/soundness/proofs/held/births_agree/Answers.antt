@@ -8,7 +8,7 @@ use Rattle.soundness.proofs.held.births_agree.Goals as goal
 
 pub returns : goal.returns
 returns c =
-    let a = c.args in
-    c.marks_agree.ensures (on_pages (view_of a.g a.t.now)) (λ b r h k.
-    let e : r ≡ not (eqb (get_or a.t.now (2048 + 512 * a.g.records + b) 0) 0) = search (rules, tests) in
-    e ∙ born_is a.g a.t.now b h)
+    let a = c.args in let g = a.tables.now.g in let t = a.tables.now.cells.now in
+    c.marks_agree.ensures (on_pages (view_of g t)) (λ b r h k.
+    let e : r ≡ not (eqb (get_or t (2048 + 512 * g.records + b) 0) 0) = search (rules, tests) in
+    e ∙ born_is g t b h)

@@ -10,9 +10,9 @@ loop-birth-init c = (omega arith, counted_none _ _)
 
 pub loop-birth-preserved : goal.loop-birth-preserved
 loop-birth-preserved c =
-    let a = c.args in
-    let (h, e) = part_turn a.t.now c.queue_births_at-births.result (blocks a.g) c.loop-birth.birth-index
-    (omega (arith, c.queue_births_at-births.ensures, c.requires.room)) c.loop-birth-test.true in (
-      omega (arith, counted_most a.g a.t.now h c.queue_births_at-births.ensures e c.loop-birth.invariant.1, c.from-count.ensures),
-      ap (λ (k : ℕ). c.loop-birth.count + k) c.from-count.ensures ∙ counted_next a.g a.t.now h c.queue_births_at-births.ensures e c.loop-birth.invariant.1,
+    let a = c.args in let g = a.tables.now.g in let t = a.tables.now.cells.now in
+    let (h, e) = part_turn t c.queue_births_at-births.result (blocks g) c.loop-birth.birth-index
+    (omega (arith, c.queue_births_at-births.ensures, c.args.tables.now.roomy.room)) c.loop-birth-test.true in (
+      omega (arith, counted_most g t h c.queue_births_at-births.ensures e c.loop-birth.invariant.1, c.from-count.ensures),
+      ap (λ (k : ℕ). c.loop-birth.count + k) c.from-count.ensures ∙ counted_next g t h c.queue_births_at-births.ensures e c.loop-birth.invariant.1,
     )

@@ -12,6 +12,6 @@ returns-in_default c = log_unread _ _ _ c.header_number-used.ensures (rw c.in_de
 pub returns : goal.returns
 unfolding held_in
 returns c =
-    let a = c.args in
+    let a = c.args in let g = a.tables.now.g in let t = a.tables.now.cells.now in
     log_read _ _ _ c.header_number-used.ensures c.in-Some.ensures refl
-    (c.marks_agree.ensures (held_in a.own.now) (λ b r h k. search (rules, tests)) ∙ held_are a.g a.t.now c.in-Some.marks a.own.now c.requires.3)
+    (c.marks_agree.ensures (held_in a.own.now) (λ b r h k. search (rules, tests)) ∙ held_are g t c.in-Some.marks a.own.now c.requires.2)

@@ -7,43 +7,43 @@ use Rattle.soundness.proofs.held.mark_queued.Goals as goal
 
 pub loop-x-preserved : goal.loop-x-preserved
 loop-x-preserved c =
-    let a = c.args in
-    let birth = get_or a.t.now (c.queue_births_at-births.result + c.wide-b.result) 0 in
+    let a = c.args in let t = a.tables.now.cells.now in
+    let birth = get_or t (c.queue_births_at-births.result + c.wide-b.result) 0 in
     let v : c.contains.result ≡ (leb 1 birth && leb birth a.last) = search (rules, tests) in
-    let (h, e) = part_turn a.t.now c.queue_at-queue.result a.n c.loop-x.x-index
-    (omega (arith, c.queue_at-queue.ensures, c.requires.0.room, c.requires.1)) c.loop-x-test.true in
-    marking_goes _ a.t.now _ _ _ c.loop-x.invariant h c.queue_at-queue.ensures (c.wide-b.ensures ∙ e)
+    let (h, e) = part_turn t c.queue_at-queue.result a.n c.loop-x.x-index
+    (omega (arith, c.queue_at-queue.ensures, c.args.tables.now.roomy.room, c.requires.0)) c.loop-x-test.true in
+    marking_goes _ t _ _ _ c.loop-x.invariant h c.queue_at-queue.ensures (c.wide-b.ensures ∙ e)
     c.queue_births_at-births.ensures c.if-g-b.false
     c.if-own-b-ne0.false v c.if-not-contains.false
 
 pub returns : goal.returns
 returns c =
-    let a = c.args in
-    let h = part_end a.t.now c.queue_at-queue.result a.n c.loop-x.x-index
-    (omega (arith, c.queue_at-queue.ensures, c.requires.0.room, c.requires.1)) c.loop-x-test.false in
+    let a = c.args in let t = a.tables.now.cells.now in
+    let h = part_end t c.queue_at-queue.result a.n c.loop-x.x-index
+    (omega (arith, c.queue_at-queue.ensures, c.args.tables.now.roomy.room, c.requires.0)) c.loop-x-test.false in
     let both = marking_ends _ _ _ _ _ c.loop-x.invariant h in
     record { is = both.0; marked = both.1 }
 
 pub returns-then-g-b-clause-is : goal.returns-then-g-b-clause-is
 returns-then-g-b-clause-is c =
-    let a = c.args in
-    let (h, e) = part_turn a.t.now c.queue_at-queue.result a.n c.loop-x.x-index
-    (omega (arith, c.queue_at-queue.ensures, c.requires.0.room, c.requires.1)) c.loop-x-test.true in
-    (marking_beyond _ a.t.now _ _ _ c.loop-x.invariant h c.queue_at-queue.ensures (c.wide-b.ensures ∙ e) c.if-g-b.true).0
+    let a = c.args in let t = a.tables.now.cells.now in
+    let (h, e) = part_turn t c.queue_at-queue.result a.n c.loop-x.x-index
+    (omega (arith, c.queue_at-queue.ensures, c.args.tables.now.roomy.room, c.requires.0)) c.loop-x-test.true in
+    (marking_beyond _ t _ _ _ c.loop-x.invariant h c.queue_at-queue.ensures (c.wide-b.ensures ∙ e) c.if-g-b.true).0
 
 pub returns-then-own-b-ne0-clause-is : goal.returns-then-own-b-ne0-clause-is
 returns-then-own-b-ne0-clause-is c =
-    let a = c.args in
-    let (h, e) = part_turn a.t.now c.queue_at-queue.result a.n c.loop-x.x-index
-    (omega (arith, c.queue_at-queue.ensures, c.requires.0.room, c.requires.1)) c.loop-x-test.true in
-    (marking_twice _ a.t.now _ _ _ c.loop-x.invariant h c.queue_at-queue.ensures (c.wide-b.ensures ∙ e) c.if-own-b-ne0.true).0
+    let a = c.args in let t = a.tables.now.cells.now in
+    let (h, e) = part_turn t c.queue_at-queue.result a.n c.loop-x.x-index
+    (omega (arith, c.queue_at-queue.ensures, c.args.tables.now.roomy.room, c.requires.0)) c.loop-x-test.true in
+    (marking_twice _ t _ _ _ c.loop-x.invariant h c.queue_at-queue.ensures (c.wide-b.ensures ∙ e) c.if-own-b-ne0.true).0
 
 pub returns-then-not-contains-clause-is : goal.returns-then-not-contains-clause-is
 returns-then-not-contains-clause-is c =
-    let a = c.args in
-    let birth = get_or a.t.now (c.queue_births_at-births.result + c.wide-b.result) 0 in
+    let a = c.args in let t = a.tables.now.cells.now in
+    let birth = get_or t (c.queue_births_at-births.result + c.wide-b.result) 0 in
     let v : c.contains.result ≡ (leb 1 birth && leb birth a.last) = search (rules, tests) in
-    let (h, e) = part_turn a.t.now c.queue_at-queue.result a.n c.loop-x.x-index
-    (omega (arith, c.queue_at-queue.ensures, c.requires.0.room, c.requires.1)) c.loop-x-test.true in
-    (marking_unfit _ a.t.now _ _ _ c.loop-x.invariant h c.queue_at-queue.ensures (c.wide-b.ensures ∙ e)
+    let (h, e) = part_turn t c.queue_at-queue.result a.n c.loop-x.x-index
+    (omega (arith, c.queue_at-queue.ensures, c.args.tables.now.roomy.room, c.requires.0)) c.loop-x-test.true in
+    (marking_unfit _ t _ _ _ c.loop-x.invariant h c.queue_at-queue.ensures (c.wide-b.ensures ∙ e)
     c.queue_births_at-births.ensures c.if-g-b.false c.if-own-b-ne0.false v c.if-not-contains.true).0

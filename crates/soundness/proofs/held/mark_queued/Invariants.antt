@@ -3,4 +3,4 @@ use Rattle.soundness.proofs.Marking.{Marking}
 use Rattle.soundness.proofs.held.mark_queued.Given as goal
 
 abbrev pub invariant-loop-x : goal.invariant-loop-x
-invariant-loop-x l = Marking l.g l.t l.initial.own l.n l.last l.own l.x-index
+invariant-loop-x l = Marking l.g l.tables.cells.now l.initial.own l.n l.last l.own l.x-index

@@ -3,4 +3,4 @@ use Rattle.soundness.proofs.ListsStamps.{Taking}
 use Rattle.soundness.proofs.lists.list_fits.Given as goal
 
 abbrev pub invariant-loop-x : goal.invariant-loop-x
-invariant-loop-x l = Taking l.fn.g l.t l.s l.count l.initial.gone l.gone l.x-index
+invariant-loop-x l = Taking l.fn.tables.g l.fn.tables.cells.now l.s l.count l.initial.gone l.gone l.x-index

@@ -12,5 +12,5 @@ loop-s-preserved c = join_step _ _ c.loop-s.invariant c.count_fits-fit.ensures
 
 pub returns : goal.returns
 returns c =
-    counts_are c.args.g c.args.t.now c.args.rows.now c.requires.0 c.requires.1
+    counts_are c.args.tables.now.g c.args.tables.now.cells.now c.args.rows.now c.args.tables.now.roomy c.requires
     (join_end _ _ _ c.loop-s.auto.s-end c.loop-s-test.false c.loop-s.invariant)

@@ -5,4 +5,4 @@ use Rattle.soundness.proofs.NamesCounts.{counts?}
 use Rattle.soundness.proofs.names.counts_fit.Given as goal
 
 abbrev pub invariant-loop-s : goal.invariant-loop-s
-invariant-loop-s l = l.fit ≡ all l.s (counts? l.fn.g l.t l.rows)
+invariant-loop-s l = l.fit ≡ all l.s (counts? l.fn.tables.g l.t l.rows)

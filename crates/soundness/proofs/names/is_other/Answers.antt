@@ -5,13 +5,13 @@ use Rattle.soundness.proofs.names.is_other.Goals as goal
 
 pub returns-then-t-j-eq0 : goal.returns-then-t-j-eq0
 returns-then-t-j-eq0 c =
-    other_empty _ _ _ c.requires.1 c.requires.2 c.requires.3 c.if-t-j-eq0.true
+    other_empty _ _ _ c.requires.0 c.requires.1 c.requires.2 c.if-t-j-eq0.true
 
 pub returns-then-t-j : goal.returns-then-t-j
 returns-then-t-j c =
-    other_length _ _ _ c.requires.1 c.requires.2 c.requires.3 c.if-t-j-eq0.false c.if-t-j.true
+    other_length _ _ _ c.requires.0 c.requires.1 c.requires.2 c.if-t-j-eq0.false c.if-t-j.true
 
 pub returns : goal.returns
 returns c =
-    other_letters c.args.t.now _ _ c.requires.1 c.requires.2 c.requires.3 c.if-t-j-eq0.false c.if-t-j.false c.wide-n.ensures refl refl
-    (omega arith) (omega arith) c.ne.ensures
+    other_letters _ _ _ c.requires.0 c.requires.1 c.requires.2 c.if-t-j-eq0.false c.if-t-j.false c.wide-n.ensures refl refl
+    (omega (arith, c.args.tables.now.roomy.room)) (omega (arith, c.args.tables.now.roomy.room)) c.ne.ensures

@@ -6,12 +6,12 @@ use Rattle.soundness.proofs.names.row_fits.Goals.{then-column_number-ne0, else-c
 use Rattle.soundness.proofs.names.row_fits.Goals as goal
 
 pub returns-then-link-eq0 : goal.returns-then-link-eq0
-returns-then-link-eq0 c = row_empty _ _ _ c.requires.1 c.wide-link.ensures c.if-link-eq0.true
+returns-then-link-eq0 c = row_empty _ _ _ c.requires c.wide-link.ensures c.if-link-eq0.true
 
 pub returns-then-name_fits : goal.returns-then-name_fits
 returns-then-name_fits c =
     elim c.if-column_number-ne0.branch [
-      | then-column_number-ne0 w ↦ row_named _ _ _ c.requires.1 c.wide-link.ensures c.if-link-eq0.false c.column_number.ensures
+      | then-column_number-ne0 w ↦ row_named _ _ _ c.requires c.wide-link.ensures c.if-link-eq0.false c.column_number.ensures
           w.if-column_number-ne0.true w.name_fits.ensures.is (sym w.value-is ∙ c.if-name_fits.true) c.is_first.ensures
       | else-column_number-ne0 w ↦ absurd (false≢true (sym (w.value-is ∙ rw w.if-column_number-ne0.false) ∙ c.if-name_fits.true))
     ]
@@ -19,8 +19,8 @@ returns-then-name_fits c =
 pub returns-else-name_fits : goal.returns-else-name_fits
 returns-else-name_fits c =
     elim c.if-column_number-ne0.branch [
-      | then-column_number-ne0 w ↦ c.if-name_fits.false ∙ row_misnamed _ _ _ c.requires.1 c.wide-link.ensures c.if-link-eq0.false c.column_number.ensures
+      | then-column_number-ne0 w ↦ c.if-name_fits.false ∙ row_misnamed _ _ _ c.requires c.wide-link.ensures c.if-link-eq0.false c.column_number.ensures
           w.if-column_number-ne0.true w.name_fits.ensures.is (sym w.value-is ∙ c.if-name_fits.false)
       | else-column_number-ne0 w ↦ c.if-name_fits.false ∙
-          row_dead _ _ _ c.requires.1 c.wide-link.ensures c.if-link-eq0.false c.column_number.ensures w.if-column_number-ne0.false
+          row_dead _ _ _ c.requires c.wide-link.ensures c.if-link-eq0.false c.column_number.ensures w.if-column_number-ne0.false
     ]

@@ -6,4 +6,4 @@ pub returns-then-link-eq0 : goal.returns-then-link-eq0
 returns-then-link-eq0 c = page_none _ _ _ _ c.if-link-eq0.true
 
 pub returns : goal.returns
-returns c = page_some _ _ _ _ c.if-link-eq0.false c.requires.1 c.requires.2 c.wide.ensures
+returns c = page_some _ _ _ _ c.if-link-eq0.false c.requires.0 c.requires.1 c.wide.ensures

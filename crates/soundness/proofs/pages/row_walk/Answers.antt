@@ -6,25 +6,24 @@ use Rattle.soundness.proofs.pages.row_walk.Goals as goal
 
 pub row_words-words-requires : goal.row_words-words-requires
 row_words-words-requires c =
-    let link = pred_range c.args.g c.args.t.now c.args.s c.kin_of-kin.ensures in
-    (c.requires.0, c.requires.1, omega (arith, link, c.requires.1))
+    let link = pred_range c.args.tables.now.g c.args.tables.now.cells.now c.args.s c.kin_of-kin.ensures in
+    (c.requires.0, omega (arith, link, c.requires.0))
 
 pub word_walk-requires : goal.word_walk-requires
 word_walk-requires c =
     let l = c.loop-k in
-    let a = c.args in
-    let h : 32 * l.k < a.g.pages = omega arith in
-    let n : c.min-n.result ≡ min 32 (a.g.pages - 32 * l.k) = search rules in
+    let a = c.args in let g = a.tables.now.g in let t = a.tables.now.cells.now in
+    let h : 32 * l.k < g.pages = omega arith in
+    let n : c.min-n.result ≡ min 32 (g.pages - 32 * l.k) = search rules in
     let W = l.invariant in (
       c.requires.0,
-      c.requires.1,
       omega arith,
       omega arith,
       omega (arith, W.few),
       c.kin_of-kin.ensures,
       W.own_size,
       W.gone_size,
-      row_word a.g a.t.now
+      row_word g t
           a.s _ l.k c.row_words-words.ensures h n,
     )
 
@@ -32,10 +31,10 @@ pub loop-k-preserved : goal.loop-k-preserved
 unfolding view_of
 loop-k-preserved c =
     let l = c.loop-k in
-    let a = c.args in
-    let h : 32 * l.k < a.g.pages = omega arith in
-    let n : c.min-n.result ≡ min 32 (a.g.pages - 32 * l.k) = search rules in
-    let e : min (32 * l.k) a.g.pages ≡ 32 * l.k = omega arith in
-    let f : 32 * l.k + c.min-n.result ≡ min (32 * (l.k + 1)) a.g.pages = omega arith in
-    let r = row_goes (view_of a.g a.t.now) a.s a.own.now a.gone.now (rw e at l.invariant) c.word_walk.ensures c.in_ok-found.was (omega arith) in
+    let a = c.args in let g = a.tables.now.g in let t = a.tables.now.cells.now in
+    let h : 32 * l.k < g.pages = omega arith in
+    let n : c.min-n.result ≡ min 32 (g.pages - 32 * l.k) = search rules in
+    let e : min (32 * l.k) g.pages ≡ 32 * l.k = omega arith in
+    let f : 32 * l.k + c.min-n.result ≡ min (32 * (l.k + 1)) g.pages = omega arith in
+    let r = row_goes (view_of g t) a.s a.own.now a.gone.now (rw e at l.invariant) c.word_walk.ensures c.in_ok-found.was (omega arith) in
     rw f at r

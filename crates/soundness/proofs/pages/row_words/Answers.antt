@@ -10,12 +10,12 @@ pub returns-then-whole-g : goal.returns-then-whole-g
 unfolding view_of
 returns-then-whole-g c =
     let l = c.loop-k in
-    let a = c.args in
-    let q = a.g.pages / 32 in
-    let row = word_of (differs (view_of a.g a.t.now) a.s a.link) in
-    let f : ℕ → ℕ = λ j. row (32 * j) (min 32 (a.g.pages - 32 * j)) in
-    let h : q < length l.words = omega (arith, l.invariant.0, c.if-whole-g.true, c.requires.0.inside.pages_most) in
-    let n : a.g.pages - 32 * q ≡ min 32 (a.g.pages - 32 * q) = omega arith in
+    let a = c.args in let g = a.tables.now.g in let t = a.tables.now.cells.now in
+    let q = g.pages / 32 in
+    let row = word_of (differs (view_of g t) a.s a.link) in
+    let f : ℕ → ℕ = λ j. row (32 * j) (min 32 (g.pages - 32 * j)) in
+    let h : q < length l.words = omega (arith, l.invariant.0, c.if-whole-g.true, c.args.tables.now.roomy.inside.pages_most) in
+    let n : g.pages - 32 * q ≡ min 32 (g.pages - 32 * q) = omega arith in
     let e = c.differing.ensures ∙ ap (row (32 * q)) n in
     record {
       size = length-set l.words q c.differing.result ∙ l.invariant.0;

@@ -11,4 +11,4 @@ pub loop-k-preserved : goal.loop-k-preserved
 loop-k-preserved c = join_step _ _ c.loop-k.invariant c.two_fit-fit.ensures
 
 pub returns : goal.returns
-returns c = others_are c.args.g c.args.t.now c.args.s c.requires.1 (join_end _ _ _ c.loop-k.auto.k-end c.loop-k-test.false c.loop-k.invariant)
+returns c = others_are _ _ c.args.s c.requires (join_end _ _ _ c.loop-k.auto.k-end c.loop-k-test.false c.loop-k.invariant)

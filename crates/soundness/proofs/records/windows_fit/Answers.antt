@@ -11,4 +11,4 @@ pub loop-s-preserved : goal.loop-s-preserved
 loop-s-preserved c = join_step _ _ c.loop-s.invariant c.window_fits-fit.ensures
 
 pub returns : goal.returns
-returns c = windows_are c.args.g c.args.t.now (join_end _ _ _ c.loop-s.auto.s-end c.loop-s-test.false c.loop-s.invariant)
+returns c = windows_are c.args.tables.now.g c.args.tables.now.cells.now (join_end _ _ _ c.loop-s.auto.s-end c.loop-s-test.false c.loop-s.invariant)

@@ -5,4 +5,4 @@ use Rattle.soundness.proofs.Clauses.{window?}
 use Rattle.soundness.proofs.records.windows_fit.Given as goal
 
 abbrev pub invariant-loop-s : goal.invariant-loop-s
-invariant-loop-s l = l.fit ≡ all l.s (window? l.fn.g l.t)
+invariant-loop-s l = l.fit ≡ all l.s (window? l.fn.tables.g l.t)

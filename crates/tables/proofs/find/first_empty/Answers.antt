@@ -1,4 +1,5 @@
 -- The lowest bit of both words is the first empty slot.
+use native.Mathlib.Omega.{arith}
 use mathlib.Core.Path.{◌∙◌}
 use Rattle.tables.specs.Columns.{empty_in}
 use Rattle.tables.proofs.Empties
@@ -14,4 +15,4 @@ returns c =
     let p = empty_in c.args.t.now in
     let whole = Empties.two_words p _ _ (c.from.ensures ∙ c.empty_word.ensures) (c.from-2.ensures ∙ c.empty_word-2.ensures) in
     let both = Empties.word_first p 64 _ whole c.if-word-eq0.false in
-    record { is = both.0; range = both.1 }
+    record { is = both.0; range = omega (arith, both.1) }
