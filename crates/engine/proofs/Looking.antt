@@ -54,7 +54,8 @@ stores_once g t look.FreeList = refl
 stores_once g t (look.Estimate n) = refl
 
 -- tables and log are those that were lent
-pub look_performed : (r : Result ℕ Refusal) (g : Geometry) (t log out left : List ℕ) (l : Look) → Ready g t → Looked r g t out left (command (look_call l)) →
+pub look_performed : (r : Result ℕ Refusal) (g : Geometry) (t log out left : List ℕ) (l : Look) → Ready g t →
+    Looked r g t out left (command (look_call l)) →
     Performed r t log left g t log out (command (look_call l))
 look_performed r g t log out left l R p =
     result_alone r g t log out left (command (look_call l)) R (writes_none g t l) (keeps_state g t l) (stores_once g t l) p

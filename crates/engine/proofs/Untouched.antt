@@ -124,7 +124,8 @@ copy_left e r t' t c = subst (AloneLeft r t' t c) e
 abbrev pub Answers : Result ℕ Refusal → List ℕ → List ℕ → List ℕ → Command → Geometry → Type 0
 Answers r out' t out c g = (reply_of r out' ≡ replied g t c) × (out' ≡ out_left g t out c)
 
-pub copy_answers : {h g : Geometry} → h ≡ g → (r : Result ℕ Refusal) (out' t out : List ℕ) (c : Command) → Answers r out' t out c h → Answers r out' t out c g
+pub copy_answers : {h g : Geometry} → h ≡ g → (r : Result ℕ Refusal) (out' t out : List ℕ) (c : Command) →
+    Answers r out' t out c h → Answers r out' t out c g
 copy_answers e r out' t out c = subst (Answers r out' t out c) e
 
 pub copy_named : {h g : Geometry} → h ≡ g → (r : Result ℕ Refusal) (t' out' t out : List ℕ) (c : Command) → Named r t' out' h t out c →

@@ -140,7 +140,7 @@ module _ {g : Geometry} {t : List ℕ} (R : Ready g t) where
       Paging g t f l (suc x) (set u (page_cell f x) v)
   paging_next f l x v H hf hx e = step_pages g t R.roomy (state_of g t) f x v _ H hf hx e
 
-  -- vs are the pages behind the link l
+  -- vs are the pages of the record that the link l names
   module _ (f l : ℕ) (vs : List ℕ) (hf : f < g.records) (long : g.pages ≤ length vs)
       (e : (x : ℕ) → x < g.pages → get_or vs x 0 ≡ page_of (state_of g t).view l x) where
     paging : (x : ℕ) → x ≤ g.pages → Paging g t f l x (paste t (2048 + 256 * f) vs x)

@@ -73,7 +73,8 @@ module _ (g : Geometry) (t l : List ℕ) (r : ℕ) {v : Bool} (ev : v ≡ valid_
       attach_used h = rw (good, present, lt-ltb 0 (row_of (titles_of t) l) (omega (arith, er, link_some row h)))
 
       -- w says that it is a second name on an open record
-      module _ (unused : is_some row ≡ false) {w : Bool} (ew : w ≡ (ltb 0 ((view_of g t).is_open (link - 1)) && ltb 0 ((state_of g t).notes.names (link - 1)))) where
+      module _ (unused : is_some row ≡ false) {w : Bool}
+          (ew : w ≡ (ltb 0 ((view_of g t).is_open (link - 1)) && ltb 0 ((state_of g t).notes.names (link - 1)))) where
         free : ltb 0 (row_of (titles_of t) l) ≡ false
         free = le-ltb 0 (row_of (titles_of t) l) (omega (arith, er, link_none row unused))
 

@@ -130,7 +130,8 @@ pub agrees_move : (r n m : Number) (k most : ℕ) → n ≡ m → k ≤ most →
 agrees_move (Some read) n m k most p h a = (a.0 ∙ p, omega (arith, a.1))
 agrees_move None n m k most p h a = tt
 
-pub tells_is : (n : Near) (said : Said) (c : Call) (e : ℕ) → n ≡ Some (c, e) → Tells n said → ◌≡◌ {A = Said} (record { says = Asks c; end = e }) said
+pub tells_is : (n : Near) (said : Said) (c : Call) (e : ℕ) → n ≡ Some (c, e) → Tells n said →
+    ◌≡◌ {A = Said} (record { says = Asks c; end = e }) said
 tells_is n said c e p t = rw p at t
 
 -- ── by the line's end ──

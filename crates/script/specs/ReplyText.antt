@@ -105,7 +105,7 @@ abbrev pub turns : Option ℕ → ℕ → List ℕ → Bool
 turns none b l = eqb b 58 && begins l
 turns (some c) b l = false
 
--- from inside a number on, of which v is read, behind the block and the colon p if there are any: its other digits; then a colon and a birth, a single
+-- from inside a number on, of which v is read, after the block and the colon p if there are any: its other digits; then a colon and a birth, a single
 -- space and the next item, or the end
 unfoldable pub inside_read : Option ℕ → ℕ → List ℕ → Option (List Item)
 inside_read p v [] = none

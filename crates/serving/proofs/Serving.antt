@@ -96,7 +96,8 @@ name_inside text at end Parsed.No w = tt
 -- ── the buffer ──
 
 -- an answer of at most 4,097 numbers fits where a longest reply does
-pub room : (r : Result ℕ Refusal) → Few r → (buffer out : List ℕ) (used : ℕ) → used + longest ≤ length buffer → most_out ≤ length out → Room buffer used r out
+pub room : (r : Result ℕ Refusal) → Few r → (buffer out : List ℕ) (used : ℕ) → used + longest ≤ length buffer →
+    most_out ≤ length out → Room buffer used r out
 room (Ok n) f buffer out used e h = record { fits = omega arith; gives = omega arith }
 room (Err n) f buffer out used e h = record { fits = omega arith; gives = omega arith }
 

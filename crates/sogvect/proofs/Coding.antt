@@ -44,7 +44,8 @@ unfolding reply_of code_of
 code_is (Ok n) out R e = ap code_of e
 code_is (Err k) out R e = ap code_of e
 
-count_is : (a : Result ℕ Refusal) (out : List ℕ) (R : Reply) (old : ℕ) → reply_of a out ≡ R → ((l : List ℕ) → R ≡ accepted l → length l < length out) →
+count_is : (a : Result ℕ Refusal) (out : List ℕ) (R : Reply) (old : ℕ) → reply_of a out ≡ R → ((l : List ℕ) → R ≡ accepted l →
+    length l < length out) →
     answer_given a old ≡ count_after R old
 unfolding reply_of count_after
 count_is (Ok n) out R old e short =
@@ -55,7 +56,8 @@ count_is (Err k) out R old e short = ap (λ (r : Reply). count_after r old) e
 abbrev pub Told : Reply → ℕ → ℕ → ℕ → Type 0
 Told R old r n = (r ≡ code_of R) × (n ≡ count_after R old)
 
-told : (a : Result ℕ Refusal) (out : List ℕ) (R : Reply) (old r n : ℕ) → reply_of a out ≡ R → ((l : List ℕ) → R ≡ accepted l → length l < length out) →
+told : (a : Result ℕ Refusal) (out : List ℕ) (R : Reply) (old r n : ℕ) → reply_of a out ≡ R → ((l : List ℕ) → R ≡ accepted l →
+    length l < length out) →
     Coded a old r n → Told R old r n
 told a out R old r n e short p = (p.0 ∙ code_is a out R e, p.1 ∙ count_is a out R old e short)
 
@@ -121,7 +123,8 @@ unfolding compact_reply_of words_after
 compact_given (Ok n) old = refl
 compact_given (Err k) old = refl
 
-pub was_compacted : (a : Result ℕ Refusal) (R : Reply) (old r n : ℕ) (out left : List ℕ) → (compact_reply_of a ≡ R) × (out ≡ left) → Coded a old r n →
+pub was_compacted : (a : Result ℕ Refusal) (R : Reply) (old r n : ℕ) (out left : List ℕ) →
+    (compact_reply_of a ≡ R) × (out ≡ left) → Coded a old r n →
     (r ≡ code_of R) × ((n ≡ words_after R old) × (out ≡ left))
 was_compacted a R old r n out left e p =
     (p.0 ∙ compact_code a ∙ ap code_of e.0, (p.1 ∙ compact_given a old ∙ ap (λ w. words_after w old) e.0, e.1))

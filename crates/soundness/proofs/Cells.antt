@@ -1,5 +1,6 @@
 -- Clamped reads, and parts of the tables.
-use Rattle.std.proofs.Common.{◌≡◌, ℕ, ◌+◌, ◌-◌, ◌<◌, ◌≤◌, ltb, List, length, get_or, take, drop, sym, ◌∙◌, arith, lt-ltb, length-drop, length-take-le, get_or-drop, get_or-take, ext_get_or}
+use Rattle.std.proofs.Common.{◌≡◌, ℕ, ◌+◌, ◌-◌, ◌<◌, ◌≤◌, ltb, List, length, get_or, take, drop, sym, ◌∙◌, arith, lt-ltb}
+use Rattle.std.proofs.Common.{length-drop, length-take-le, get_or-drop, get_or-take, ext_get_or}
 use Rattle.geometry.specs.declared.Geometry.{Geometry}
 use Rattle.model.specs.Layout.{field, numbers, state_of}
 use Rattle.model.proofs.LayoutFacts.{length_numbers, get_d_numbers}

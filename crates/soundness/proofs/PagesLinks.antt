@@ -1,5 +1,6 @@
 -- Links of a stranger's tables, clamped, and what stands behind them.
-use Rattle.std.proofs.Common.{◌≡◌, ℕ, zero, suc, ◌-◌, ◌<◌, ◌≤◌, Bool, not, eqb, ltb, List, get_or, sym, refl, ap, ◌∙◌, ap₂, arith, le-leb}
+use Rattle.std.proofs.Common.{◌≡◌, ℕ, zero, suc, ◌-◌, ◌<◌, ◌≤◌, Bool, not, eqb, ltb, List, get_or, sym, refl, ap, ◌∙◌, ap₂}
+use Rattle.std.proofs.Common.{arith, le-leb}
 use borrow.Author.Tests.{lt-leb}
 use Rattle.answer.proofs.Cases.{cases, lt?}
 use Rattle.geometry.specs.declared.Geometry.{Geometry}

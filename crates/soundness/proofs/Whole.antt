@@ -60,8 +60,9 @@ module _ (g : Geometry) (t : List ℕ) where
       let k = ltb (get_or t 7 0) g.arenas in
       let m = all g.arenas (λ a. ltb ((state_of g t).mark a) g.per) in
       let l = leb (get_or t 6 0) 999999 in
+      let fits = and_parts l (m && (k && (w && u))) (range_is refl refl refl refl refl ∙ h) in
       leb-true (get_or t 9 0) g.words
-      (and_parts w u (and_parts k (w && u) (and_parts m (k && (w && u)) (and_parts l (m && (k && (w && u))) (range_is refl refl refl refl refl ∙ h)).1).1).1).1
+      (and_parts w u (and_parts k (w && u) (and_parts m (k && (w && u)) fits.1).1).1).1
 
   module _ (log : List ℕ) {used : ℕ} (u : used ≡ get_or t 9 0) {ok : Bool} {marks : List ℕ}
       (read : ◌≡◌ {A = Result} (ok, marks) (read_log g.arenas g.per (take (8 * used) log))) where

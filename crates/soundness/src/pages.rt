@@ -1,5 +1,6 @@
 // The pages of a record against its pred's: a page that differs has a block of the record's own; what was there before it may be gone.
-ghost use Rattle.std.specs.Prelude.{◌≡◌, ℕ, suc, ◌+◌, ◌-◌, ◌*◌, ◌<◌, ◌≤◌, true, false, ◌&&◌, length, if◌then◌else◌, nat_lt, slice_index};
+ghost use Rattle.std.specs.Prelude.{◌≡◌, ℕ, suc, ◌+◌, ◌-◌, ◌*◌, ◌<◌, ◌≤◌, true, false, ◌&&◌, length};
+ghost use Rattle.std.specs.Prelude.{if◌then◌else◌, nat_lt, slice_index};
 ghost use Rattle.model.specs.Table.{all};
 ghost use Rattle.model.specs.Lists.{on_page};
 ghost use Rattle.model.specs.View.{base_num, page_of};
@@ -166,7 +167,7 @@ fn word_walk(
     Some(found)
 }
 
-// The words of a row: where the pages of slot s differ from those of the record behind the link.
+// The words of a row: where the pages of slot s differ from those of the record that the link names.
 fn row_words(tables: &Tables, s: usize, link: usize) -> [u32; 8]
     requires { (s < tables.now.g.records) × (link ≤ tables.now.g.records) }
     ensures { RowWords (view_in tables.now) s link result }

@@ -127,7 +127,8 @@ module _ {six g : Geometry} (M : Memory) (a : Admits six M (Ok g)) where
   calls_require = (sound_ready g M.tables M.log (record { inside = a.1; room = enough.tables }) sound, enough.log, enough.out)
 
   -- what the engine promises is what `call` promises
-  pub call_done : (c : Command) (r : Result ℕ Refusal) (t log out : List ℕ) → (reply_of r out ≡ replied g M.tables c) × ((t ≡ tables_left g M.tables c) ×
+  pub call_done : (c : Command) (r : Result ℕ Refusal) (t log out : List ℕ) →
+      (reply_of r out ≡ replied g M.tables c) × ((t ≡ tables_left g M.tables c) ×
       ((log ≡ log_left g M.tables M.log c) × (out ≡ out_left g M.tables M.out c))) → Answered r t log out six M c
   call_done c r t log out p =
       subst (λ k. Answered r t log out k M c) a.0 (

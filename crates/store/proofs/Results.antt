@@ -22,7 +22,8 @@ number_of n out l e k =
     (λ a. absurd (let z : ⊥ = omega (arith, ap length (sym (take_all n out a) ∙ e)) in z))
 
 -- the number that an answer names
-pub done_le : (n : ℕ) (out : List ℕ) (g : Geometry) (M : Memory) (c : Command) → reply_of (Ok n) out ≡ reply g M c → 4160 ≤ length out → n ≤ 4097
+pub done_le : (n : ℕ) (out : List ℕ) (g : Geometry) (M : Memory) (c : Command) → reply_of (Ok n) out ≡ reply g M c →
+    4160 ≤ length out → n ≤ 4097
 unfolding reply_of
 done_le n out g M c e k =
     let i = (accepted_is g M c (take n out) (sym e)).0.inside in
