@@ -12,7 +12,7 @@ use lib.Pow.{pow_mono}
 use borrow.Author.Tests.{eq-eqb, ne_eqb}
 use Rattle.answer.proofs.Cases.{cases, same?, lt?, either}
 use lib.Dec.{eqb}
-use Rattle.choice.specs.Words.{bit, free_in, word_of}
+use Rattle.choice.specs.Words.{bit, free_in, born_free, word_of}
 use Rattle.choice.proofs.Bit.{bit_or_lem, bit_one, bit_high, bit_ext, one_shl}
 
 -- a 1 above all digits of a number
@@ -55,6 +55,16 @@ module _ (p : ℕ → Bool) (i : ℕ) where
 pub no_word : (p : ℕ → Bool) (i : ℕ) → 0 ≡ word_of p i 0
 unfolding word_of
 no_word p i = refl
+
+-- one birth more
+module _ (births : List ℕ) (at k word : ℕ) (e : word ≡ word_of (born_free births) at k) where
+  pub one_free : k < 32 → get_or births (at + k) 0 ≡ 0 → bit_or word (1 * 2 ^ k % 2 ^ 32) ≡ word_of (born_free births) at (k + 1)
+  unfolding born_free
+  one_free h t = rw (one_shl k h, e, add-one k) (word_step (born_free births) at k (eq-eqb (get_or births (at + k) 0) 0 t))
+
+  pub one_held : (get_or births (at + k) 0 ≡ 0 → ⊥) → word ≡ word_of (born_free births) at (k + 1)
+  unfolding born_free
+  one_held d = rw (e, add-one k) (sym (word_no (born_free births) at k (ne_eqb (get_or births (at + k) 0) 0 d)))
 
 -- one place more, as the code gathers them: P says which bit a place may have
 module _ (P : ℕ → Bool → Type 0) (k word : ℕ) (fits : word < 2 ^ k) (bits : (i : ℕ) → i < k → P i (bit word i)) where

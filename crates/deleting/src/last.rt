@@ -12,7 +12,7 @@ ghost use Rattle.tables.specs.Ready.{Roomy, Ready};
 use choice::bits::Bits;
 use geometry::Geometry;
 use tables::cells::{BASE, PAGES, PREV, ROW};
-use tables::differ::differing;
+use tables::differ::{differing, stretch};
 use tables::find::wide;
 
 // The pred of the record in slot s.
@@ -62,7 +62,7 @@ pub fn count_young(t: &[u32], g: Geometry, s: usize) -> usize
     let mut count = 0;
     // Kept: `list_young` goes over the same words, for the reason in `count_word`.
     for x in (0..g.pages).step_by(32) {
-        count += count_word(t, g, s, pred, x, (g.pages - x).min(32));
+        count += count_word(t, g, s, pred, x, stretch(g.pages - x));
     }
     count
 }
@@ -106,7 +106,7 @@ pub fn list_young(t: &[u32], g: Geometry, out: &mut [u32], s: usize) -> usize
     let pred = pred_link(t, g, s);
     let mut count = 0;
     for x in (0..g.pages).step_by(32) {
-        count = list_word(t, g, out, s, pred, x, (g.pages - x).min(32), count);
+        count = list_word(t, g, out, s, pred, x, stretch(g.pages - x), count);
     }
     count
 }

@@ -33,14 +33,16 @@ use Rattle.tables.proofs.Steps.{Holds, step_used}
 use Rattle.tables.proofs.Reading.{reads_used}
 use Rattle.paging.specs.Target.{Target, frees_of}
 use Rattle.paging.specs.Kill.{freed_at, killed_of}
-use Rattle.paging.specs.Place.{FreeAt, filled}
+use Rattle.paging.specs.Place.{FreeAt, spot_of, filled}
 use Rattle.paging.specs.Kind.{kind_number}
 use Rattle.paging.specs.declared.kill.Freed.{Freed}
 use Rattle.paging.specs.declared.kind.Kind.{Kind}
+use Rattle.paging.specs.declared.place.Spot.{Spot}
 use Rattle.paging.proofs.Answers
 use Rattle.paging.proofs.Looking
 use Rattle.paging.proofs.Killing
 use Rattle.paging.proofs.Placing
+use Rattle.paging.proofs.Searching
 use Rattle.paging.proofs.Searching.{kind_low}
 use Rattle.paging.proofs.Erasing
 
@@ -76,25 +78,25 @@ module _ (g : Geometry) (t : List ℕ) (n x k w : ℕ) (ew : w ≡ x) where
             (Looking.cond_here _ _ _ (Looking.nine_yes R n l e used o))))
 
         -- r is what the search answered
-        module _ (o : get_or t (open_cell (l - 1)) 0 ≡ 0 → ⊥) (r : Option Place) (er : r ≡ found g (state_of g t) (kind_number d)) where
-          found_is : found g (state_of g t) k ≡ r
-          found_is = sym (er ∙ ap (found g (state_of g t)) ek)
+        module _ (o : get_or t (open_cell (l - 1)) 0 ≡ 0 → ⊥) (r : Option Spot) (er : r ≡ spot_of n (found g (state_of g t) (kind_number d))) where
+          spot_is : spot_of n (found g (state_of g t) k) ≡ r
+          spot_is = sym (er ∙ ap (λ v. spot_of n (found g (state_of g t) v)) ek)
 
           pub write_13 : r ≡ None → replied g t (Write n x k) ≡ refused 13
           unfolding replied
           write_13 z =
               Looking.cond_next _ _ _ _ five (Looking.cond_next _ _ _ _ six (Looking.cond_next _ _ _ _ (Looking.eight_no R n l e used)
               (Looking.cond_next _ _ _ _ (Looking.nine_no R n l e used o) (Looking.cond_here _ _ _
-              (ap is_nothing (found_is ∙ z))))))
+              (ap is_nothing (Searching.found_nothing n (found g (state_of g t) k) (spot_is ∙ z)))))))
 
-          -- the place that was found; u log words are used, f blocks are freed
-          module _ (p : Place) (ea : r ≡ Some p) (u v f : ℕ) (eu : u ≡ get_or t 9 0) (ev : v ≡ x)
+          -- the place that was found, with its block's birth; u log words are used, f blocks are freed
+          module _ (p : Spot) (ea : r ≡ Some p) (u v f : ℕ) (eu : u ≡ get_or t 9 0) (ev : v ≡ x)
               (ef : f ≡ length (erased (view_of g t) (l - 1) ((view_of g t).page (l - 1) v))) where
-            there : found g (state_of g t) k ≡ Some p
-            there = found_is ∙ ea
+            there : (found g (state_of g t) k ≡ Some p.place) × (p.birth ≡ n)
+            there = Searching.found_at n (found g (state_of g t) k) p (spot_is ∙ ea)
 
             thirteen : is_nothing (found g (state_of g t) k) ≡ false
-            thirteen = ap is_nothing there
+            thirteen = ap is_nothing there.0
 
             words_are : length (written g (state_of g t) (Write n x k)) ≡ suc f
             words_are =
@@ -113,7 +115,8 @@ module _ (g : Geometry) (t : List ℕ) (n x k w : ℕ) (ew : w ≡ x) where
                 (omega (arith, words_are, unused_is))))))))
 
             pub write_accepts : 1 + f ≤ g.words - u →
-                NoneHolds (conditions g (state_of g t) (Write n x k)) × (slot (state_of g t) n ≡ l - 1) × (found g (state_of g t) k ≡ Some p)
+                NoneHolds (conditions g (state_of g t) (Write n x k)) × (slot (state_of g t) n ≡ l - 1) ×
+                (found g (state_of g t) k ≡ Some p.place) × (p.birth ≡ n)
             write_accepts s = (
               (
                 five,
@@ -132,7 +135,8 @@ module _ (g : Geometry) (t : List ℕ) (n x k w : ℕ) (ew : w ≡ x) where
                 ),
               ),
               Looking.slot_is R n l e used,
-              there,
+              there.0,
+              there.1,
             )
 
 -- ── the action; u is the tables with the page filled ──
@@ -224,8 +228,9 @@ module _ {g : Geometry} {t : List ℕ} {s x : ℕ} {p : Place} (A : Target g t s
 
 -- ── the call: a verdict and what it tells ──
 
-module _ {g : Geometry} {t : List ℕ} (R : Ready g t) (n x k s : ℕ) (p : Place) (w : ℕ)
-    (J : NoneHolds (conditions g (state_of g t) (Write n x k)) × (slot (state_of g t) n ≡ s) × (found g (state_of g t) k ≡ Some p)) (ew : w ≡ x) where
+module _ {g : Geometry} {t : List ℕ} (R : Ready g t) (n x k s : ℕ) (p : Spot) (w : ℕ)
+    (J : NoneHolds (conditions g (state_of g t) (Write n x k)) × (slot (state_of g t) n ≡ s) × (found g (state_of g t) k ≡ Some p.place) ×
+    (p.birth ≡ n)) (ew : w ≡ x) where
   pub write_target : Target g t s w
   unfolding state_of view_of
   write_target =
@@ -233,10 +238,10 @@ module _ {g : Geometry} {t : List ℕ} (R : Ready g t) (n x k s : ℕ) (p : Plac
       let live : 0 < (view_of g t).num s = rw J.1 at q.0 in
       record { ready = R; slot = Ranges.slot_in R s live; live = live; is_open = rw J.1 at q.1; page = rw (← ew) at q.2 }
 
-  pub write_spot : FreeAt g t p.arena p.offset
+  pub write_spot : FreeAt g t p.place.arena p.place.offset
   unfolding state_of
   write_spot =
-      let q = found_free g R.roomy.inside (state_of g t) R.range k p.arena p.offset J.2 in
+      let q = found_free g R.roomy.inside (state_of g t) R.range k p.place.arena p.place.offset J.2 in
       record { arena = q.0; offset = q.1; block = q.2; free = q.3 }
 
   frees_same : frees_of g t s w ≡ frees_of g t (slot (state_of g t) n) x
@@ -256,14 +261,15 @@ module _ {g : Geometry} {t : List ℕ} (R : Ready g t) (n x k s : ℕ) (p : Plac
   abbrev births : ℕ → ℕ
   births = (view_of g t).birth
 
-  result_same : (p.arena * g.per + p.offset) ∷ n ∷ paired births (frees_of g t s w) ≡ result g (state_of g t) (Write n x k)
+  result_same : (p.place.arena * g.per + p.place.offset) ∷ p.birth ∷ paired births (frees_of g t s w) ≡ result g (state_of g t) (Write n x k)
   unfolding state_of
   result_same =
-      ap (λ l. (p.arena * g.per + p.offset) ∷ n ∷ paired births l) frees_same ∙
+      ap (λ l. (p.place.arena * g.per + p.place.offset) ∷ p.birth ∷ paired births l) frees_same ∙
+      ap (λ c. (p.place.arena * g.per + p.place.offset) ∷ c ∷ paired births (frees_of g t (slot (state_of g t) n) x)) J.3 ∙
       ap (λ f. block_of g.per f ∷ n ∷ paired births (frees_of g t (slot (state_of g t) n) x)) (sym J.2)
 
   pub write_out : (out m : List ℕ) (d : ℕ) → OutLong g out → d ≡ 2 + 2 * length (frees_of g t s w) →
-      m ≡ sets out 0 ((p.arena * g.per + p.offset) ∷ n ∷ paired (view_of g t).birth (frees_of g t s w)) →
+      m ≡ sets out 0 ((p.place.arena * g.per + p.place.offset) ∷ p.birth ∷ paired (view_of g t).birth (frees_of g t s w)) →
       (reply_of (Ok d) m ≡ replied g t (Write n x k)) × (m ≡ out_left g t out (Write n x k))
   write_out out m d long e q =
       Answers.done_out g t (Write n x k) J.0 d out m (omega (arith, paired_length births (frees_of g t s w), ap length result_same))
@@ -275,18 +281,18 @@ module _ {g : Geometry} {t : List ℕ} (R : Ready g t) (n x k s : ℕ) (p : Plac
       stored g (given g (acted (state_of g t) (do_w s x (block_of g.per f)) (suc (length (map released (frees_of g t s x))))) f) t
 
   pub write_tables : (u : List ℕ) →
-      u ≡ stored g (given g (acted (state_of g t) (do_w s w (p.arena * g.per + p.offset)) (suc (length (map released (frees_of g t s w))))) (Some p)) t →
+      u ≡ stored g (given g (acted (state_of g t) (do_w s w (p.place.arena * g.per + p.place.offset)) (suc (length (map released (frees_of g t s w))))) (Some p.place)) t →
       u ≡ tables_left g t (Write n x k)
   write_tables u d =
       Answers.done_tables g t (Write n x k) J.0 u
-      (d ∙ ap (λ k. left k w (Some p)) (sym J.1) ∙ ap (λ y. left (slot (state_of g t) n) y (Some p)) ew ∙
+      (d ∙ ap (λ k. left k w (Some p.place)) (sym J.1) ∙ ap (λ y. left (slot (state_of g t) n) y (Some p.place)) ew ∙
       ap (left (slot (state_of g t) n) x) (sym J.2))
 
   pub write_log : (log m : List ℕ) → m ≡ write_at log (8 * (state_of g t).used)
-      (bytes_of (allocated (p.arena * g.per + p.offset) ∷ map released (frees_of g t s w))) →
+      (bytes_of (allocated (p.place.arena * g.per + p.place.offset) ∷ map released (frees_of g t s w))) →
       m ≡ log_left g t log (Write n x k)
   write_log log m d =
       Answers.done_log g t (Write n x k) J.0 log m
-      (d ∙ ap (λ v. write_at log (8 * (state_of g t).used) (bytes_of (allocated (p.arena * g.per + p.offset) ∷ map released v))) frees_same ∙
+      (d ∙ ap (λ v. write_at log (8 * (state_of g t).used) (bytes_of (allocated (p.place.arena * g.per + p.place.offset) ∷ map released v))) frees_same ∙
       ap (λ f. write_at log (8 * (state_of g t).used) (bytes_of (allocated (block_of g.per f) ∷ map released (frees_of g t (slot (state_of g t) n) x))))
       (sym J.2))

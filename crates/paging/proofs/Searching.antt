@@ -7,7 +7,7 @@ use native.Mathlib.Nat.{mod-lt}
 use native.Mathlib.Omega.{arith}
 use lib.ListN.{length, get_or, take, drop, length-drop}
 use lib.Seq.{get_or-take, get_or-drop, length-take-le}
-use Rattle.std.specs.Prelude.{Option}
+use Rattle.std.specs.Prelude.{Option, Some, None}
 use Rattle.geometry.specs.declared.Geometry.{Geometry}
 use Rattle.geometry.specs.Limits.{blocks}
 use Rattle.choice.specs.declared.Place.{Place}
@@ -21,6 +21,8 @@ use Rattle.model.specs.Layout.{free_word, view_of, state_of}
 use Rattle.tables.specs.Ready.{Ready}
 use Rattle.tables.proofs.Fields
 use Rattle.paging.specs.Kind.{kind_number}
+use Rattle.paging.specs.Place.{spot_of}
+use Rattle.paging.specs.declared.place.Spot.{Spot}
 use Rattle.paging.specs.declared.kind.Kind.{Kind}
 use Rattle.paging.specs.declared.kind.Kind.TheVariants.{Data, Pivot, Leaf}
 
@@ -108,3 +110,24 @@ module _ {g : Geometry} {t : List ℕ} (R : Ready g t) where
         free_at mark_at (λ a l. omega (arith, mark_at a l, R.range.marks a)) (c + k) R.roomy.inside.arenas_least ∙
         ap (λ f. chosen (available (state_of g t)) (state_of g t).mark g.arenas g.per f)
         (omega (arith, Fields.counter_is g t))
+
+    -- n is the birth
+    pub search_at : (n : ℕ) {p : Place} → r ≡ Some p → ◌≡◌ {A = Option Spot} (Some (record { place = p; birth = n })) (spot_of n (found g (state_of g t) v))
+    unfolding spot_of
+    search_at n f = ap (spot_of n) (sym f ∙ found_is)
+
+    pub search_none : (n : ℕ) → r ≡ None → ◌≡◌ {A = Option Spot} None (spot_of n (found g (state_of g t) v))
+    unfolding spot_of
+    search_none n f = ap (spot_of n) (sym f ∙ found_is)
+
+-- ── what was found, told by the answer ──
+
+pub found_at : (n : ℕ) (f : Option Place) (s : Spot) → spot_of n f ≡ Some s → (f ≡ Some s.place) × (s.birth ≡ n)
+unfolding spot_of
+found_at n (Some p) s e = (cc, cc)
+found_at n None s e = absurd (let z : ◌≡◌ {A = ℕ} 0 1 = cc in omega arith)
+
+pub found_nothing : (n : ℕ) (f : Option Place) → spot_of n f ≡ None → f ≡ None
+unfolding spot_of
+found_nothing n (Some p) e = absurd (let z : ◌≡◌ {A = ℕ} 0 1 = cc in omega arith)
+found_nothing n None e = refl

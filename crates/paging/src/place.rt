@@ -8,7 +8,7 @@ ghost use Rattle.tables.specs.Ready.{Ready};
 ghost use Rattle.paging.specs.Target.{Target, frees_of};
 ghost use Rattle.paging.specs.Kill.{killed_of};
 ghost use Rattle.paging.specs.Kind.{kind_number};
-ghost use Rattle.paging.specs.Place.{Storable, FreeAt, placed, filled};
+ghost use Rattle.paging.specs.Place.{Storable, FreeAt, spot_of, placed, filled};
 
 use crate::kill::{Freed, kill_on};
 use crate::kind::Kind;
@@ -18,19 +18,30 @@ use tables::births::give_block;
 use tables::cells::{COUNTER, FREE, MARKS, NUMBER, PAGES, ROW, WRITES};
 use tables::find::wide;
 
-// The block that a write of the kind is given.
-pub fn search(t: &[u32], g: Geometry, kind: Kind) -> Option<Place>
+// Where the block stands that a write is given, with its birth: the number of the record that is written.
+#[derive(Clone, Copy, Debug, PartialEq, Eq)]
+pub struct Spot {
+    pub place: Place,
+    pub birth: u32,
+}
+
+// The block that a write of the kind is given, and its birth: it is born in the open record of that number.
+pub fn search(t: &[u32], g: Geometry, number: u32, kind: Kind) -> Option<Spot>
     requires { Ready g t.now }
-    ensures { result ≡ found g (state_of g t.now) (kind_number kind) }
+    ensures { result ≡ spot_of number (found g (state_of g t.now) (kind_number kind)) }
 {
-    choose(
+    let place = choose(
         &t[FREE..FREE + 64],
         &t[MARKS..MARKS + 16],
         g.arenas,
         g.per,
         wide(t[COUNTER]),
         kind.number(),
-    )
+    )?;
+    Some(Spot {
+        place,
+        birth: number,
+    })
 }
 
 // Block b, born in the record in slot s, goes on its empty page x.

@@ -15,7 +15,7 @@ ghost use Rattle.paging.specs.Place.{FreeAt};
 ghost use Rattle.paging.specs.WriteVerdict.{Judged};
 
 use crate::kind::Kind;
-use crate::place::{fill_page, search};
+use crate::place::{Spot, fill_page, search};
 use crate::words::log_words;
 use answer::{Answer, Refusal};
 use choice::Place;
@@ -24,7 +24,7 @@ use tables::cells::{OPEN, USED};
 use tables::find::wide;
 use tables::links::frees_on;
 
-// The slot of the record that a write works on and the place of its block, or why it is refused.
+// The slot of the record that a write works on, the place of its block and the block's birth, or why it is refused.
 fn write_verdict(
     t: &[u32],
     g: Geometry,
@@ -32,7 +32,7 @@ fn write_verdict(
     link: usize,
     page: u32,
     kind: u32,
-) -> Result<(usize, Place), Refusal>
+) -> Result<(usize, Spot), Refusal>
     requires { Ready g t.now × LinkOf g t.now n link }
     ensures { Judged g t.now n page kind result }
 {
@@ -47,18 +47,18 @@ fn write_verdict(
     if t[OPEN + s] == 0 {
         return Err(Refusal::WrongState);
     }
-    let Some(place) = search(t, g, kind) else {
+    let Some(spot) = search(t, g, n, kind) else {
         return Err(Refusal::NoFreeBlock);
     };
     // Two words are enough: at most one block is freed.
     let unused = g.words - wide(t[USED]);
     if 1 < unused {
-        return Ok((s, place));
+        return Ok((s, spot));
     }
     if unused < 1 + frees_on(t, copied(g), s, wide(page)) {
         return Err(Refusal::LogFull);
     }
-    Ok((s, place))
+    Ok((s, spot))
 }
 
 // The block at that place, with its birth, goes on page x of the open record in slot s: into the log and the result, and after it the block freed.
@@ -114,6 +114,6 @@ pub fn write(
     ensures log { log.new ≡ log_left g t.old log.old (Write n page kind) }
     ensures out { out.new ≡ out_left g t.old out.old (Write n page kind) }
 {
-    let (s, place) = write_verdict(t, g, n, link, page, kind)?;
-    Ok(write_page(g, t, log, out, s, wide(page), place, n))
+    let (s, spot) = write_verdict(t, g, n, link, page, kind)?;
+    Ok(write_page(g, t, log, out, s, wide(page), spot.place, spot.birth))
 }

@@ -108,6 +108,12 @@ apart_those : {A : Type 0} (rs : List (ℕ × FormOf A)) (b : ℕ) (bs : List �
 apart_those [] b bs h = h
 apart_those (r ∷ rs) b bs h = (apart_those rs b (r.0 ∷ bs) h).0
 
+-- a byte that no row has is not listed
+pub not_listed : {A : Type 0} (rs : List (ℕ × FormOf A)) (b : ℕ) (bs : List ℕ) → Apart (all_letters rs bs) b → false ≡ listed rs b
+unfolding listed
+not_listed [] b bs h = refl
+not_listed (r ∷ rs) b bs h = rw (ne_eqb b r.0 (apart_those rs b (r.0 ∷ bs) h).1) (not_listed rs b (r.0 ∷ bs) h)
+
 none_not : {A : Type 0} {c : A} → none ≡ some c → ⊥
 none_not p = let z : ◌≡◌ {A = ℕ} 0 1 = cc in omega arith
 

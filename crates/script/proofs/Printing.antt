@@ -14,7 +14,6 @@ use Rattle.alloc_log.specs.Word.{write_at}
 use Rattle.alloc_log.proofs.Writing.{length_write, write_none, write_write}
 use Rattle.answer.proofs.Cases.{cases, lt?}
 use Rattle.std.specs.Prelude.{Result, Ok}
-use Rattle.answer.specs.declared.Refusal.{Refusal}
 use Rattle.model.specs.declared.Call.{Call}
 use Rattle.model.specs.declared.Call.TheVariants.{Begin, Write, Erase, Seal, Fork, Delete, Read, Barrier, Compress, FreeList, Estimate, Retain, Reclaim}
 use Rattle.model.specs.declared.Spelling.{Spelling}
@@ -206,11 +205,11 @@ put_line d d' b at end s h e w =
     let l = length-append s (10 ∷ []) in
     (omega arith, set_behind d d' at end 10 (b ∷ s) (w ∙ set_ahead d at b s (omega arith)) (omega arith) h)
 
-pub room_done : {text out : List ℕ} {at n : ℕ} {answer : Result ℕ Refusal} → Room text at answer out → answer ≡ Ok n
+pub room_done : {text out : List ℕ} {at n : ℕ} {answer : Result ℕ ℕ} → Room text at answer out → answer ≡ Ok n
     → (at + 12 * n + 16 ≤ length text) × (n ≤ length out)
 room_done room e = (rw e at room.fits, rw e at room.gives)
 
-pub room_any : {text out : List ℕ} {at : ℕ} {answer : Result ℕ Refusal} → Room text at answer out → at + 16 ≤ length text
+pub room_any : {text out : List ℕ} {at : ℕ} {answer : Result ℕ ℕ} → Room text at answer out → at + 16 ≤ length text
 room_any room = let h = room.fits in omega arith
 
 -- a line that asks no call is answered in numbers

@@ -1,9 +1,10 @@
 -- "Output per line: `+` and the result's numbers, or `-` and the refusal, single spaces." (10.6) A block and its birth are "printed with a colon, as 0:1"
 -- (3.13).
-use Rattle.std.specs.Prelude.{ℕ, ◌+◌, ◌-◌, ◌*◌, ◌≤◌, ◌≡◌, Bool, true, false, cond, not, ◌&&◌, List, [], ◌∷◌, ◌++◌, length, eqb}
+use Rattle.std.specs.Prelude.{ℕ, ◌+◌, ◌-◌, ◌*◌, ◌≤◌, ◌≡◌, Bool, true, false, cond, not, ◌&&◌, List, [], ◌∷◌, ◌++◌, length, take, eqb}
 use Rattle.std.proofs.Math.Option.{Option, none, some}
 use Rattle.std.specs.Prelude.{Result, Ok, Err}
 use Rattle.answer.specs.declared.Refusal.{Refusal}
+use Rattle.answer.specs.Number.{number_of}
 use Rattle.answer.specs.Reply.{Reply, accepted, refused}
 use Rattle.model.specs.declared.Spelling.{Spelling}
 use Rattle.model.specs.declared.Spelling.TheVariants.{Numbers, Blocks}
@@ -43,13 +44,23 @@ spelling_of (Asks c) = spelling (command c)
 spelling_of (Named n e) = Numbers
 spelling_of No = Numbers
 
+-- an answer with its refusal by the number
+unfoldable pub by_number : Result ℕ Refusal → Result ℕ ℕ
+by_number (Ok n) = Ok n
+by_number (Err r) = Err (number_of r)
+
+-- the reply that such an answer stands for, whatever number it has, with the result buffer as the call left it
+unfoldable pub numbered_reply : Result ℕ ℕ → List ℕ → Reply
+numbered_reply (Ok n) out = accepted (take n out)
+numbered_reply (Err k) out = refused k
+
 -- how many numbers an answer gives
-abbrev pub given : Result ℕ Refusal → ℕ
+abbrev pub given : Result ℕ ℕ → ℕ
 given (Ok n) = n
-given (Err r) = 0
+given (Err k) = 0
 
 -- room for a reply behind the first `at` bytes of a text, and its numbers in the result buffer
-pub record Room (text : List ℕ) (at : ℕ) (answer : Result ℕ Refusal) (out : List ℕ) : Type 0 where
+pub record Room (text : List ℕ) (at : ℕ) (answer : Result ℕ ℕ) (out : List ℕ) : Type 0 where
   pub fits : at + 12 * given answer + 16 ≤ length text
   pub gives : given answer ≤ length out
 

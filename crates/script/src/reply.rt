@@ -1,10 +1,9 @@
 // Replies as text: `+` and the result's numbers, a colon between a block and its birth, or `-` and the refusal.
 ghost use Rattle.std.specs.Prelude.{◌≡◌, ◌+◌, ◌*◌, ◌<◌, ◌≤◌, length, take};
 ghost use Rattle.alloc_log.specs.Word.{write_at};
-ghost use Rattle.answer.specs.Reply.{reply_of};
 ghost use Rattle.model.specs.Results.{born_in, items_of};
 ghost use Rattle.script.specs.Decimal.{decimal, led, spaced};
-ghost use Rattle.script.specs.ReplyText.{items_text, is_blocks, spelling_of, reply_text, Room};
+ghost use Rattle.script.specs.ReplyText.{items_text, is_blocks, spelling_of, by_number, numbered_reply, reply_text, Room};
 
 use crate::parse::Parsed;
 use answer::Answer;
@@ -126,17 +125,27 @@ fn put_items(text: &mut [u8], at: usize, spelling: Spelling, out: &[u32], n: usi
     put_numbers(text, at, out, n)
 }
 
-// Writes the reply to a call and a line feed after the first `at` bytes; returns how many bytes there are then.
+// An answer with its refusal by the number, as replies have it.
+pub fn by_number(answer: Answer) -> Result<usize, u8>
+    ensures { result ≡ by_number answer }
+{
+    match answer {
+        Ok(n) => Ok(n),
+        Err(refusal) => Err(refusal.number()),
+    }
+}
+
+// Writes the reply to a call and a line feed after the first `at` bytes; returns how many bytes there are then. A refusal may have any number.
 pub fn put_reply(
     text: &mut [u8],
     at: usize,
     spelling: Spelling,
-    answer: Answer,
+    answer: Result<usize, u8>,
     out: &[u32],
 ) -> usize
     requires { Room text.old at answer out.now }
-    ensures { (result ≡ at + length (reply_text spelling (reply_of answer out.now)))
-        × (text.new ≡ write_at text.old at (reply_text spelling (reply_of answer out.now))) }
+    ensures { (result ≡ at + length (reply_text spelling (numbered_reply answer out.now)))
+        × (text.new ≡ write_at text.old at (reply_text spelling (numbered_reply answer out.now))) }
 {
     match answer {
         Ok(n) => {
@@ -145,9 +154,9 @@ pub fn put_reply(
             text[end] = b'\n';
             end + 1
         }
-        Err(refusal) => {
+        Err(number) => {
             text[at] = b'-';
-            let end = put_number(text, at + 1, b' ', u32::from(refusal.number()));
+            let end = put_number(text, at + 1, b' ', u32::from(number));
             text[end] = b'\n';
             end + 1
         }

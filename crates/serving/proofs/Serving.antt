@@ -16,7 +16,7 @@ use Rattle.alloc_log.specs.Word.{write_at}
 use Rattle.alloc_log.proofs.Writing.{write_none, write_write}
 use Rattle.model.specs.Memory.{Memory, lent}
 use Rattle.model.specs.declared.Spelling.{Spelling}
-use Rattle.script.specs.ReplyText.{spelling_of, reply_text, Room}
+use Rattle.script.specs.ReplyText.{spelling_of, by_number, numbered_reply, reply_text, Room}
 use Rattle.script.specs.Said.{said_at, NameIn}
 use Rattle.script.specs.Spoken.{Spoken, spoken_at}
 use Rattle.script.specs.declared.parse.Parsed.{Parsed}
@@ -97,9 +97,16 @@ name_inside text at end Parsed.No w = tt
 
 -- an answer of at most 4,097 numbers fits where a longest reply does
 pub room : (r : Result ℕ Refusal) → Few r → (buffer out : List ℕ) (used : ℕ) → used + longest ≤ length buffer →
-    most_out ≤ length out → Room buffer used r out
+    most_out ≤ length out → Room buffer used (by_number r) out
+unfolding by_number
 room (Ok n) f buffer out used e h = record { fits = omega arith; gives = omega arith }
 room (Err n) f buffer out used e h = record { fits = omega arith; gives = omega arith }
+
+-- by the number of its refusal, an answer stands for the same reply
+pub same_reply : (r : Result ℕ Refusal) (out : List ℕ) → numbered_reply (by_number r) out ≡ reply_of r out
+unfolding by_number numbered_reply reply_of
+same_reply (Ok n) out = refl
+same_reply (Err r) out = refl
 
 module _ (d s : List ℕ) (used : ℕ) (inside : used ≤ length d) where
   -- what was written lies inside a buffer that stayed as long

@@ -8,7 +8,7 @@ ghost use Rattle.model.specs.Memory.{lent};
 ghost use Rattle.session.specs.Step.{Kept};
 ghost use Rattle.serving.specs.Part.{begun, served, Serves};
 
-use script::reply::{put_reply, spelling_of};
+use script::reply::{by_number, put_reply, spelling_of};
 use script::said::said_at;
 use session::{Session, step};
 
@@ -65,7 +65,7 @@ pub fn serve_part(
         s = stepped.session;
         let answer = stepped.answer;
         let spelling = spelling_of(says);
-        used = put_reply(replies, used, spelling, answer, out);
+        used = put_reply(replies, used, spelling, by_number(answer), out);
         i = end + 1;
     }
     Served {

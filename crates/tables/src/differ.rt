@@ -1,5 +1,5 @@
 // Where two rows of numbers differ, as the bits of a word: bit k is 1 where place k differs.
-ghost use Rattle.std.specs.Prelude.{◌≡◌, ◌+◌, ◌≤◌, ◌<◌, length};
+ghost use Rattle.std.specs.Prelude.{◌≡◌, ◌+◌, ◌≤◌, ◌<◌, min, length};
 ghost use Rattle.choice.specs.Words.{word_of};
 ghost use Rattle.model.specs.Layout.{view_of};
 ghost use Rattle.tables.specs.Ready.{Roomy};
@@ -45,7 +45,8 @@ pub fn differing_whole(g: Geometry, t: &[u32], s: usize, link: usize, x: usize) 
 
 // How many pages the next word of a row is for, of those that are left.
 pub fn stretch(left: usize) -> usize
-    ensures { (result ≤ left) × (result ≤ 32) × (0 < left → 0 < result) }
+    ensures is { result ≡ min left 32 }
+    ensures range { (result ≤ left) × (result ≤ 32) × (0 < left → 0 < result) }
 {
     left.min(32)
 }

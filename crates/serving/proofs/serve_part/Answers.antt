@@ -1,6 +1,9 @@
 -- `serve_part`: what is left of the part is the whole of it, line by line.
-use mathlib.Core.Path.{refl}
-use Rattle.serving.proofs.Serving.{begins, at_end, when_full, name_inside, room, turned}
+use mathlib.Core.Path.{refl, ap, ◌∙◌}
+use Prim.Native.Nat.{ℕ}
+use Rattle.std.specs.Prelude.{Result}
+use Rattle.script.specs.ReplyText.{numbered_reply}
+use Rattle.serving.proofs.Serving.{begins, at_end, when_full, name_inside, room, same_reply, turned}
 use native.Mathlib.Omega.{arith}
 use Rattle.serving.proofs.serve_part.Goals as goal
 
@@ -48,7 +51,9 @@ spelling_of-spelling-requires c = tt
 pub put_reply-used-requires : goal.put_reply-used-requires
 put_reply-used-requires c =
     let e = c.step-stepped.ensures in
+    rw c.by_number.ensures (
     room _ e.few _ _ _ (omega (arith, c.loop-i.invariant.same, c.if-most-used.false, c.if-replies-lt-LONGEST.false)) e.kept.out
+    )
 
 pub overflow_add-i : goal.overflow_add-i
 overflow_add-i c =
@@ -67,9 +72,10 @@ loop-i-preserved c =
     let l = c.loop-i in
     let a = c.args in
     let e = s.ensures in
+    let same = ap (λ (r : Result ℕ ℕ). numbered_reply r s.new.out) c.by_number.ensures ∙ same_reply s.result.answer s.new.out in
     turned a.text.now _ a.t.now a.log.now a.out.now a.replies.now l.s l.t l.log l.out l.replies l.used l.i l.invariant
     d.result d.ensures.is s.result _ _ _ _ _ e.reply e.session e.tables e.log e.out _ k.ensures
-    p.ensures.0 p.ensures.1 c.loop-i-test.true (omega (arith, c.if-most-used.false, c.if-replies-lt-LONGEST.false)) s.auto.t s.auto.log
+    (rw same at p.ensures.0) (rw same at p.ensures.1) c.loop-i-test.true (omega (arith, c.if-most-used.false, c.if-replies-lt-LONGEST.false)) s.auto.t s.auto.log
     s.auto.out p.auto.text e.kept
 
 pub shape_of-t : goal.shape_of-t

@@ -20,7 +20,7 @@ loop-x-preserved c =
     let pages = c.args.g.pages in
     let w = c.count_word-count.ensures in
     let here : min l.x pages ≡ l.x = omega (arith, c.loop-x-test.true) in
-    let next : min (l.x + 32) pages ≡ l.x + c.min.result = omega (arith, c.min.ensures, c.loop-x-test.true) in
+    let next : min (l.x + 32) pages ≡ l.x + c.stretch.result = omega (arith, c.stretch.ensures.is, c.loop-x-test.true) in
     rw next (
       omega (arith, w.range, l.invariant.0),
       Owning.joined_count (view_of c.args.g c.args.t.now) c.args.s l.x _ l.count _ (rw here at l.invariant.1) (ap (λ m. l.count + m) w.is),
@@ -35,8 +35,8 @@ returns c =
 pub returns-2 : goal.returns-2
 returns-2 c =
     let l = c.loop-x in
-    let n = c.min.ensures in
+    let n = c.stretch.ensures.is in
     let w = c.count_word-count.ensures in
     let here : min l.x c.args.g.pages ≡ l.x = omega (arith, c.loop-x-test.true) in
     Owning.joined_count (view_of c.args.g c.args.t.now) c.args.s l.x _ l.count _ (rw here at l.invariant.1) (ap (λ m. l.count + m) w.is) ∙
-    ap length (Owning.owned_all c.requires.0 c.args.s c.requires.2 (l.x + c.min.result) (omega (arith, c.loop-x-test.true)) (omega arith))
+    ap length (Owning.owned_all c.requires.0 c.args.s c.requires.2 (l.x + c.stretch.result) (omega (arith, c.loop-x-test.true)) (omega arith))

@@ -23,11 +23,11 @@ list_word-count-requires c =
     let a = c.args in
     let l = c.loop-x in
     let p = c.pred_link-pred.ensures in
-    let n = c.min.ensures in
+    let n = c.stretch.ensures.is in
     let test = c.loop-x-test.true in
     let here : min l.x a.g.pages ≡ l.x = omega arith in
     let all = Owning.owned_all c.requires.0 a.s c.requires.3 a.g.pages (omega arith) (omega arith) in
-    let room = Owning.joined_room (view_of a.g a.t.now) a.s l.x c.min.result l.count a.g.pages (rw here at l.invariant.2) (omega arith) (omega arith) in (
+    let room = Owning.joined_room (view_of a.g a.t.now) a.s l.x c.stretch.result l.count a.g.pages (rw here at l.invariant.2) (omega arith) (omega arith) in (
       c.requires.0,
       omega (arith, room, ap length all, c.requires.1, l.invariant.1),
       c.requires.2,
@@ -45,7 +45,7 @@ loop-x-preserved c =
     let K = view_of a.g a.t.now in
     let w = c.list_word-count.ensures in
     let here : min l.x a.g.pages ≡ l.x = omega (arith, c.loop-x-test.true) in
-    let next : min (l.x + 32) a.g.pages ≡ l.x + c.min.result = omega (arith, c.min.ensures, c.loop-x-test.true) in
+    let next : min (l.x + 32) a.g.pages ≡ l.x + c.stretch.result = omega (arith, c.stretch.ensures.is, c.loop-x-test.true) in
     let before = rw here at l.invariant.2 in
     rw next (
       omega (arith, w.range),
@@ -69,11 +69,11 @@ returns-2 c =
     let a = c.args in
     let l = c.loop-x in
     let K = view_of a.g a.t.now in
-    let n = c.min.ensures in
+    let n = c.stretch.ensures.is in
     let w = c.list_word-count.ensures in
     let here : min l.x a.g.pages ≡ l.x = omega (arith, c.loop-x-test.true) in
     let before = rw here at l.invariant.2 in
-    let all = Owning.owned_all c.requires.0 a.s c.requires.3 (l.x + c.min.result) (omega (arith, c.loop-x-test.true)) (omega arith) in
+    let all = Owning.owned_all c.requires.0 a.s c.requires.3 (l.x + c.stretch.result) (omega (arith, c.loop-x-test.true)) (omega arith) in
     record {
       count = Owning.joined_count K a.s l.x _ l.count _ before w.count ∙ ap length all;
       out = Owning.joined_out K a.s l.x _ a.out.now _ _ l.count before (rw here at l.invariant.3) w.out ∙ ap (sets a.out.now 0) all;

@@ -2,9 +2,7 @@
 use native.Mathlib.Omega.{arith}
 use mathlib.Core.Path.{◌≡◌, ◌∙◌}
 use lib.ListN.{length-set}
-use Rattle.answer.specs.Number.{number_of}
-use Rattle.answer.specs.Reply.{reply_of}
-use Rattle.script.specs.ReplyText.{reply_text}
+use Rattle.script.specs.ReplyText.{numbered_reply, reply_text}
 use Rattle.script.proofs.Printing.{put_line, room_done, room_any}
 use Rattle.script.proofs.reply.put_reply.Goals as goal
 
@@ -52,7 +50,7 @@ shape_of-text-in-Ok c =
     length-set p.new.text p.result 10 ∙ p.auto.text ∙ length-set c.args.text.now c.args.at 43
 
 pub returns-in-Ok : goal.returns-in-Ok
-unfolding reply_text reply_of
+unfolding reply_text numbered_reply
 returns-in-Ok c =
     let a = c.args in
     let p = c.put_items-end in
@@ -65,10 +63,10 @@ shape_of-text-in-Err c =
     length-set p.new.text p.result 10 ∙ p.auto.text ∙ length-set c.args.text.now c.args.at 45
 
 pub returns-in-Err : goal.returns-in-Err
-unfolding reply_text reply_of
+unfolding reply_text numbered_reply
 returns-in-Err c =
     let a = c.args in
     let p = c.put_number-end in
     let r = room_any c.requires in
-    let e : c.from.result ≡ number_of c.in-Err.refusal = grind arith in
+    let e : c.from.result ≡ c.in-Err.number = grind arith in
     rw c.in-Err.is (rw e at (put_line a.text.now p.new.text 45 a.at p.result _ (omega (arith, p.ensures.1)) p.ensures.0 p.ensures.2))

@@ -1,18 +1,23 @@
--- The lowest bit of both words is the first empty slot.
+-- The lowest bit of the first word that is not 0 is the first empty slot.
 use native.Mathlib.Omega.{arith}
-use mathlib.Core.Path.{◌∙◌}
+use mathlib.Core.Path.{◌≡◌, refl}
 use Rattle.tables.specs.Columns.{empty_in}
 use Rattle.tables.proofs.Empties
 use Rattle.tables.proofs.find.first_empty.Goals as goal
 
-pub returns-then-word-eq0-clause-is : goal.returns-then-word-eq0-clause-is
-returns-then-word-eq0-clause-is c =
+pub returns-then-low-ne0 : goal.returns-then-low-ne0
+returns-then-low-ne0 c =
     let p = empty_in c.args.t.now in
-    Empties.word_none p 64 _ (Empties.two_words p _ _ (c.from.ensures ∙ c.empty_word.ensures) (c.from-2.ensures ∙ c.empty_word-2.ensures)) c.if-word-eq0.true
-
-pub returns : goal.returns
-returns c =
-    let p = empty_in c.args.t.now in
-    let whole = Empties.two_words p _ _ (c.from.ensures ∙ c.empty_word.ensures) (c.from-2.ensures ∙ c.empty_word-2.ensures) in
-    let both = Empties.word_first p 64 _ whole c.if-word-eq0.false in
+    let both = Empties.first_low p _ _ c.empty_word-low.ensures refl c.if-low-ne0.true in
     record { is = both.0; range = omega (arith, both.1) }
+
+pub returns-then-high-ne0-clause-is : goal.returns-then-high-ne0-clause-is
+returns-then-high-ne0-clause-is c =
+    let z : c.empty_word-low.result ≡ 0 = omega (arith, c.if-low-ne0.false) in
+    (Empties.first_high (empty_in c.args.t.now) _ _ c.empty_word-low.ensures c.empty_word-high.ensures z c.if-high-ne0.true).0
+
+pub returns-clause-is : goal.returns-clause-is
+returns-clause-is c =
+    let z : c.empty_word-low.result ≡ 0 = omega (arith, c.if-low-ne0.false) in
+    let y : c.empty_word-high.result ≡ 0 = omega (arith, c.if-high-ne0.false) in
+    Empties.first_none (empty_in c.args.t.now) _ _ c.empty_word-low.ensures c.empty_word-high.ensures z y
