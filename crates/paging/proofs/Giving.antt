@@ -281,7 +281,8 @@ module _ {g : Geometry} {t : List ℕ} (R : Ready g t) (n x k s : ℕ) (p : Spot
       stored g (given g (acted (state_of g t) (do_w s x (block_of g.per f)) (suc (length (map released (frees_of g t s x))))) f) t
 
   pub write_tables : (u : List ℕ) →
-      u ≡ stored g (given g (acted (state_of g t) (do_w s w (p.place.arena * g.per + p.place.offset)) (suc (length (map released (frees_of g t s w))))) (Some p.place)) t →
+      u ≡ stored g (given g (acted (state_of g t) (do_w s w (p.place.arena * g.per + p.place.offset))
+      (suc (length (map released (frees_of g t s w))))) (Some p.place)) t →
       u ≡ tables_left g t (Write n x k)
   write_tables u d =
       Answers.done_tables g t (Write n x k) J.0 u

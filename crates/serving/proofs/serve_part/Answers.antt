@@ -10,7 +10,8 @@ use Rattle.serving.proofs.serve_part.Goals as goal
 pub returns-then-replies-lt-LONGEST : goal.returns-then-replies-lt-LONGEST
 returns-then-replies-lt-LONGEST c =
     let a = c.args in
-    when_full a.text.now _ a.t.now a.log.now a.out.now a.replies.now a.session a.t.now a.log.now a.out.now a.replies.now 0 a.at (begins a.text.now _ a.t.now a.log.now a.out.now a.replies.now a.at a.session c.requires refl) c.if-replies-lt-LONGEST.true
+    when_full a.text.now _ a.t.now a.log.now a.out.now a.replies.now a.session a.t.now a.log.now a.out.now a.replies.now 0 a.at
+    (begins a.text.now _ a.t.now a.log.now a.out.now a.replies.now a.at a.session c.requires refl) c.if-replies-lt-LONGEST.true
 
 pub loop-i-init : goal.loop-i-init
 loop-i-init c =
@@ -75,7 +76,8 @@ loop-i-preserved c =
     let same = ap (λ (r : Result ℕ ℕ). numbered_reply r s.new.out) c.by_number.ensures ∙ same_reply s.result.answer s.new.out in
     turned a.text.now _ a.t.now a.log.now a.out.now a.replies.now l.s l.t l.log l.out l.replies l.used l.i l.invariant
     d.result d.ensures.is s.result _ _ _ _ _ e.reply e.session e.tables e.log e.out _ k.ensures
-    (rw same at p.ensures.0) (rw same at p.ensures.1) c.loop-i-test.true (omega (arith, c.if-most-used.false, c.if-replies-lt-LONGEST.false)) s.auto.t s.auto.log
+    (rw same at p.ensures.0) (rw same at p.ensures.1) c.loop-i-test.true
+    (omega (arith, c.if-most-used.false, c.if-replies-lt-LONGEST.false)) s.auto.t s.auto.log
     s.auto.out p.auto.text e.kept
 
 pub shape_of-t : goal.shape_of-t
