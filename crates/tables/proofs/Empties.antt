@@ -18,7 +18,8 @@ use Rattle.tables.proofs.Seeks.{find_seeks}
 module _ (p : ℕ → Bool) where
   -- ── two words, one after the other ──
 
-  join_bit : (n m a : ℕ) → p (n + m) ≡ true → a ≡ word_of p n m * 2 ^ n + word_of p 0 n → a + 2 ^ (n + m) ≡ word_of p n (suc m) * 2 ^ n + word_of p 0 n
+  join_bit : (n m a : ℕ) → p (n + m) ≡ true → a ≡ word_of p n m * 2 ^ n + word_of p 0 n →
+      a + 2 ^ (n + m) ≡ word_of p n (suc m) * 2 ^ n + word_of p 0 n
   join_bit n m a y e =
       rw (e, word_yes p n m y, pow-add 2 n m, add-mul (word_of p n m) (2 ^ m) (2 ^ n), mul_comm (2 ^ n) (2 ^ m)) (omega arith)
 
@@ -30,10 +31,13 @@ module _ (p : ℕ → Bool) where
   word_split n (suc m) =
       let e : n + suc m ≡ suc (n + m) = omega arith in
       let z : 0 + (n + m) ≡ n + m = omega arith in
+      let more = word_split n m in
+      let longer = ap (word_of p 0) e in
       cases (either (p (n + m)))
-      (λ y. ap (word_of p 0) e ∙ word_yes p 0 (n + m) (ap p z ∙ y) ∙ join_bit n m (word_of p 0 (n + m)) y (word_split n m))
-      (λ f. ap (word_of p 0) e ∙ word_no p 0 (n + m) (ap p z ∙ f) ∙ word_split n m ∙ ap (λ (x : ℕ). x * 2 ^ n + word_of p 0 n) (sym (word_no p n m f)))
+      (λ y. longer ∙ word_yes p 0 (n + m) (ap p z ∙ y) ∙ join_bit n m (word_of p 0 (n + m)) y more)
+      (λ f. longer ∙ word_no p 0 (n + m) (ap p z ∙ f) ∙ more ∙ ap (λ (x : ℕ). x * 2 ^ n + word_of p 0 n) (sym (word_no p n m f)))
 
+  -- joined bit by bit they are the word of all 64 places
   pub two_words : (low high : ℕ) → low ≡ word_of p 0 32 → high ≡ word_of p 32 32 → bit_or low (high * 2 ^ 32 % 2 ^ 64) ≡ word_of p 0 64
   two_words low high e d =
       rw (e, d, shl_exact 32 32 64 (word_lt p 32 32) (omega arith))
@@ -64,9 +68,11 @@ module _ (p : ℕ → Bool) where
         let a = tz_at n w (omega arith) (rw e (word_lt p 0 n)) in
         (a.0, bit_is (count_trailing_zeros n w) a.0 ∙ a.1, λ k l. bit_is k (omega (arith, a.0)) ∙ tz_below n w k l)
 
+    -- a word that is 0 has no first place
     pub word_none : w ≡ 0 → 0 ≡ seek p 0 n
     word_none z = found_none n (bit_none z)
 
+    -- of any other its lowest bit is the first place
     pub word_first : (w ≡ 0 → ⊥) → (count_trailing_zeros n w + 1 ≡ seek p 0 n) × (count_trailing_zeros n w + 1 ≤ n)
     word_first some = let a = lowest some in (found_first n (count_trailing_zeros n w) a.0 a.1 a.2, omega (arith, a.0))
 
